@@ -8,7 +8,7 @@ ghost use Rattle.office_core.specs.Days.{IsDayNumber};
 ghost use Rattle.office_core.specs.Names.{is_name, IsName};
 ghost use Rattle.office_core.specs.Policies.{or_stranger};
 ghost use Rattle.office_tables.specs.Faults.{IsFailure};
-ghost use Rattle.office_tables.specs.Calls.{CommitsNothing, Continues, Keeps, Tells};
+ghost use Rattle.office_tables.specs.Calls.{GoesOnInside, Keeps, Tells};
 ghost use Rattle.office_history.specs.Pictures.{effect_number};
 ghost use Rattle.office_history.specs.Refusals.{deciding_rule, denial};
 ghost use Rattle.office_history.specs.RowRanges.{IsActionText, IsPatternText, IsRuleRow};
@@ -141,10 +141,7 @@ impl Asker {
         day: Day,
         caller: &str,
     ) -> Result<Asker, TableFault>
-        ensures same_reference { tx.new.conn.ghost_name ≡ tx.old.conn.ghost_name }
-        ensures stays { CommitsNothing S.Store tx.old.conn.now tx.new.conn.now }
-        ensures goes_on { Continues S.Store tx.old.conn.now tx.new.conn.now result }
-        ensures failure { IfErr result IsFailure }
+        ensures inside { GoesOnInside S.Store tx.old.conn tx.new.conn result }
         ensures same { Keeps S.Store tx.old.conn.now tx.new.conn.now result }
         ensures asker { Finds S.Store tx.old.conn.now tx.new.conn.now result (λ h asker.
             IsAsker h day caller.now asker) }
@@ -175,10 +172,7 @@ impl Asker {
         collection: Option<&str>,
         class: Option<&str>,
     ) -> Result<Option<Decision>, TableFault>
-        ensures same_reference { tx.new.conn.ghost_name ≡ tx.old.conn.ghost_name }
-        ensures stays { CommitsNothing S.Store tx.old.conn.now tx.new.conn.now }
-        ensures goes_on { Continues S.Store tx.old.conn.now tx.new.conn.now result }
-        ensures failure { IfErr result IsFailure }
+        ensures inside { GoesOnInside S.Store tx.old.conn tx.new.conn result }
         ensures same { Keeps S.Store tx.old.conn.now tx.new.conn.now result }
         ensures decided { Finds S.Store tx.old.conn.now tx.new.conn.now result (λ h decision.
             (day : Date) (caller : List ℕ) → IsAsker h day caller self.now
@@ -215,10 +209,7 @@ impl Asker {
         collection: Option<&str>,
         class: Option<&str>,
     ) -> Result<Option<Refusal>, TableFault>
-        ensures same_reference { tx.new.conn.ghost_name ≡ tx.old.conn.ghost_name }
-        ensures stays { CommitsNothing S.Store tx.old.conn.now tx.new.conn.now }
-        ensures goes_on { Continues S.Store tx.old.conn.now tx.new.conn.now result }
-        ensures failure { IfErr result IsFailure }
+        ensures inside { GoesOnInside S.Store tx.old.conn tx.new.conn result }
         ensures same { Keeps S.Store tx.old.conn.now tx.new.conn.now result }
         ensures denied { Finds S.Store tx.old.conn.now tx.new.conn.now result (λ h why.
             (day : Date) (caller : List ℕ) → IsAsker h day caller self.now
@@ -249,10 +240,7 @@ pub fn denial<S: Alter>(
     collection: Option<&str>,
     class: Option<&str>,
 ) -> Result<Option<Refusal>, TableFault>
-    ensures same_reference { tx.new.conn.ghost_name ≡ tx.old.conn.ghost_name }
-    ensures stays { CommitsNothing S.Store tx.old.conn.now tx.new.conn.now }
-    ensures goes_on { Continues S.Store tx.old.conn.now tx.new.conn.now result }
-    ensures failure { IfErr result IsFailure }
+    ensures inside { GoesOnInside S.Store tx.old.conn tx.new.conn result }
     ensures same { Keeps S.Store tx.old.conn.now tx.new.conn.now result }
     ensures denied { Finds S.Store tx.old.conn.now tx.new.conn.now result (λ h why.
         why

@@ -4,7 +4,7 @@ ghost use Rattle.std.specs.Prelude.{◌≡◌, ℕ, IfErr, IfOk, List, Some, opt
 ghost use Rattle.jiff.specs.Types.{Date};
 ghost use Rattle.jiff.specs.Words.{epoch_day};
 ghost use Rattle.office_tables.specs.Faults.{IsFailure};
-ghost use Rattle.office_tables.specs.Calls.{CommitsNothing, Continues, Keeps, Tells};
+ghost use Rattle.office_tables.specs.Calls.{GoesOnInside, Keeps, Tells};
 ghost use Rattle.office_history.specs.Histories.{History, deposit_numbered};
 ghost use Rattle.office_history.specs.Pictures as pictures;
 ghost use Rattle.office_history.specs.Refusals as refusals;
@@ -92,10 +92,7 @@ pub fn kept_deposit<S: Alter>(
     action: Action,
     number: u32,
 ) -> Result<Result<DepositRow, Refusal>, TableFault>
-    ensures same_reference { tx.new.conn.ghost_name ≡ tx.old.conn.ghost_name }
-    ensures stays { CommitsNothing S.Store tx.old.conn.now tx.new.conn.now }
-    ensures goes_on { Continues S.Store tx.old.conn.now tx.new.conn.now result }
-    ensures failure { IfErr result IsFailure }
+    ensures inside { GoesOnInside S.Store tx.old.conn tx.new.conn result }
     ensures same { Keeps S.Store tx.old.conn.now tx.new.conn.now result }
     ensures asked { Finds S.Store tx.old.conn.now tx.new.conn.now result (λ h asked.
         IsAsked h number (kept_refusals h day caller.now action number) asked) }

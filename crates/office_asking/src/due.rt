@@ -1,11 +1,10 @@
 //! What stands against the destruction of a deposit: its due day, and the holds that cover it.
 
-ghost use Rattle.std.specs.Prelude.{◌≡◌, IfErr, IfSome, List, ℕ, Some, length, pos};
+ghost use Rattle.std.specs.Prelude.{◌≡◌, IfSome, List, ℕ, Some, length, pos};
 ghost use Rattle.jiff.specs.Types.{Date};
 ghost use Rattle.office_core.specs.declared.action.Action.TheVariants as acts;
-ghost use Rattle.office_tables.specs.Faults.{IsFailure};
 ghost use Rattle.office_rows.specs.Rows.{due_numbered};
-ghost use Rattle.office_tables.specs.Calls.{CommitsNothing, Continues, ContinuesInTurn, Keeps, Tells};
+ghost use Rattle.office_tables.specs.Calls.{GoesOnInTurn, GoesOnInside, Keeps, Tells};
 ghost use Rattle.office_history.specs.Histories.{Deposit, deposit_numbered, due, least_hold, live_holds};
 ghost use Rattle.office_history.specs.Pictures.{deposit_row, due_row};
 ghost use Rattle.office_history.specs.Refusals.{facts_of};
@@ -31,10 +30,7 @@ pub fn due_day<S: Alter>(
     class: &str,
     closed: Day,
 ) -> Result<Due, TableFault>
-    ensures same_reference { tx.new.conn.ghost_name ≡ tx.old.conn.ghost_name }
-    ensures stays { CommitsNothing S.Store tx.old.conn.now tx.new.conn.now }
-    ensures goes_on { Continues S.Store tx.old.conn.now tx.new.conn.now result }
-    ensures failure { IfErr result IsFailure }
+    ensures inside { GoesOnInside S.Store tx.old.conn tx.new.conn result }
     ensures due { Finds S.Store tx.old.conn.now tx.new.conn.now result (λ h found.
         (deposit : Deposit) → deposit.class ≡ class.now → deposit.closed ≡ closed
         → found ≡ due h deposit) }
@@ -58,10 +54,7 @@ pub fn least_hold<S: Alter>(
     collection: &str,
     class: &str,
 ) -> Result<Option<u32>, TableFault>
-    ensures same_reference { tx.new.conn.ghost_name ≡ tx.old.conn.ghost_name }
-    ensures stays { CommitsNothing S.Store tx.old.conn.now tx.new.conn.now }
-    ensures goes_on { Continues S.Store tx.old.conn.now tx.new.conn.now result }
-    ensures failure { IfErr result IsFailure }
+    ensures inside { GoesOnInside S.Store tx.old.conn tx.new.conn result }
     ensures least { Finds S.Store tx.old.conn.now tx.new.conn.now result (λ h found.
         (deposit : Deposit) → deposit.collection ≡ collection.now → deposit.class ≡ class.now
         → found ≡ least_hold h number deposit) }
@@ -80,10 +73,7 @@ pub fn least_hold<S: Alter>(
 ///
 /// Fails with `Memory` or `Store`.
 pub fn kept_of<S: Alter>(tx: &mut Transaction<'_, S>, number: u32) -> Result<DueRow, TableFault>
-    ensures same_reference { tx.new.conn.ghost_name ≡ tx.old.conn.ghost_name }
-    ensures stays { CommitsNothing S.Store tx.old.conn.now tx.new.conn.now }
-    ensures goes_on { Continues S.Store tx.old.conn.now tx.new.conn.now result }
-    ensures failure { IfErr result IsFailure }
+    ensures inside { GoesOnInside S.Store tx.old.conn tx.new.conn result }
     ensures kept { Finds S.Store tx.old.conn.now tx.new.conn.now result (λ h kept.
         (found : Date × Deposit) → deposit_numbered h number ≡ Some found
         → kept ≡ due_row h number found) }
@@ -98,10 +88,7 @@ pub fn kept_of<S: Alter>(tx: &mut Transaction<'_, S>, number: u32) -> Result<Due
 /// That a count of live holds is one that an office keeps of a deposit that is held: at least 1, and no more
 /// than it takes.
 fn check_count<S: Alter>(tx: &mut Transaction<'_, S>, count: i64) -> Result<(), TableFault>
-    ensures same_reference { tx.new.conn.ghost_name ≡ tx.old.conn.ghost_name }
-    ensures stays { CommitsNothing S.Store tx.old.conn.now tx.new.conn.now }
-    ensures goes_on { Continues S.Store tx.old.conn.now tx.new.conn.now result }
-    ensures failure { IfErr result IsFailure }
+    ensures inside { GoesOnInside S.Store tx.old.conn tx.new.conn result }
     ensures same { Keeps S.Store tx.old.conn.now tx.new.conn.now result }
     ensures rows { Tells S.Store tx.old.conn.now tx.new.conn.now result (λ tables _.
         IsCountIn tables count) }
@@ -120,10 +107,7 @@ fn counted_hold<S: Alter>(
     collection: &str,
     class: &str,
 ) -> Result<Option<u32>, TableFault>
-    ensures same_reference { tx.new.conn.ghost_name ≡ tx.old.conn.ghost_name }
-    ensures stays { CommitsNothing S.Store tx.old.conn.now tx.new.conn.now }
-    ensures goes_on { ContinuesInTurn S.Store tx.old.conn.now tx.new.conn.now result }
-    ensures failure { IfErr result IsFailure }
+    ensures inside { GoesOnInTurn S.Store tx.old.conn tx.new.conn result }
     ensures least { Finds S.Store tx.old.conn.now tx.new.conn.now result (λ h found.
         (deposit : Deposit) → deposit.collection ≡ collection.now → deposit.class ≡ class.now
         → count ≡ pos (length (live_holds h number deposit))
@@ -149,10 +133,7 @@ pub fn disposal_facts<S: Alter>(
     asker: &Asker,
     row: &DepositRow,
 ) -> Result<Facts, TableFault>
-    ensures same_reference { tx.new.conn.ghost_name ≡ tx.old.conn.ghost_name }
-    ensures stays { CommitsNothing S.Store tx.old.conn.now tx.new.conn.now }
-    ensures goes_on { Continues S.Store tx.old.conn.now tx.new.conn.now result }
-    ensures failure { IfErr result IsFailure }
+    ensures inside { GoesOnInside S.Store tx.old.conn tx.new.conn result }
     ensures facts { Finds S.Store tx.old.conn.now tx.new.conn.now result (λ h facts.
         (day : Date) (caller : List ℕ) → IsAsker h day caller asker.now
         → (n : ℕ) (found : Date × Deposit) → deposit_numbered h n ≡ Some found

@@ -3,7 +3,7 @@
 ghost use Rattle.std.specs.Prelude.{◌≡◌, IfErr, IfOk, Some, length, map, pos};
 ghost use Rattle.office_tables.specs.Faults.{IsFailure};
 ghost use Rattle.office_rows.specs.Rows as rows;
-ghost use Rattle.office_tables.specs.Calls.{CommitsNothing, Continues, Keeps, Tells};
+ghost use Rattle.office_tables.specs.Calls.{GoesOnInside, Keeps, Tells};
 ghost use Rattle.office_tables.specs.ShownHolds.{held_class, held_collection, held_deposit};
 ghost use Rattle.office_history.specs.Histories.{Deposit, live_holds};
 ghost use Rattle.office_history.specs.Answers.{told_hold};
@@ -78,10 +78,7 @@ pub fn told_hold<S: Alter>(
     tx: &mut Transaction<'_, S>,
     number: u32,
 ) -> Result<LiveHold, TableFault>
-    ensures same_reference { tx.new.conn.ghost_name ≡ tx.old.conn.ghost_name }
-    ensures stays { CommitsNothing S.Store tx.old.conn.now tx.new.conn.now }
-    ensures goes_on { Continues S.Store tx.old.conn.now tx.new.conn.now result }
-    ensures failure { IfErr result IsFailure }
+    ensures inside { GoesOnInside S.Store tx.old.conn tx.new.conn result }
     ensures told { Finds S.Store tx.old.conn.now tx.new.conn.now result (λ h told.
         Some told ≡ told_hold h number) }
     ensures same { Keeps S.Store tx.old.conn.now tx.new.conn.now result }
@@ -105,10 +102,7 @@ pub fn holds_over<S: Alter>(
     collection: &str,
     class: &str,
 ) -> Result<Vec<u32>, TableFault>
-    ensures same_reference { tx.new.conn.ghost_name ≡ tx.old.conn.ghost_name }
-    ensures stays { CommitsNothing S.Store tx.old.conn.now tx.new.conn.now }
-    ensures goes_on { Continues S.Store tx.old.conn.now tx.new.conn.now result }
-    ensures failure { IfErr result IsFailure }
+    ensures inside { GoesOnInside S.Store tx.old.conn tx.new.conn result }
     ensures live { Finds S.Store tx.old.conn.now tx.new.conn.now result (λ h numbers.
         (deposit : Deposit) → deposit.collection ≡ collection.now → deposit.class ≡ class.now
         → numbers.items ≡ live_holds h number deposit) }
@@ -142,10 +136,7 @@ pub fn live_count<S: Alter>(
     collection: &str,
     class: &str,
 ) -> Result<i64, TableFault>
-    ensures same_reference { tx.new.conn.ghost_name ≡ tx.old.conn.ghost_name }
-    ensures stays { CommitsNothing S.Store tx.old.conn.now tx.new.conn.now }
-    ensures goes_on { Continues S.Store tx.old.conn.now tx.new.conn.now result }
-    ensures failure { IfErr result IsFailure }
+    ensures inside { GoesOnInside S.Store tx.old.conn tx.new.conn result }
     ensures count { Finds S.Store tx.old.conn.now tx.new.conn.now result (λ h count.
         (deposit : Deposit) → deposit.collection ≡ collection.now → deposit.class ≡ class.now
         → count ≡ pos (length (live_holds h number deposit))) }

@@ -1,6 +1,6 @@
 //! Classes.
 
-ghost use Rattle.std.specs.Prelude.{◌≡◌, ⊤, IfErr, OnOk, [], ◌∷◌};
+ghost use Rattle.std.specs.Prelude.{◌≡◌, ⊤, OnOk, [], ◌∷◌};
 ghost use Rattle.jiff.specs.Types.{Date};
 ghost use Rattle.jiff.specs.Words.{epoch_day};
 ghost use Rattle.sqlite.specs.Held.{state};
@@ -10,9 +10,8 @@ ghost use Rattle.office_core.specs.RetentionReading.{due_of};
 ghost use Rattle.office_core.specs.declared.request.Request.TheVariants as requests;
 ghost use Rattle.office_rows.specs.Rows.{with_due};
 ghost use Rattle.office_rows.specs.Told.{class_closings};
-ghost use Rattle.office_tables.specs.Faults.{IsFailure};
 ghost use Rattle.office_tables.specs.Tables.{tables_of};
-ghost use Rattle.office_tables.specs.Calls.{CommitsNothing, Continues, ContinuesInTurn, Tells, Writes};
+ghost use Rattle.office_tables.specs.Calls.{GoesOnInTurn, GoesOnInside, Tells, Writes};
 ghost use Rattle.office_tables.specs.Contents.{LeavesOnce};
 ghost use Rattle.office_history.specs.Histories.{DefinedClass};
 ghost use Rattle.office_history.specs.Pictures.{years_number};
@@ -42,10 +41,7 @@ fn set_due_day<S: Alter>(
     row: &ClosingRow,
     years: Years,
 ) -> Result<(), TableFault>
-    ensures same_reference { tx.new.conn.ghost_name ≡ tx.old.conn.ghost_name }
-    ensures stays { CommitsNothing S.Store tx.old.conn.now tx.new.conn.now }
-    ensures goes_on { Continues S.Store tx.old.conn.now tx.new.conn.now result }
-    ensures failure { IfErr result IsFailure }
+    ensures inside { GoesOnInside S.Store tx.old.conn tx.new.conn result }
     ensures becomes { (closed : Date) → epoch_day closed ≡ row.now.closed
         → Writes S.Store tx.old.conn.now tx.new.conn.now result
         (with_due row.now.number (due_number (due_of closed years))) }
@@ -62,10 +58,7 @@ fn set_due_days<S: Alter>(
     rows: &[ClosingRow],
     years: Years,
 ) -> Result<(), TableFault>
-    ensures same_reference { tx.new.conn.ghost_name ≡ tx.old.conn.ghost_name }
-    ensures stays { CommitsNothing S.Store tx.old.conn.now tx.new.conn.now }
-    ensures goes_on { ContinuesInTurn S.Store tx.old.conn.now tx.new.conn.now result }
-    ensures failure { IfErr result IsFailure }
+    ensures inside { GoesOnInTurn S.Store tx.old.conn tx.new.conn result }
     ensures set { SetsDueDays S.Store tx.old.conn.now tx.new.conn.now result years rows.now }
     ensures closed { OnOk result (AreClosedOnDays rows.now) }
 {
@@ -82,10 +75,7 @@ fn set_days_of_class<S: Alter>(
     class: &str,
     years: Years,
 ) -> Result<(), TableFault>
-    ensures same_reference { tx.new.conn.ghost_name ≡ tx.old.conn.ghost_name }
-    ensures stays { CommitsNothing S.Store tx.old.conn.now tx.new.conn.now }
-    ensures goes_on { Continues S.Store tx.old.conn.now tx.new.conn.now result }
-    ensures failure { IfErr result IsFailure }
+    ensures inside { GoesOnInside S.Store tx.old.conn tx.new.conn result }
     ensures set { SetsDueDays S.Store tx.old.conn.now tx.new.conn.now result years
         (class_closings class.now (tables_of (state S.Store tx.old.conn.now).now)) }
     ensures rows { Tells S.Store tx.old.conn.now tx.new.conn.now result (λ tables _.
@@ -102,10 +92,7 @@ fn put_years<S: Alter>(
     name: &str,
     years: Years,
 ) -> Result<(), TableFault>
-    ensures same_reference { tx.new.conn.ghost_name ≡ tx.old.conn.ghost_name }
-    ensures stays { CommitsNothing S.Store tx.old.conn.now tx.new.conn.now }
-    ensures goes_on { Continues S.Store tx.old.conn.now tx.new.conn.now result }
-    ensures failure { IfErr result IsFailure }
+    ensures inside { GoesOnInside S.Store tx.old.conn tx.new.conn result }
     ensures defined { (day : Date)
         → Accepts S.Store tx.old.conn.now tx.new.conn.now result (λ _.
         ⊤) (DefinedClass day name.now years ∷ []) }
@@ -128,10 +115,7 @@ pub fn define_class<S: Alter>(
     name: &Name<'_>,
     years: Years,
 ) -> Result<Answer, TableFault>
-    ensures same_reference { tx.new.conn.ghost_name ≡ tx.old.conn.ghost_name }
-    ensures stays { CommitsNothing S.Store tx.old.conn.now tx.new.conn.now }
-    ensures goes_on { Continues S.Store tx.old.conn.now tx.new.conn.now result }
-    ensures failure { IfErr result IsFailure }
+    ensures inside { GoesOnInside S.Store tx.old.conn tx.new.conn result }
     ensures decides { Decides S.Store tx.old.conn.now tx.new.conn.now result day caller.now
         (requests.DefineClass name.now years) }
     ensures rows { Tells S.Store tx.old.conn.now tx.new.conn.now result (λ tables given.

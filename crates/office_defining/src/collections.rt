@@ -1,9 +1,8 @@
 //! Collections.
 
-ghost use Rattle.std.specs.Prelude.{◌≡◌, IfErr};
+ghost use Rattle.std.specs.Prelude.{◌≡◌};
 ghost use Rattle.office_core.specs.declared.request.Request.TheVariants as requests;
-ghost use Rattle.office_tables.specs.Faults.{IsFailure};
-ghost use Rattle.office_tables.specs.Calls.{CommitsNothing, Continues, Tells};
+ghost use Rattle.office_tables.specs.Calls.{GoesOnInside, Tells};
 ghost use Rattle.office_asking.specs.Serving.{Decides};
 ghost use Rattle.office_defining.specs.ByRows.{IsCollectionDefinedIn};
 
@@ -23,10 +22,7 @@ pub fn define_collection<S: Alter>(
     caller: &str,
     name: &Name<'_>,
 ) -> Result<Answer, TableFault>
-    ensures same_reference { tx.new.conn.ghost_name ≡ tx.old.conn.ghost_name }
-    ensures stays { CommitsNothing S.Store tx.old.conn.now tx.new.conn.now }
-    ensures goes_on { Continues S.Store tx.old.conn.now tx.new.conn.now result }
-    ensures failure { IfErr result IsFailure }
+    ensures inside { GoesOnInside S.Store tx.old.conn tx.new.conn result }
     ensures decides { Decides S.Store tx.old.conn.now tx.new.conn.now result day caller.now
         (requests.DefineCollection name.now) }
     ensures rows { Tells S.Store tx.old.conn.now tx.new.conn.now result (λ tables given.

@@ -2,7 +2,7 @@
 
 ghost use Rattle.std.specs.Prelude.{◌≡◌, ⊤, IfErr, IfOk, [], ◌∷◌, map};
 ghost use Rattle.office_tables.specs.Faults.{IsFailure};
-ghost use Rattle.office_tables.specs.Calls.{CommitsNothing, Continues};
+ghost use Rattle.office_tables.specs.Calls.{GoesOnInside};
 ghost use Rattle.office_history.specs.Histories.{Installed};
 ghost use Rattle.office_history.specs.Pictures.{action_pattern_text, caller_row, effect_number, pattern_text, rule_row, rule_rows};
 ghost use Rattle.office_asking.specs.Serving.{Accepts};
@@ -105,10 +105,7 @@ pub fn install<S: Alter>(
     tx: &mut Transaction<'_, S>,
     policy: &Policy,
 ) -> Result<(), TableFault>
-    ensures same_reference { tx.new.conn.ghost_name ≡ tx.old.conn.ghost_name }
-    ensures stays { CommitsNothing S.Store tx.old.conn.now tx.new.conn.now }
-    ensures goes_on { Continues S.Store tx.old.conn.now tx.new.conn.now result }
-    ensures failure { IfErr result IsFailure }
+    ensures inside { GoesOnInside S.Store tx.old.conn tx.new.conn result }
     ensures installed { Accepts S.Store tx.old.conn.now tx.new.conn.now result (λ _.
         ⊤) (Installed policy.now ∷ []) }
 {

@@ -1,9 +1,9 @@
 //! One request in one transaction.
 
-ghost use Rattle.std.specs.Prelude.{◌≡◌, ◌≢◌, ◌⊎◌, IfErr, IsOkAnd, IsTrue, Ok, OnOk, false};
+ghost use Rattle.std.specs.Prelude.{◌≡◌, ◌≢◌, ◌⊎◌, IsOkAnd, IsTrue, Ok, OnOk, false};
 ghost use Rattle.sqlite.specs.State.{HasCleanDisk, IsRolledBack, Shows, Survives};
 ghost use Rattle.sqlite.specs.Held.{state};
-ghost use Rattle.office_tables.specs.Calls.{CommitsNothing, Continues, Tells};
+ghost use Rattle.office_tables.specs.Calls.{GoesOnInside, Tells};
 ghost use Rattle.office_tables.specs.Faults as faults;
 ghost use Rattle.office_history.specs.Runs.{IsFailure};
 ghost use Rattle.office_asking.specs.Serving.{Decides};
@@ -55,10 +55,7 @@ fn decide<S: Alter>(
     caller: &str,
     request: &Request<'_>,
 ) -> Result<Answer, TableFault>
-    ensures same_reference { tx.new.conn.ghost_name ≡ tx.old.conn.ghost_name }
-    ensures stays { CommitsNothing S.Store tx.old.conn.now tx.new.conn.now }
-    ensures goes_on { Continues S.Store tx.old.conn.now tx.new.conn.now result }
-    ensures failure { IfErr result faults.IsFailure }
+    ensures inside { GoesOnInside S.Store tx.old.conn tx.new.conn result }
     ensures decides { Decides S.Store tx.old.conn.now tx.new.conn.now result day caller.now request.now }
     ensures rows { Tells S.Store tx.old.conn.now tx.new.conn.now result (λ tables answer.
         RowsTell tables day caller.now request.now answer) }

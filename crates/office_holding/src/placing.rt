@@ -1,11 +1,10 @@
 //! Holds that are placed on deposits, collections and classes.
 
-ghost use Rattle.std.specs.Prelude.{◌≡◌, IfErr, pos, [], ◌∷◌};
+ghost use Rattle.std.specs.Prelude.{◌≡◌, pos, [], ◌∷◌};
 ghost use Rattle.office_core.specs.FirstOf.{first_some};
 ghost use Rattle.office_core.specs.declared.request.Request.TheVariants as requests;
 ghost use Rattle.office_rows.specs.Rows.{limits_of};
-ghost use Rattle.office_tables.specs.Faults.{IsFailure};
-ghost use Rattle.office_tables.specs.Calls.{CommitsNothing, Continues, Keeps, Tells};
+ghost use Rattle.office_tables.specs.Calls.{GoesOnInside, Keeps, Tells};
 ghost use Rattle.office_history.specs.Histories.{OnClass, OnCollection, OnDeposit, PlacedHold, deposit_numbered};
 ghost use Rattle.office_history.specs.Refusals.{class_denials, class_hold_refusals, collection_denials, collection_hold_refusals, full_of_holds, hold_refusals, of_deposit};
 ghost use Rattle.office_asking.specs.Serving.{Accepts, Decides, Finds};
@@ -23,10 +22,7 @@ use sqlite::{Alter, Transaction};
 
 /// The number of the next hold, where the office takes one more.
 fn next_hold<S: Alter>(tx: &mut Transaction<'_, S>) -> Result<Result<u32, Refusal>, TableFault>
-    ensures same_reference { tx.new.conn.ghost_name ≡ tx.old.conn.ghost_name }
-    ensures stays { CommitsNothing S.Store tx.old.conn.now tx.new.conn.now }
-    ensures goes_on { Continues S.Store tx.old.conn.now tx.new.conn.now result }
-    ensures failure { IfErr result IsFailure }
+    ensures inside { GoesOnInside S.Store tx.old.conn tx.new.conn result }
     ensures same { Keeps S.Store tx.old.conn.now tx.new.conn.now result }
     ensures next { Finds S.Store tx.old.conn.now tx.new.conn.now result (λ h place.
         IsPlace h (full_of_holds h ∷ []) place) }
@@ -46,10 +42,7 @@ fn place_on_collection<S: Alter>(
     collection: &str,
     matter: &str,
 ) -> Result<(), TableFault>
-    ensures same_reference { tx.new.conn.ghost_name ≡ tx.old.conn.ghost_name }
-    ensures stays { CommitsNothing S.Store tx.old.conn.now tx.new.conn.now }
-    ensures goes_on { Continues S.Store tx.old.conn.now tx.new.conn.now result }
-    ensures failure { IfErr result IsFailure }
+    ensures inside { GoesOnInside S.Store tx.old.conn tx.new.conn result }
     ensures placed { Accepts S.Store tx.old.conn.now tx.new.conn.now result (λ h.
         IsNext h number)
         (PlacedHold day
@@ -68,10 +61,7 @@ fn place_on_class<S: Alter>(
     class: &str,
     matter: &str,
 ) -> Result<(), TableFault>
-    ensures same_reference { tx.new.conn.ghost_name ≡ tx.old.conn.ghost_name }
-    ensures stays { CommitsNothing S.Store tx.old.conn.now tx.new.conn.now }
-    ensures goes_on { Continues S.Store tx.old.conn.now tx.new.conn.now result }
-    ensures failure { IfErr result IsFailure }
+    ensures inside { GoesOnInside S.Store tx.old.conn tx.new.conn result }
     ensures placed { Accepts S.Store tx.old.conn.now tx.new.conn.now result (λ h. IsNext h number)
         (PlacedHold day (record { target = OnClass class.now; matter = matter.now }) ∷ []) }
 {
@@ -88,10 +78,7 @@ fn place_on_deposit<S: Alter>(
     deposit: u32,
     matter: &str,
 ) -> Result<(), TableFault>
-    ensures same_reference { tx.new.conn.ghost_name ≡ tx.old.conn.ghost_name }
-    ensures stays { CommitsNothing S.Store tx.old.conn.now tx.new.conn.now }
-    ensures goes_on { Continues S.Store tx.old.conn.now tx.new.conn.now result }
-    ensures failure { IfErr result IsFailure }
+    ensures inside { GoesOnInside S.Store tx.old.conn tx.new.conn result }
     ensures placed { Accepts S.Store tx.old.conn.now tx.new.conn.now result (λ h. IsNext h number)
         (PlacedHold day (record { target = OnDeposit deposit; matter = matter.now }) ∷ []) }
     ensures rows { Tells S.Store tx.old.conn.now tx.new.conn.now result (λ tables _.
@@ -109,10 +96,7 @@ fn collection_denial<S: Alter>(
     caller: &str,
     collection: &str,
 ) -> Result<Option<Refusal>, TableFault>
-    ensures same_reference { tx.new.conn.ghost_name ≡ tx.old.conn.ghost_name }
-    ensures stays { CommitsNothing S.Store tx.old.conn.now tx.new.conn.now }
-    ensures goes_on { Continues S.Store tx.old.conn.now tx.new.conn.now result }
-    ensures failure { IfErr result IsFailure }
+    ensures inside { GoesOnInside S.Store tx.old.conn tx.new.conn result }
     ensures same { Keeps S.Store tx.old.conn.now tx.new.conn.now result }
     ensures denied { Finds S.Store tx.old.conn.now tx.new.conn.now result (λ h why.
         why ≡ first_some (collection_denials h day caller.now collection.now)) }
@@ -132,10 +116,7 @@ fn class_denial<S: Alter>(
     caller: &str,
     class: &str,
 ) -> Result<Option<Refusal>, TableFault>
-    ensures same_reference { tx.new.conn.ghost_name ≡ tx.old.conn.ghost_name }
-    ensures stays { CommitsNothing S.Store tx.old.conn.now tx.new.conn.now }
-    ensures goes_on { Continues S.Store tx.old.conn.now tx.new.conn.now result }
-    ensures failure { IfErr result IsFailure }
+    ensures inside { GoesOnInside S.Store tx.old.conn tx.new.conn result }
     ensures same { Keeps S.Store tx.old.conn.now tx.new.conn.now result }
     ensures denied { Finds S.Store tx.old.conn.now tx.new.conn.now result (λ h why.
         why ≡ first_some (class_denials h day caller.now class.now)) }
@@ -155,10 +136,7 @@ fn place_for_collection<S: Alter>(
     caller: &str,
     collection: &str,
 ) -> Result<Result<u32, Refusal>, TableFault>
-    ensures same_reference { tx.new.conn.ghost_name ≡ tx.old.conn.ghost_name }
-    ensures stays { CommitsNothing S.Store tx.old.conn.now tx.new.conn.now }
-    ensures goes_on { Continues S.Store tx.old.conn.now tx.new.conn.now result }
-    ensures failure { IfErr result IsFailure }
+    ensures inside { GoesOnInside S.Store tx.old.conn tx.new.conn result }
     ensures same { Keeps S.Store tx.old.conn.now tx.new.conn.now result }
     ensures found { Finds S.Store tx.old.conn.now tx.new.conn.now result (λ h place.
         IsPlace h (collection_hold_refusals h day caller.now collection.now) place) }
@@ -178,10 +156,7 @@ fn place_for_class<S: Alter>(
     caller: &str,
     class: &str,
 ) -> Result<Result<u32, Refusal>, TableFault>
-    ensures same_reference { tx.new.conn.ghost_name ≡ tx.old.conn.ghost_name }
-    ensures stays { CommitsNothing S.Store tx.old.conn.now tx.new.conn.now }
-    ensures goes_on { Continues S.Store tx.old.conn.now tx.new.conn.now result }
-    ensures failure { IfErr result IsFailure }
+    ensures inside { GoesOnInside S.Store tx.old.conn tx.new.conn result }
     ensures same { Keeps S.Store tx.old.conn.now tx.new.conn.now result }
     ensures found { Finds S.Store tx.old.conn.now tx.new.conn.now result (λ h place.
         IsPlace h (class_hold_refusals h day caller.now class.now) place) }
@@ -201,10 +176,7 @@ fn place_for_deposit<S: Alter>(
     caller: &str,
     number: u32,
 ) -> Result<Result<u32, Refusal>, TableFault>
-    ensures same_reference { tx.new.conn.ghost_name ≡ tx.old.conn.ghost_name }
-    ensures stays { CommitsNothing S.Store tx.old.conn.now tx.new.conn.now }
-    ensures goes_on { Continues S.Store tx.old.conn.now tx.new.conn.now result }
-    ensures failure { IfErr result IsFailure }
+    ensures inside { GoesOnInside S.Store tx.old.conn tx.new.conn result }
     ensures same { Keeps S.Store tx.old.conn.now tx.new.conn.now result }
     ensures found { Finds S.Store tx.old.conn.now tx.new.conn.now result (λ h place.
         IsPlace h
@@ -228,10 +200,7 @@ pub fn hold_collection<S: Alter>(
     name: &Name<'_>,
     matter: &Matter<'_>,
 ) -> Result<Answer, TableFault>
-    ensures same_reference { tx.new.conn.ghost_name ≡ tx.old.conn.ghost_name }
-    ensures stays { CommitsNothing S.Store tx.old.conn.now tx.new.conn.now }
-    ensures goes_on { Continues S.Store tx.old.conn.now tx.new.conn.now result }
-    ensures failure { IfErr result IsFailure }
+    ensures inside { GoesOnInside S.Store tx.old.conn tx.new.conn result }
     ensures decides { Decides S.Store tx.old.conn.now tx.new.conn.now result day caller.now
         (requests.HoldCollection name.now matter.now) }
     ensures rows { Tells S.Store tx.old.conn.now tx.new.conn.now result (λ tables answer.
@@ -256,10 +225,7 @@ pub fn hold_class<S: Alter>(
     name: &Name<'_>,
     matter: &Matter<'_>,
 ) -> Result<Answer, TableFault>
-    ensures same_reference { tx.new.conn.ghost_name ≡ tx.old.conn.ghost_name }
-    ensures stays { CommitsNothing S.Store tx.old.conn.now tx.new.conn.now }
-    ensures goes_on { Continues S.Store tx.old.conn.now tx.new.conn.now result }
-    ensures failure { IfErr result IsFailure }
+    ensures inside { GoesOnInside S.Store tx.old.conn tx.new.conn result }
     ensures decides { Decides S.Store tx.old.conn.now tx.new.conn.now result day caller.now
         (requests.HoldClass name.now matter.now) }
     ensures rows { Tells S.Store tx.old.conn.now tx.new.conn.now result (λ tables answer.
@@ -284,10 +250,7 @@ pub fn hold_deposit<S: Alter>(
     number: u32,
     matter: &Matter<'_>,
 ) -> Result<Answer, TableFault>
-    ensures same_reference { tx.new.conn.ghost_name ≡ tx.old.conn.ghost_name }
-    ensures stays { CommitsNothing S.Store tx.old.conn.now tx.new.conn.now }
-    ensures goes_on { Continues S.Store tx.old.conn.now tx.new.conn.now result }
-    ensures failure { IfErr result IsFailure }
+    ensures inside { GoesOnInside S.Store tx.old.conn tx.new.conn result }
     ensures decides { Decides S.Store tx.old.conn.now tx.new.conn.now result day caller.now
         (requests.HoldDeposit number matter.now) }
     ensures rows { Tells S.Store tx.old.conn.now tx.new.conn.now result (λ tables answer.

@@ -8,7 +8,7 @@ ghost use Rattle.office_core.specs.declared.refusal.Refusal.TheVariants.{Release
 ghost use Rattle.office_core.specs.declared.request.Request.TheVariants as requests;
 ghost use Rattle.office_rows.specs.Rows.{limits_of};
 ghost use Rattle.office_tables.specs.Faults.{IsFailure};
-ghost use Rattle.office_tables.specs.Calls.{CommitsNothing, Continues, Keeps, Tells};
+ghost use Rattle.office_tables.specs.Calls.{GoesOnInside, Keeps, Tells};
 ghost use Rattle.office_tables.specs.ShownHolds.{held_class, held_collection, held_deposit};
 ghost use Rattle.office_history.specs.Histories.{OnClass, OnCollection, OnDeposit, ReleasedHold};
 ghost use Rattle.office_history.specs.Refusals.{release_denial};
@@ -37,10 +37,7 @@ fn deposit_release_denial<S: Alter>(
     caller: &str,
     number: u32,
 ) -> Result<Option<Refusal>, TableFault>
-    ensures same_reference { tx.new.conn.ghost_name ≡ tx.old.conn.ghost_name }
-    ensures stays { CommitsNothing S.Store tx.old.conn.now tx.new.conn.now }
-    ensures goes_on { Continues S.Store tx.old.conn.now tx.new.conn.now result }
-    ensures failure { IfErr result IsFailure }
+    ensures inside { GoesOnInside S.Store tx.old.conn tx.new.conn result }
     ensures same { Keeps S.Store tx.old.conn.now tx.new.conn.now result }
     ensures denied { Finds S.Store tx.old.conn.now tx.new.conn.now result (λ h why.
         why ≡ release_denial h day caller.now (OnDeposit number)) }
@@ -68,10 +65,7 @@ fn collection_release_denial<S: Alter>(
     caller: &str,
     collection: &str,
 ) -> Result<Option<Refusal>, TableFault>
-    ensures same_reference { tx.new.conn.ghost_name ≡ tx.old.conn.ghost_name }
-    ensures stays { CommitsNothing S.Store tx.old.conn.now tx.new.conn.now }
-    ensures goes_on { Continues S.Store tx.old.conn.now tx.new.conn.now result }
-    ensures failure { IfErr result IsFailure }
+    ensures inside { GoesOnInside S.Store tx.old.conn tx.new.conn result }
     ensures same { Keeps S.Store tx.old.conn.now tx.new.conn.now result }
     ensures denied { Finds S.Store tx.old.conn.now tx.new.conn.now result (λ h why.
         why ≡ release_denial h day caller.now (OnCollection collection.now)) }
@@ -92,10 +86,7 @@ fn class_release_denial<S: Alter>(
     caller: &str,
     class: &str,
 ) -> Result<Option<Refusal>, TableFault>
-    ensures same_reference { tx.new.conn.ghost_name ≡ tx.old.conn.ghost_name }
-    ensures stays { CommitsNothing S.Store tx.old.conn.now tx.new.conn.now }
-    ensures goes_on { Continues S.Store tx.old.conn.now tx.new.conn.now result }
-    ensures failure { IfErr result IsFailure }
+    ensures inside { GoesOnInside S.Store tx.old.conn tx.new.conn result }
     ensures same { Keeps S.Store tx.old.conn.now tx.new.conn.now result }
     ensures denied { Finds S.Store tx.old.conn.now tx.new.conn.now result (λ h why.
         why ≡ release_denial h day caller.now (OnClass class.now)) }
@@ -114,10 +105,7 @@ fn release_denial<S: Alter>(
     caller: &str,
     target: HoldTarget<'_>,
 ) -> Result<Option<Refusal>, TableFault>
-    ensures same_reference { tx.new.conn.ghost_name ≡ tx.old.conn.ghost_name }
-    ensures stays { CommitsNothing S.Store tx.old.conn.now tx.new.conn.now }
-    ensures goes_on { Continues S.Store tx.old.conn.now tx.new.conn.now result }
-    ensures failure { IfErr result IsFailure }
+    ensures inside { GoesOnInside S.Store tx.old.conn tx.new.conn result }
     ensures same { Keeps S.Store tx.old.conn.now tx.new.conn.now result }
     ensures denied { Finds S.Store tx.old.conn.now tx.new.conn.now result (λ h why.
         why ≡ release_denial h day caller.now (target_of target.entry)) }
@@ -167,10 +155,7 @@ fn releasable_hold<S: Alter>(
     caller: &str,
     number: u32,
 ) -> Result<Result<HoldRow, Refusal>, TableFault>
-    ensures same_reference { tx.new.conn.ghost_name ≡ tx.old.conn.ghost_name }
-    ensures stays { CommitsNothing S.Store tx.old.conn.now tx.new.conn.now }
-    ensures goes_on { Continues S.Store tx.old.conn.now tx.new.conn.now result }
-    ensures failure { IfErr result IsFailure }
+    ensures inside { GoesOnInside S.Store tx.old.conn tx.new.conn result }
     ensures same { Keeps S.Store tx.old.conn.now tx.new.conn.now result }
     ensures asked { Finds S.Store tx.old.conn.now tx.new.conn.now result (λ h found.
         IsReleaseAsked h day caller.now number found) }
@@ -193,10 +178,7 @@ fn end_collection<S: Alter>(
     number: u32,
     collection: &str,
 ) -> Result<(), TableFault>
-    ensures same_reference { tx.new.conn.ghost_name ≡ tx.old.conn.ghost_name }
-    ensures stays { CommitsNothing S.Store tx.old.conn.now tx.new.conn.now }
-    ensures goes_on { Continues S.Store tx.old.conn.now tx.new.conn.now result }
-    ensures failure { IfErr result IsFailure }
+    ensures inside { GoesOnInside S.Store tx.old.conn tx.new.conn result }
     ensures ended { Accepts S.Store tx.old.conn.now tx.new.conn.now result (λ h.
         IsLiveOn h number (OnCollection collection.now)) (ReleasedHold day number ∷ []) }
 {
@@ -212,10 +194,7 @@ fn end_class<S: Alter>(
     number: u32,
     class: &str,
 ) -> Result<(), TableFault>
-    ensures same_reference { tx.new.conn.ghost_name ≡ tx.old.conn.ghost_name }
-    ensures stays { CommitsNothing S.Store tx.old.conn.now tx.new.conn.now }
-    ensures goes_on { Continues S.Store tx.old.conn.now tx.new.conn.now result }
-    ensures failure { IfErr result IsFailure }
+    ensures inside { GoesOnInside S.Store tx.old.conn tx.new.conn result }
     ensures ended { Accepts S.Store tx.old.conn.now tx.new.conn.now result (λ h.
         IsLiveOn h number (OnClass class.now)) (ReleasedHold day number ∷ []) }
 {
@@ -230,10 +209,7 @@ fn end_deposit<S: Alter>(
     number: u32,
     deposit: u32,
 ) -> Result<(), TableFault>
-    ensures same_reference { tx.new.conn.ghost_name ≡ tx.old.conn.ghost_name }
-    ensures stays { CommitsNothing S.Store tx.old.conn.now tx.new.conn.now }
-    ensures goes_on { Continues S.Store tx.old.conn.now tx.new.conn.now result }
-    ensures failure { IfErr result IsFailure }
+    ensures inside { GoesOnInside S.Store tx.old.conn tx.new.conn result }
     ensures ended { Accepts S.Store tx.old.conn.now tx.new.conn.now result (λ h.
         IsLiveOn h number (OnDeposit deposit)) (ReleasedHold day number ∷ []) }
     ensures rows { Tells S.Store tx.old.conn.now tx.new.conn.now result (λ tables _.
@@ -250,10 +226,7 @@ fn end<S: Alter>(
     number: u32,
     target: HoldTarget<'_>,
 ) -> Result<(), TableFault>
-    ensures same_reference { tx.new.conn.ghost_name ≡ tx.old.conn.ghost_name }
-    ensures stays { CommitsNothing S.Store tx.old.conn.now tx.new.conn.now }
-    ensures goes_on { Continues S.Store tx.old.conn.now tx.new.conn.now result }
-    ensures failure { IfErr result IsFailure }
+    ensures inside { GoesOnInside S.Store tx.old.conn tx.new.conn result }
     ensures ended { Accepts S.Store tx.old.conn.now tx.new.conn.now result (λ h.
         IsLiveOn h number (target_of target.entry)) (ReleasedHold day number ∷ []) }
     ensures rows { Tells S.Store tx.old.conn.now tx.new.conn.now result (λ tables _.
@@ -276,10 +249,7 @@ pub fn release<S: Alter>(
     caller: &str,
     hold: u32,
 ) -> Result<Answer, TableFault>
-    ensures same_reference { tx.new.conn.ghost_name ≡ tx.old.conn.ghost_name }
-    ensures stays { CommitsNothing S.Store tx.old.conn.now tx.new.conn.now }
-    ensures goes_on { Continues S.Store tx.old.conn.now tx.new.conn.now result }
-    ensures failure { IfErr result IsFailure }
+    ensures inside { GoesOnInside S.Store tx.old.conn tx.new.conn result }
     ensures decides { Decides S.Store tx.old.conn.now tx.new.conn.now result day caller.now
         (requests.Release hold) }
     ensures rows { Tells S.Store tx.old.conn.now tx.new.conn.now result (λ tables answer.

@@ -4,7 +4,7 @@ ghost use Rattle.std.specs.Prelude.{◌≡◌, IfErr, IfOk, [], ◌∷◌, lengt
 ghost use Rattle.office_core.specs.FirstOf.{first_some};
 ghost use Rattle.office_core.specs.declared.request.Request.TheVariants as requests;
 ghost use Rattle.office_tables.specs.Faults.{IsFailure};
-ghost use Rattle.office_tables.specs.Calls.{CommitsNothing, Continues, Keeps, Tells};
+ghost use Rattle.office_tables.specs.Calls.{GoesOnInside, Keeps, Tells};
 ghost use Rattle.office_history.specs.Histories.{History, deposits};
 ghost use Rattle.office_history.specs.Refusals as refusals;
 ghost use Rattle.office_history.specs.Refusals.{place_refusals, bad_bag, closed_ahead_refusal, full_of_deposits};
@@ -31,10 +31,7 @@ fn place_refusal<S: Alter>(
     collection: &str,
     class: &str,
 ) -> Result<Option<Refusal>, TableFault>
-    ensures same_reference { tx.new.conn.ghost_name ≡ tx.old.conn.ghost_name }
-    ensures stays { CommitsNothing S.Store tx.old.conn.now tx.new.conn.now }
-    ensures goes_on { Continues S.Store tx.old.conn.now tx.new.conn.now result }
-    ensures failure { IfErr result IsFailure }
+    ensures inside { GoesOnInside S.Store tx.old.conn tx.new.conn result }
     ensures refusal { Finds S.Store tx.old.conn.now tx.new.conn.now result (λ h why.
         why ≡ first_some (place_refusals h day caller.now collection.now class.now)) }
     ensures same { Keeps S.Store tx.old.conn.now tx.new.conn.now result }
@@ -62,10 +59,7 @@ fn taken_refusal<S: Alter>(
     tx: &mut Transaction<'_, S>,
     accession: &str,
 ) -> Result<Option<Refusal>, TableFault>
-    ensures same_reference { tx.new.conn.ghost_name ≡ tx.old.conn.ghost_name }
-    ensures stays { CommitsNothing S.Store tx.old.conn.now tx.new.conn.now }
-    ensures goes_on { Continues S.Store tx.old.conn.now tx.new.conn.now result }
-    ensures failure { IfErr result IsFailure }
+    ensures inside { GoesOnInside S.Store tx.old.conn tx.new.conn result }
     ensures taken { Finds S.Store tx.old.conn.now tx.new.conn.now result (λ h why.
         why ≡ refusals.taken_refusal h accession.now) }
     ensures same { Keeps S.Store tx.old.conn.now tx.new.conn.now result }
@@ -98,10 +92,7 @@ fn refusal_before_the_bag<S: Alter>(
     accession: &str,
     closed: Day,
 ) -> Result<Option<Refusal>, TableFault>
-    ensures same_reference { tx.new.conn.ghost_name ≡ tx.old.conn.ghost_name }
-    ensures stays { CommitsNothing S.Store tx.old.conn.now tx.new.conn.now }
-    ensures goes_on { Continues S.Store tx.old.conn.now tx.new.conn.now result }
-    ensures failure { IfErr result IsFailure }
+    ensures inside { GoesOnInside S.Store tx.old.conn tx.new.conn result }
     ensures refusal { Finds S.Store tx.old.conn.now tx.new.conn.now result (λ h why.
         why
         ≡ first_some
@@ -128,10 +119,7 @@ fn refusal_before_the_bag<S: Alter>(
 
 /// The number of the next deposit, where the office takes one more.
 fn next_number<S: Alter>(tx: &mut Transaction<'_, S>) -> Result<Result<u32, Refusal>, TableFault>
-    ensures same_reference { tx.new.conn.ghost_name ≡ tx.old.conn.ghost_name }
-    ensures stays { CommitsNothing S.Store tx.old.conn.now tx.new.conn.now }
-    ensures goes_on { Continues S.Store tx.old.conn.now tx.new.conn.now result }
-    ensures failure { IfErr result IsFailure }
+    ensures inside { GoesOnInside S.Store tx.old.conn tx.new.conn result }
     ensures next { Finds S.Store tx.old.conn.now tx.new.conn.now result (λ h next.
         IsNumberAfter (length (deposits h)) h.max_deposits next) }
     ensures same { Keeps S.Store tx.old.conn.now tx.new.conn.now result }
@@ -180,10 +168,7 @@ fn numbered_bag<'a, S: Alter>(
     tx: &mut Transaction<'_, S>,
     text: &'a [u8],
 ) -> Result<Result<NewBag<'a>, Refusal>, TableFault>
-    ensures same_reference { tx.new.conn.ghost_name ≡ tx.old.conn.ghost_name }
-    ensures stays { CommitsNothing S.Store tx.old.conn.now tx.new.conn.now }
-    ensures goes_on { Continues S.Store tx.old.conn.now tx.new.conn.now result }
-    ensures failure { IfErr result IsFailure }
+    ensures inside { GoesOnInside S.Store tx.old.conn tx.new.conn result }
     ensures numbered { Finds S.Store tx.old.conn.now tx.new.conn.now result (λ h asked.
         IsAskedFor h text.entry.now (bad_bag text.entry.now ∷ full_of_deposits h ∷ []) asked) }
     ensures same { Keeps S.Store tx.old.conn.now tx.new.conn.now result }
@@ -206,10 +191,7 @@ fn new_bag<'a, S: Alter>(
     closed: Day,
     text: &'a [u8],
 ) -> Result<Result<NewBag<'a>, Refusal>, TableFault>
-    ensures same_reference { tx.new.conn.ghost_name ≡ tx.old.conn.ghost_name }
-    ensures stays { CommitsNothing S.Store tx.old.conn.now tx.new.conn.now }
-    ensures goes_on { Continues S.Store tx.old.conn.now tx.new.conn.now result }
-    ensures failure { IfErr result IsFailure }
+    ensures inside { GoesOnInside S.Store tx.old.conn tx.new.conn result }
     ensures asked { Finds S.Store tx.old.conn.now tx.new.conn.now result (λ h asked.
         IsAskedFor h text.entry.now
         (refusals.refusals h day caller.now
@@ -249,10 +231,7 @@ pub fn deposit<S: Alter>(
     closed: Day,
     bag: &[u8],
 ) -> Result<Answer, TableFault>
-    ensures same_reference { tx.new.conn.ghost_name ≡ tx.old.conn.ghost_name }
-    ensures stays { CommitsNothing S.Store tx.old.conn.now tx.new.conn.now }
-    ensures goes_on { Continues S.Store tx.old.conn.now tx.new.conn.now result }
-    ensures failure { IfErr result IsFailure }
+    ensures inside { GoesOnInside S.Store tx.old.conn tx.new.conn result }
     ensures decides { Decides S.Store tx.old.conn.now tx.new.conn.now result day caller.now
         (requests.Deposit collection.now class.now accession.now closed bag.entry) }
     ensures rows { Tells S.Store tx.old.conn.now tx.new.conn.now result (λ tables given.

@@ -1,9 +1,8 @@
 //! The disposal of deposits.
 
-ghost use Rattle.std.specs.Prelude.{◌≡◌, IfErr, [], ◌∷◌, None};
+ghost use Rattle.std.specs.Prelude.{◌≡◌, [], ◌∷◌, None};
 ghost use Rattle.office_core.specs.declared.request.Request.TheVariants as requests;
-ghost use Rattle.office_tables.specs.Faults.{IsFailure};
-ghost use Rattle.office_tables.specs.Calls.{CommitsNothing, Continues, Tells};
+ghost use Rattle.office_tables.specs.Calls.{GoesOnInside, Tells};
 ghost use Rattle.office_history.specs.Histories.{Destroyed, destruction_day};
 ghost use Rattle.office_history.specs.Refusals.{refusal};
 ghost use Rattle.office_asking.specs.Serving.{Finds, Accepts, Decides};
@@ -25,10 +24,7 @@ fn disposal_refusal<S: Alter>(
     caller: &str,
     number: u32,
 ) -> Result<Option<Refusal>, TableFault>
-    ensures same_reference { tx.new.conn.ghost_name ≡ tx.old.conn.ghost_name }
-    ensures stays { CommitsNothing S.Store tx.old.conn.now tx.new.conn.now }
-    ensures goes_on { Continues S.Store tx.old.conn.now tx.new.conn.now result }
-    ensures failure { IfErr result IsFailure }
+    ensures inside { GoesOnInside S.Store tx.old.conn tx.new.conn result }
     ensures refusal { Finds S.Store tx.old.conn.now tx.new.conn.now result (λ h why.
         why ≡ refusal h day caller.now (requests.Dispose number)) }
     ensures rows { Tells S.Store tx.old.conn.now tx.new.conn.now result (λ tables why.
@@ -45,10 +41,7 @@ fn disposal_refusal<S: Alter>(
 
 /// Notes the day on the deposit of that number, and takes its files away.
 fn destroy<S: Alter>(tx: &mut Transaction<'_, S>, day: Day, number: u32) -> Result<(), TableFault>
-    ensures same_reference { tx.new.conn.ghost_name ≡ tx.old.conn.ghost_name }
-    ensures stays { CommitsNothing S.Store tx.old.conn.now tx.new.conn.now }
-    ensures goes_on { Continues S.Store tx.old.conn.now tx.new.conn.now result }
-    ensures failure { IfErr result IsFailure }
+    ensures inside { GoesOnInside S.Store tx.old.conn tx.new.conn result }
     ensures destroyed { Accepts S.Store tx.old.conn.now tx.new.conn.now result (λ h.
         destruction_day h number ≡ None) (Destroyed day number ∷ []) }
 {
@@ -67,10 +60,7 @@ pub fn dispose<S: Alter>(
     caller: &str,
     number: u32,
 ) -> Result<Answer, TableFault>
-    ensures same_reference { tx.new.conn.ghost_name ≡ tx.old.conn.ghost_name }
-    ensures stays { CommitsNothing S.Store tx.old.conn.now tx.new.conn.now }
-    ensures goes_on { Continues S.Store tx.old.conn.now tx.new.conn.now result }
-    ensures failure { IfErr result IsFailure }
+    ensures inside { GoesOnInside S.Store tx.old.conn tx.new.conn result }
     ensures decides { Decides S.Store tx.old.conn.now tx.new.conn.now result day caller.now
         (requests.Dispose number) }
     ensures rows { Tells S.Store tx.old.conn.now tx.new.conn.now result (λ tables given.

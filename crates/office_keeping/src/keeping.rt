@@ -5,7 +5,7 @@ ghost use Rattle.bag_text.specs.TransferReading.{files_of};
 ghost use Rattle.office_rows.specs.Rows as rows;
 ghost use Rattle.office_rows.specs.Rows.{with_file};
 ghost use Rattle.office_tables.specs.Faults.{IsFailure};
-ghost use Rattle.office_tables.specs.Calls.{CommitsNothing, Continues, ContinuesInTurn, Tells, Writes};
+ghost use Rattle.office_tables.specs.Calls.{GoesOnInTurn, GoesOnInside, Tells, Writes};
 ghost use Rattle.office_tables.specs.Contents.{LeavesOnce};
 ghost use Rattle.office_tables.specs.Deposits.{added_row};
 ghost use Rattle.office_core.specs.Retention.{due_number};
@@ -29,10 +29,7 @@ fn add_file<S: Alter>(
     number: u32,
     file: &(&str, &[u8]),
 ) -> Result<(), TableFault>
-    ensures same_reference { tx.new.conn.ghost_name ≡ tx.old.conn.ghost_name }
-    ensures stays { CommitsNothing S.Store tx.old.conn.now tx.new.conn.now }
-    ensures goes_on { Continues S.Store tx.old.conn.now tx.new.conn.now result }
-    ensures failure { IfErr result IsFailure }
+    ensures inside { GoesOnInside S.Store tx.old.conn tx.new.conn result }
     ensures becomes { Writes S.Store tx.old.conn.now tx.new.conn.now result
         (with_file
         (record { deposit = pos number; path = file.now.0.now; content = file.now.1.now })) }
@@ -47,10 +44,7 @@ fn add_files<S: Alter>(
     number: u32,
     files: &[(&str, &[u8])],
 ) -> Result<(), TableFault>
-    ensures same_reference { tx.new.conn.ghost_name ≡ tx.old.conn.ghost_name }
-    ensures stays { CommitsNothing S.Store tx.old.conn.now tx.new.conn.now }
-    ensures goes_on { ContinuesInTurn S.Store tx.old.conn.now tx.new.conn.now result }
-    ensures failure { IfErr result IsFailure }
+    ensures inside { GoesOnInTurn S.Store tx.old.conn tx.new.conn result }
     ensures becomes { Writes S.Store tx.old.conn.now tx.new.conn.now result
         (with_files (pos number) (files_of files.now)) }
     ensures once { LeavesOnce S.Store tx.old.conn.now tx.new.conn.now result }
@@ -91,10 +85,7 @@ fn beside_row<S: Alter>(
     class: &str,
     closed: Day,
 ) -> Result<Beside, TableFault>
-    ensures same_reference { tx.new.conn.ghost_name ≡ tx.old.conn.ghost_name }
-    ensures stays { CommitsNothing S.Store tx.old.conn.now tx.new.conn.now }
-    ensures goes_on { Continues S.Store tx.old.conn.now tx.new.conn.now result }
-    ensures failure { IfErr result IsFailure }
+    ensures inside { GoesOnInside S.Store tx.old.conn tx.new.conn result }
     ensures due { Finds S.Store tx.old.conn.now tx.new.conn.now result (λ h beside.
         (deposit : Deposit) → deposit.class ≡ class.now → deposit.closed ≡ closed
         → beside.due ≡ due_number (due h deposit)) }
@@ -123,10 +114,7 @@ fn put_row<S: Alter>(
     deposit: NewDeposit<'_>,
     beside: Beside,
 ) -> Result<(), TableFault>
-    ensures same_reference { tx.new.conn.ghost_name ≡ tx.old.conn.ghost_name }
-    ensures stays { CommitsNothing S.Store tx.old.conn.now tx.new.conn.now }
-    ensures goes_on { Continues S.Store tx.old.conn.now tx.new.conn.now result }
-    ensures failure { IfErr result IsFailure }
+    ensures inside { GoesOnInside S.Store tx.old.conn tx.new.conn result }
     ensures becomes { Writes S.Store tx.old.conn.now tx.new.conn.now result
         (with_kept (added_row deposit.entry) beside.due beside.holds) }
     ensures once { LeavesOnce S.Store tx.old.conn.now tx.new.conn.now result }
@@ -151,10 +139,7 @@ pub(crate) fn keep<S: Alter>(
     closed: Day,
     bag: &BagSet<'_>,
 ) -> Result<(), TableFault>
-    ensures same_reference { tx.new.conn.ghost_name ≡ tx.old.conn.ghost_name }
-    ensures stays { CommitsNothing S.Store tx.old.conn.now tx.new.conn.now }
-    ensures goes_on { Continues S.Store tx.old.conn.now tx.new.conn.now result }
-    ensures failure { IfErr result IsFailure }
+    ensures inside { GoesOnInside S.Store tx.old.conn tx.new.conn result }
     ensures kept { Accepts S.Store tx.old.conn.now tx.new.conn.now result (λ h.
         number ≡ length (deposits h) + 1)
         (Deposited day

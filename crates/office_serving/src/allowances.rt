@@ -1,11 +1,10 @@
 //! What the rules let a caller do on a day with the deposits of a collection and a class, asked once for each
 //! pair that comes up.
 
-ghost use Rattle.std.specs.Prelude.{◌≡◌, IfErr, List, ℕ};
+ghost use Rattle.std.specs.Prelude.{◌≡◌, List, ℕ};
 ghost use Rattle.jiff.specs.Types.{Date};
 ghost use Rattle.office_core.specs.declared.action.Action.{Action};
-ghost use Rattle.office_tables.specs.Faults.{IsFailure};
-ghost use Rattle.office_tables.specs.Calls.{CommitsNothing, ContinuesInTurn, Keeps, Tells};
+ghost use Rattle.office_tables.specs.Calls.{GoesOnInTurn, Keeps, Tells};
 ghost use Rattle.office_rows.specs.Rows.{Tables};
 ghost use Rattle.office_history.specs.Histories.{History};
 ghost use Rattle.office_asking.specs.Asking.{IsAsker};
@@ -54,10 +53,7 @@ impl<'a> Allowances<'a> {
         collection: &'a str,
         class: &'a str,
     ) -> Result<bool, TableFault>
-        ensures same_reference { tx.new.conn.ghost_name ≡ tx.old.conn.ghost_name }
-        ensures stays { CommitsNothing S.Store tx.old.conn.now tx.new.conn.now }
-        ensures goes_on { ContinuesInTurn S.Store tx.old.conn.now tx.new.conn.now result }
-        ensures failure { IfErr result IsFailure }
+        ensures inside { GoesOnInTurn S.Store tx.old.conn tx.new.conn result }
         ensures allowed { Finds S.Store tx.old.conn.now tx.new.conn.now result (λ h is.
             (day : Date) (caller : List ℕ) (action : Action) → AreOf h day caller action self.old
             → AreOf h day caller action self.new

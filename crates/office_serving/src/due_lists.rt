@@ -1,10 +1,9 @@
 //! The deposits that a caller may destroy on a day.
 
-ghost use Rattle.std.specs.Prelude.{◌≡◌, IfErr, List, ℕ, pos, map, filter};
+ghost use Rattle.std.specs.Prelude.{◌≡◌, List, ℕ, pos, map, filter};
 ghost use Rattle.jiff.specs.Types.{Date};
 ghost use Rattle.office_core.specs.declared.request.Request.TheVariants as requests;
-ghost use Rattle.office_tables.specs.Faults.{IsFailure};
-ghost use Rattle.office_tables.specs.Calls.{CommitsNothing, Continues, ContinuesInTurn, Keeps, Tells};
+ghost use Rattle.office_tables.specs.Calls.{GoesOnInTurn, GoesOnInside, Keeps, Tells};
 ghost use Rattle.office_rows.specs.Told.{PlaceRow as Place};
 ghost use Rattle.office_history.specs.Answers.{due_list};
 ghost use Rattle.office_asking.specs.Asking.{IsAsker};
@@ -28,10 +27,7 @@ fn allowed_among<S: Alter>(
     asker: &Asker,
     places: &[PlaceRow],
 ) -> Result<Vec<u32>, TableFault>
-    ensures same_reference { tx.new.conn.ghost_name ≡ tx.old.conn.ghost_name }
-    ensures stays { CommitsNothing S.Store tx.old.conn.now tx.new.conn.now }
-    ensures goes_on { ContinuesInTurn S.Store tx.old.conn.now tx.new.conn.now result }
-    ensures failure { IfErr result IsFailure }
+    ensures inside { GoesOnInTurn S.Store tx.old.conn tx.new.conn result }
     ensures allowed { Finds S.Store tx.old.conn.now tx.new.conn.now result (λ h numbers.
         (day : Date) (caller : List ℕ) → IsAsker h day caller asker.now
         → map pos numbers.items
@@ -63,10 +59,7 @@ pub fn due_numbers<S: Alter>(
     day: Day,
     caller: &str,
 ) -> Result<Vec<u32>, TableFault>
-    ensures same_reference { tx.new.conn.ghost_name ≡ tx.old.conn.ghost_name }
-    ensures stays { CommitsNothing S.Store tx.old.conn.now tx.new.conn.now }
-    ensures goes_on { Continues S.Store tx.old.conn.now tx.new.conn.now result }
-    ensures failure { IfErr result IsFailure }
+    ensures inside { GoesOnInside S.Store tx.old.conn tx.new.conn result }
     ensures due { Finds S.Store tx.old.conn.now tx.new.conn.now result (λ h numbers.
         numbers.items ≡ due_list h day caller.now) }
     ensures same { Keeps S.Store tx.old.conn.now tx.new.conn.now result }
@@ -87,10 +80,7 @@ pub fn due_list<S: Alter>(
     day: Day,
     caller: &str,
 ) -> Result<Answer, TableFault>
-    ensures same_reference { tx.new.conn.ghost_name ≡ tx.old.conn.ghost_name }
-    ensures stays { CommitsNothing S.Store tx.old.conn.now tx.new.conn.now }
-    ensures goes_on { Continues S.Store tx.old.conn.now tx.new.conn.now result }
-    ensures failure { IfErr result IsFailure }
+    ensures inside { GoesOnInside S.Store tx.old.conn tx.new.conn result }
     ensures decides { Decides S.Store tx.old.conn.now tx.new.conn.now result day caller.now requests.DueList }
     ensures same { Keeps S.Store tx.old.conn.now tx.new.conn.now result }
     ensures rows { Tells S.Store tx.old.conn.now tx.new.conn.now result (λ tables given.

@@ -1,12 +1,11 @@
 //! Downloads of files.
 
-ghost use Rattle.std.specs.Prelude.{◌≡◌, IfErr, None, Some, if◌then◌else◌, option_copied, option_map};
+ghost use Rattle.std.specs.Prelude.{◌≡◌, None, Some, if◌then◌else◌, option_copied, option_map};
 ghost use Rattle.jiff.specs.Types.{Date};
 ghost use Rattle.bag_text.specs.Paths.{is_good};
 ghost use Rattle.bag_text.specs.TransferForm.{content_at};
 ghost use Rattle.office_core.specs.declared.request.Request.TheVariants as requests;
-ghost use Rattle.office_tables.specs.Faults.{IsFailure};
-ghost use Rattle.office_tables.specs.Calls.{CommitsNothing, Continues, ContinuesInTurn, Keeps, Tells};
+ghost use Rattle.office_tables.specs.Calls.{GoesOnInTurn, GoesOnInside, Keeps, Tells};
 ghost use Rattle.office_history.specs.Histories.{Deposit, deposit_numbered, destruction_day};
 ghost use Rattle.office_history.specs.Answers.{file_answer};
 ghost use Rattle.office_asking.specs.Serving.{Finds, Decides};
@@ -38,10 +37,7 @@ fn content_of<S: Alter>(
     number: u32,
     path: &[u8],
 ) -> Result<Option<Vec<u8>>, TableFault>
-    ensures same_reference { tx.new.conn.ghost_name ≡ tx.old.conn.ghost_name }
-    ensures stays { CommitsNothing S.Store tx.old.conn.now tx.new.conn.now }
-    ensures goes_on { ContinuesInTurn S.Store tx.old.conn.now tx.new.conn.now result }
-    ensures failure { IfErr result IsFailure }
+    ensures inside { GoesOnInTurn S.Store tx.old.conn tx.new.conn result }
     ensures content { Finds S.Store tx.old.conn.now tx.new.conn.now result (λ h content.
         (found : Date × Deposit) → deposit_numbered h number ≡ Some found
         → destruction_day h number ≡ None
@@ -80,10 +76,7 @@ pub fn download_file<S: Alter>(
     number: u32,
     path: &[u8],
 ) -> Result<Answer, TableFault>
-    ensures same_reference { tx.new.conn.ghost_name ≡ tx.old.conn.ghost_name }
-    ensures stays { CommitsNothing S.Store tx.old.conn.now tx.new.conn.now }
-    ensures goes_on { Continues S.Store tx.old.conn.now tx.new.conn.now result }
-    ensures failure { IfErr result IsFailure }
+    ensures inside { GoesOnInside S.Store tx.old.conn tx.new.conn result }
     ensures decides { Decides S.Store tx.old.conn.now tx.new.conn.now result day caller.now
         (requests.DownloadFile number path.entry) }
     ensures same { Keeps S.Store tx.old.conn.now tx.new.conn.now result }

@@ -1,10 +1,9 @@
 //! The live holds that cover a deposit.
 
-ghost use Rattle.std.specs.Prelude.{◌≡◌, IfErr, map, pos};
+ghost use Rattle.std.specs.Prelude.{◌≡◌, map, pos};
 ghost use Rattle.std.specs.List.{filter_map};
 ghost use Rattle.office_core.specs.declared.request.Request.TheVariants as requests;
-ghost use Rattle.office_tables.specs.Faults.{IsFailure};
-ghost use Rattle.office_tables.specs.Calls.{CommitsNothing, Continues, ContinuesInTurn, Keeps, Tells};
+ghost use Rattle.office_tables.specs.Calls.{GoesOnInTurn, GoesOnInside, Keeps, Tells};
 ghost use Rattle.office_history.specs.Histories.{Deposit};
 ghost use Rattle.office_history.specs.Answers.{told_hold, told_holds};
 ghost use Rattle.office_asking.specs.Serving.{Finds, Decides};
@@ -22,10 +21,7 @@ fn told_each<S: Alter>(
     tx: &mut Transaction<'_, S>,
     numbers: &[u32],
 ) -> Result<Vec<LiveHold>, TableFault>
-    ensures same_reference { tx.new.conn.ghost_name ≡ tx.old.conn.ghost_name }
-    ensures stays { CommitsNothing S.Store tx.old.conn.now tx.new.conn.now }
-    ensures goes_on { ContinuesInTurn S.Store tx.old.conn.now tx.new.conn.now result }
-    ensures failure { IfErr result IsFailure }
+    ensures inside { GoesOnInTurn S.Store tx.old.conn tx.new.conn result }
     ensures told { Finds S.Store tx.old.conn.now tx.new.conn.now result (λ h told.
         told.items ≡ filter_map (told_hold h) numbers.now) }
     ensures same { Keeps S.Store tx.old.conn.now tx.new.conn.now result }
@@ -48,10 +44,7 @@ fn told_holds<S: Alter>(
     collection: &str,
     class: &str,
 ) -> Result<Vec<LiveHold>, TableFault>
-    ensures same_reference { tx.new.conn.ghost_name ≡ tx.old.conn.ghost_name }
-    ensures stays { CommitsNothing S.Store tx.old.conn.now tx.new.conn.now }
-    ensures goes_on { Continues S.Store tx.old.conn.now tx.new.conn.now result }
-    ensures failure { IfErr result IsFailure }
+    ensures inside { GoesOnInside S.Store tx.old.conn tx.new.conn result }
     ensures told { Finds S.Store tx.old.conn.now tx.new.conn.now result (λ h told.
         (deposit : Deposit) → deposit.collection ≡ collection.now → deposit.class ≡ class.now
         → told.items ≡ told_holds h number deposit) }
@@ -73,10 +66,7 @@ pub fn holds<S: Alter>(
     caller: &str,
     number: u32,
 ) -> Result<Answer, TableFault>
-    ensures same_reference { tx.new.conn.ghost_name ≡ tx.old.conn.ghost_name }
-    ensures stays { CommitsNothing S.Store tx.old.conn.now tx.new.conn.now }
-    ensures goes_on { Continues S.Store tx.old.conn.now tx.new.conn.now result }
-    ensures failure { IfErr result IsFailure }
+    ensures inside { GoesOnInside S.Store tx.old.conn tx.new.conn result }
     ensures decides { Decides S.Store tx.old.conn.now tx.new.conn.now result day caller.now
         (requests.Holds number) }
     ensures same { Keeps S.Store tx.old.conn.now tx.new.conn.now result }

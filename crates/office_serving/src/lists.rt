@@ -1,12 +1,11 @@
 //! Lists of deposits.
 
-ghost use Rattle.std.specs.Prelude.{◌≡◌, IfErr, List, Some, ℕ, option_copied};
+ghost use Rattle.std.specs.Prelude.{◌≡◌, List, Some, ℕ, option_copied};
 ghost use Rattle.jiff.specs.Types.{Date};
 ghost use Rattle.office_core.specs.declared.action.Action.TheVariants as acts;
 ghost use Rattle.office_core.specs.declared.request.Request.TheVariants as requests;
 ghost use Rattle.office_rows.specs.Rows.{beside};
-ghost use Rattle.office_tables.specs.Faults.{IsFailure};
-ghost use Rattle.office_tables.specs.Calls.{CommitsNothing, Continues, ContinuesInTurn, Keeps, Tells};
+ghost use Rattle.office_tables.specs.Calls.{GoesOnInTurn, GoesOnInside, Keeps, Tells};
 ghost use Rattle.office_history.specs.Histories.{Deposit, deposit_numbered};
 ghost use Rattle.office_history.specs.Pictures.{deposit_row, deposit_rows, due_row, due_rows};
 ghost use Rattle.office_history.specs.Answers.{is_asked, listed_records};
@@ -51,10 +50,7 @@ fn is_shown<'a, S: Alter>(
     class: Option<&Name<'_>>,
     row: &'a DepositRow,
 ) -> Result<bool, TableFault>
-    ensures same_reference { tx.new.conn.ghost_name ≡ tx.old.conn.ghost_name }
-    ensures stays { CommitsNothing S.Store tx.old.conn.now tx.new.conn.now }
-    ensures goes_on { ContinuesInTurn S.Store tx.old.conn.now tx.new.conn.now result }
-    ensures failure { IfErr result IsFailure }
+    ensures inside { GoesOnInTurn S.Store tx.old.conn tx.new.conn result }
     ensures shown { Finds S.Store tx.old.conn.now tx.new.conn.now result (λ h is.
         (day : Date) (caller : List ℕ) → AreOf h day caller acts.List allowances.old
         → AreOf h day caller acts.List allowances.new
@@ -88,10 +84,7 @@ fn shown_record<'a, S: Alter>(
     class: Option<&Name<'_>>,
     row: &'a DepositAndDue,
 ) -> Result<Option<DepositRecord>, TableFault>
-    ensures same_reference { tx.new.conn.ghost_name ≡ tx.old.conn.ghost_name }
-    ensures stays { CommitsNothing S.Store tx.old.conn.now tx.new.conn.now }
-    ensures goes_on { ContinuesInTurn S.Store tx.old.conn.now tx.new.conn.now result }
-    ensures failure { IfErr result IsFailure }
+    ensures inside { GoesOnInTurn S.Store tx.old.conn tx.new.conn result }
     ensures shown { Finds S.Store tx.old.conn.now tx.new.conn.now result (λ h told.
         (day : Date) (caller : List ℕ) → AreOf h day caller acts.List allowances.old
         → AreOf h day caller acts.List allowances.new
@@ -123,10 +116,7 @@ fn shown_among<S: Alter>(
     class: Option<&Name<'_>>,
     rows: &[DepositAndDue],
 ) -> Result<Vec<DepositRecord>, TableFault>
-    ensures same_reference { tx.new.conn.ghost_name ≡ tx.old.conn.ghost_name }
-    ensures stays { CommitsNothing S.Store tx.old.conn.now tx.new.conn.now }
-    ensures goes_on { ContinuesInTurn S.Store tx.old.conn.now tx.new.conn.now result }
-    ensures failure { IfErr result IsFailure }
+    ensures inside { GoesOnInTurn S.Store tx.old.conn tx.new.conn result }
     ensures listed { Finds S.Store tx.old.conn.now tx.new.conn.now result (λ h told.
         (day : Date) (caller : List ℕ) → IsAsker h day caller asker.now
         → rows.now ≡ beside (deposit_rows h) (due_rows h)
@@ -161,10 +151,7 @@ pub fn list<S: Alter>(
     collection: Option<&Name<'_>>,
     class: Option<&Name<'_>>,
 ) -> Result<Answer, TableFault>
-    ensures same_reference { tx.new.conn.ghost_name ≡ tx.old.conn.ghost_name }
-    ensures stays { CommitsNothing S.Store tx.old.conn.now tx.new.conn.now }
-    ensures goes_on { Continues S.Store tx.old.conn.now tx.new.conn.now result }
-    ensures failure { IfErr result IsFailure }
+    ensures inside { GoesOnInside S.Store tx.old.conn tx.new.conn result }
     ensures decides { Decides S.Store tx.old.conn.now tx.new.conn.now result day caller.now
         (requests.List (option_copied collection.entry) (option_copied class.entry)) }
     ensures same { Keeps S.Store tx.old.conn.now tx.new.conn.now result }

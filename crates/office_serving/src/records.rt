@@ -5,7 +5,7 @@ ghost use Rattle.jiff.specs.Types.{Date};
 ghost use Rattle.office_core.specs.declared.answer.DepositRecord.{DepositRecord};
 ghost use Rattle.office_core.specs.declared.request.Request.TheVariants as requests;
 ghost use Rattle.office_tables.specs.Faults.{IsFailure};
-ghost use Rattle.office_tables.specs.Calls.{CommitsNothing, Continues, Keeps, Tells};
+ghost use Rattle.office_tables.specs.Calls.{GoesOnInside, Keeps, Tells};
 ghost use Rattle.office_tables.specs.declared.fault.TableFault.TheVariants.{Memory};
 ghost use Rattle.office_history.specs.Histories.{Deposit, deposit_numbered};
 ghost use Rattle.office_history.specs.Pictures.{deposit_row};
@@ -67,10 +67,7 @@ fn record_of<S: Alter>(
     tx: &mut Transaction<'_, S>,
     row: &DepositRow,
 ) -> Result<DepositRecord, TableFault>
-    ensures same_reference { tx.new.conn.ghost_name ≡ tx.old.conn.ghost_name }
-    ensures stays { CommitsNothing S.Store tx.old.conn.now tx.new.conn.now }
-    ensures goes_on { Continues S.Store tx.old.conn.now tx.new.conn.now result }
-    ensures failure { IfErr result IsFailure }
+    ensures inside { GoesOnInside S.Store tx.old.conn tx.new.conn result }
     ensures told { Finds S.Store tx.old.conn.now tx.new.conn.now result (λ h told.
         (n : ℕ) (found : Date × Deposit) → deposit_numbered h n ≡ Some found
         → row.now ≡ deposit_row h n found → told ≡ record_of h n found) }
@@ -92,10 +89,7 @@ pub fn record<S: Alter>(
     caller: &str,
     number: u32,
 ) -> Result<Answer, TableFault>
-    ensures same_reference { tx.new.conn.ghost_name ≡ tx.old.conn.ghost_name }
-    ensures stays { CommitsNothing S.Store tx.old.conn.now tx.new.conn.now }
-    ensures goes_on { Continues S.Store tx.old.conn.now tx.new.conn.now result }
-    ensures failure { IfErr result IsFailure }
+    ensures inside { GoesOnInside S.Store tx.old.conn tx.new.conn result }
     ensures decides { Decides S.Store tx.old.conn.now tx.new.conn.now result day caller.now
         (requests.Record number) }
     ensures same { Keeps S.Store tx.old.conn.now tx.new.conn.now result }

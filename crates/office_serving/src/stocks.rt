@@ -1,8 +1,7 @@
 //! The stock of an office: the contents that it keeps, each once.
 
-ghost use Rattle.std.specs.Prelude.{◌≡◌, ℕ, List, IfErr, IfSome, map, pos, sum};
-ghost use Rattle.office_tables.specs.Faults.{IsFailure};
-ghost use Rattle.office_tables.specs.Calls.{CommitsNothing, Continues, Keeps};
+ghost use Rattle.std.specs.Prelude.{◌≡◌, ℕ, List, IfSome, map, pos, sum};
+ghost use Rattle.office_tables.specs.Calls.{GoesOnInside, Keeps};
 ghost use Rattle.office_tables.specs.Contents.{Does};
 ghost use Rattle.office_history.specs.Stocks.{stock};
 ghost use Rattle.office_asking.specs.Serving.{Finds};
@@ -56,10 +55,7 @@ fn total_of(sizes: &[ContentSize]) -> Option<usize>
 ///
 /// Fails with `Memory` or `Store`.
 pub fn stock_of<S: Alter>(alloc: Global, tx: &mut Transaction<'_, S>) -> Result<Stock, TableFault>
-    ensures same_reference { tx.new.conn.ghost_name ≡ tx.old.conn.ghost_name }
-    ensures stays { CommitsNothing S.Store tx.old.conn.now tx.new.conn.now }
-    ensures goes_on { Continues S.Store tx.old.conn.now tx.new.conn.now result }
-    ensures failure { IfErr result IsFailure }
+    ensures inside { GoesOnInside S.Store tx.old.conn tx.new.conn result }
     ensures stock { Finds S.Store tx.old.conn.now tx.new.conn.now result (λ h found.
         found ≡ stock h) }
     ensures same { Keeps S.Store tx.old.conn.now tx.new.conn.now result }

@@ -1,12 +1,15 @@
 -- What a call inside a transaction does to its connection, and what it says of the rows. `old` is the connection before it and `new`
 -- the connection after it. What is said of rows is said of Ok, where the disk is honest and the database was an office's: both are
 -- premises.
-use Rattle.std.specs.Prelude.{Result, IfOk, OnOk, ◌≡◌}
+use Rattle.std.specs.Prelude.{Result, IfOk, IfErr, OnOk, ◌≡◌}
+use Rattle.std.specs.Borrow.{MutBor}
 use Rattle.sqlite.specs.Store.{Ghosts}
 use Rattle.sqlite.specs.State.{HasCleanDisk}
 use Rattle.sqlite.specs.Held.{Held, state}
 use Rattle.sql_meaning.specs.Inside.{Stays, GoesOn, Stands}
 use Rattle.office_rows.specs.Rows.{Tables}
+use Rattle.office_tables.specs.Faults.{IsFailure}
+use Rattle.office_tables.specs.declared.fault.TableFault.{TableFault}
 use Rattle.office_tables.specs.Tables.{IsOffice, Becomes, tables_of}
 
 -- ---- the connection
@@ -22,6 +25,20 @@ Continues g old new result = HasCleanDisk (state g new) → OnOk result (GoesOn 
 -- the same of calls in turn, of which there may be none
 abbrev pub ContinuesInTurn : {S T E : Type 0} → Ghosts S → Held S → Held S → Result T E → Type 0
 ContinuesInTurn g old new result = HasCleanDisk (state g new) → OnOk result (Stands (state g old) (state g new))
+
+-- what each call inside a transaction keeps, and how it fails
+pub record GoesOnInside {S T : Type 0} (g : Ghosts S) (old new : MutBor (Held S)) (result : Result T TableFault) : Type 0 where
+  pub same_reference : new.ghost_name ≡ old.ghost_name
+  pub stays : CommitsNothing g old.now new.now
+  pub goes_on : Continues g old.now new.now result
+  pub failure : IfErr result IsFailure
+
+-- the same of calls in turn, of which there may be none
+pub record GoesOnInTurn {S T : Type 0} (g : Ghosts S) (old new : MutBor (Held S)) (result : Result T TableFault) : Type 0 where
+  pub same_reference : new.ghost_name ≡ old.ghost_name
+  pub stays : CommitsNothing g old.now new.now
+  pub goes_on : ContinuesInTurn g old.now new.now result
+  pub failure : IfErr result IsFailure
 
 -- ---- the rows
 

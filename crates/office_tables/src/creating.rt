@@ -8,7 +8,7 @@ ghost use Rattle.sqlite.specs.Held.{state};
 ghost use Rattle.sql_meaning.specs.Making.{Builds};
 ghost use Rattle.sql_meaning.specs.Growing.{Grows};
 ghost use Rattle.sql_meaning.specs.Whole.{IsBlank, IsWhole};
-ghost use Rattle.office_tables.specs.Calls.{CommitsNothing, Continues, ContinuesInTurn};
+ghost use Rattle.office_tables.specs.Calls.{GoesOnInTurn, GoesOnInside};
 ghost use Rattle.office_tables.specs.Faults.{IsFailure};
 ghost use Rattle.office_tables.specs.Schema.{no_schema, office_schema};
 ghost use Rattle.office_rows.specs.Rows.{this_version, empty_office, IsLimit};
@@ -26,10 +26,7 @@ pub(crate) fn define<S: Alter>(
     tx: &mut Transaction<'_, S>,
     texts: &[&str],
 ) -> Result<(), TableFault>
-    ensures same_reference { tx.new.conn.ghost_name ≡ tx.old.conn.ghost_name }
-    ensures stays { CommitsNothing S.Store tx.old.conn.now tx.new.conn.now }
-    ensures goes_on { ContinuesInTurn S.Store tx.old.conn.now tx.new.conn.now result }
-    ensures failure { IfErr result IsFailure }
+    ensures inside { GoesOnInTurn S.Store tx.old.conn tx.new.conn result }
     ensures made { HasCleanDisk (state S.Store tx.new.conn.now)
         → OnOk result
         ((before after : Schema) → Builds before (map (λ t. t.now) texts.now) after
@@ -50,10 +47,7 @@ pub(crate) fn define<S: Alter>(
 
 /// Makes the eleven tables and their indexes in an empty database, in the order in which versions came to have them.
 fn define_tables<S: Alter>(tx: &mut Transaction<'_, S>) -> Result<(), TableFault>
-    ensures same_reference { tx.new.conn.ghost_name ≡ tx.old.conn.ghost_name }
-    ensures stays { CommitsNothing S.Store tx.old.conn.now tx.new.conn.now }
-    ensures goes_on { ContinuesInTurn S.Store tx.old.conn.now tx.new.conn.now result }
-    ensures failure { IfErr result IsFailure }
+    ensures inside { GoesOnInTurn S.Store tx.old.conn tx.new.conn result }
     ensures made { HasCleanDisk (state S.Store tx.new.conn.now)
         → (state S.Store tx.old.conn.now).now.schema ≡ no_schema
         → OnOk result (IsBlank office_schema (state S.Store tx.new.conn.now).now) }
@@ -90,10 +84,7 @@ fn start<S: Alter>(
     max_deposits: u32,
     max_holds: u32,
 ) -> Result<usize, TableFault>
-    ensures same_reference { tx.new.conn.ghost_name ≡ tx.old.conn.ghost_name }
-    ensures stays { CommitsNothing S.Store tx.old.conn.now tx.new.conn.now }
-    ensures goes_on { Continues S.Store tx.old.conn.now tx.new.conn.now result }
-    ensures failure { IfErr result IsFailure }
+    ensures inside { GoesOnInside S.Store tx.old.conn tx.new.conn result }
     ensures becomes { HasCleanDisk (state S.Store tx.new.conn.now)
         → IsBlank office_schema (state S.Store tx.old.conn.now).now
         → OnOk result
@@ -116,10 +107,7 @@ fn make_office<S: Alter>(
     max_deposits: u32,
     max_holds: u32,
 ) -> Result<(), TableFault>
-    ensures same_reference { tx.new.conn.ghost_name ≡ tx.old.conn.ghost_name }
-    ensures stays { CommitsNothing S.Store tx.old.conn.now tx.new.conn.now }
-    ensures goes_on { ContinuesInTurn S.Store tx.old.conn.now tx.new.conn.now result }
-    ensures failure { IfErr result IsFailure }
+    ensures inside { GoesOnInTurn S.Store tx.old.conn tx.new.conn result }
     ensures opened { HasCleanDisk (state S.Store tx.new.conn.now)
         → OnOk result (IsTrue (state S.Store tx.new.conn.now).is_open) }
     ensures becomes { HasCleanDisk (state S.Store tx.new.conn.now)

@@ -7,7 +7,7 @@ ghost use Rattle.office_tables.specs.Faults.{IsFailure};
 ghost use Rattle.office_rows.specs.Rows.{beside, due_numbered, with_due, with_holds, with_more_holds, with_more_holds_class};
 ghost use Rattle.office_rows.specs.Told.{due_places, class_closings};
 ghost use Rattle.office_tables.specs.Tables.{IsOffice, Becomes, tables_of};
-ghost use Rattle.office_tables.specs.Calls.{CommitsNothing, Continues, Keeps, Tells, Shows, Writes};
+ghost use Rattle.office_tables.specs.Calls.{GoesOnInside, Keeps, Shows, Tells, Writes};
 ghost use Rattle.office_tables.specs.Contents.{LeavesOnce};
 ghost use Rattle.office_tables.specs.Dues.{shown_due, shown_beside, shown_place, shown_closing, FitMore};
 
@@ -98,10 +98,7 @@ impl Model for ClosingRow {
 
 /// The row that shows what is kept of the deposit of that number, if there is one.
 fn rows_of_due<S: Alter>(tx: &mut Transaction<'_, S>, number: u32) -> Result<Vec<Row>, TableFault>
-    ensures same_reference { tx.new.conn.ghost_name ≡ tx.old.conn.ghost_name }
-    ensures stays { CommitsNothing S.Store tx.old.conn.now tx.new.conn.now }
-    ensures goes_on { Continues S.Store tx.old.conn.now tx.new.conn.now result }
-    ensures failure { IfErr result IsFailure }
+    ensures inside { GoesOnInside S.Store tx.old.conn tx.new.conn result }
     ensures found { Shows S.Store tx.old.conn.now tx.new.conn.now result (λ tables rows.
         due_numbered (pos number) tables.dues ≡ option_map shown_due (slice_get rows.items 0)) }
 {
@@ -130,10 +127,7 @@ pub fn due_row<S: Alter>(
     tx: &mut Transaction<'_, S>,
     number: u32,
 ) -> Result<Option<DueRow>, TableFault>
-    ensures same_reference { tx.new.conn.ghost_name ≡ tx.old.conn.ghost_name }
-    ensures stays { CommitsNothing S.Store tx.old.conn.now tx.new.conn.now }
-    ensures goes_on { Continues S.Store tx.old.conn.now tx.new.conn.now result }
-    ensures failure { IfErr result IsFailure }
+    ensures inside { GoesOnInside S.Store tx.old.conn tx.new.conn result }
     ensures same { Keeps S.Store tx.old.conn.now tx.new.conn.now result }
     ensures found { Tells S.Store tx.old.conn.now tx.new.conn.now result (λ tables found.
         found ≡ due_numbered (pos number) tables.dues) }
@@ -147,10 +141,7 @@ pub fn due_row<S: Alter>(
 
 /// The rows that show every deposit with what is kept beside it, by number.
 fn rows_beside<S: Alter>(tx: &mut Transaction<'_, S>) -> Result<Vec<Row>, TableFault>
-    ensures same_reference { tx.new.conn.ghost_name ≡ tx.old.conn.ghost_name }
-    ensures stays { CommitsNothing S.Store tx.old.conn.now tx.new.conn.now }
-    ensures goes_on { Continues S.Store tx.old.conn.now tx.new.conn.now result }
-    ensures failure { IfErr result IsFailure }
+    ensures inside { GoesOnInside S.Store tx.old.conn tx.new.conn result }
     ensures found { Shows S.Store tx.old.conn.now tx.new.conn.now result (λ tables rows.
         beside tables.deposits tables.dues ≡ map shown_beside rows.items) }
 {
@@ -195,10 +186,7 @@ pub fn deposits_and_dues<S: Alter>(
     alloc: Global,
     tx: &mut Transaction<'_, S>,
 ) -> Result<Vec<DepositAndDue>, TableFault>
-    ensures same_reference { tx.new.conn.ghost_name ≡ tx.old.conn.ghost_name }
-    ensures stays { CommitsNothing S.Store tx.old.conn.now tx.new.conn.now }
-    ensures goes_on { Continues S.Store tx.old.conn.now tx.new.conn.now result }
-    ensures failure { IfErr result IsFailure }
+    ensures inside { GoesOnInside S.Store tx.old.conn tx.new.conn result }
     ensures same { Keeps S.Store tx.old.conn.now tx.new.conn.now result }
     ensures found { Tells S.Store tx.old.conn.now tx.new.conn.now result (λ tables rows.
         rows.items ≡ beside tables.deposits tables.dues) }
@@ -209,10 +197,7 @@ pub fn deposits_and_dues<S: Alter>(
 
 /// Sets the day from which the deposit of that number may be destroyed.
 fn set_day<S: Alter>(tx: &mut Transaction<'_, S>, number: u32, day: i64) -> Result<(), TableFault>
-    ensures same_reference { tx.new.conn.ghost_name ≡ tx.old.conn.ghost_name }
-    ensures stays { CommitsNothing S.Store tx.old.conn.now tx.new.conn.now }
-    ensures goes_on { Continues S.Store tx.old.conn.now tx.new.conn.now result }
-    ensures failure { IfErr result IsFailure }
+    ensures inside { GoesOnInside S.Store tx.old.conn tx.new.conn result }
     ensures becomes { Writes S.Store tx.old.conn.now tx.new.conn.now result
         (with_due (pos number) (Some day)) }
     ensures once { LeavesOnce S.Store tx.old.conn.now tx.new.conn.now result }
@@ -227,10 +212,7 @@ fn set_day<S: Alter>(tx: &mut Transaction<'_, S>, number: u32, day: i64) -> Resu
 
 /// Notes that the deposit of that number is kept permanently.
 fn clear_day<S: Alter>(tx: &mut Transaction<'_, S>, number: u32) -> Result<(), TableFault>
-    ensures same_reference { tx.new.conn.ghost_name ≡ tx.old.conn.ghost_name }
-    ensures stays { CommitsNothing S.Store tx.old.conn.now tx.new.conn.now }
-    ensures goes_on { Continues S.Store tx.old.conn.now tx.new.conn.now result }
-    ensures failure { IfErr result IsFailure }
+    ensures inside { GoesOnInside S.Store tx.old.conn tx.new.conn result }
     ensures becomes { Writes S.Store tx.old.conn.now tx.new.conn.now result
         (with_due (pos number) None) }
     ensures once { LeavesOnce S.Store tx.old.conn.now tx.new.conn.now result }
@@ -252,10 +234,7 @@ pub fn set_due<S: Alter>(
     number: u32,
     due: Option<i64>,
 ) -> Result<(), TableFault>
-    ensures same_reference { tx.new.conn.ghost_name ≡ tx.old.conn.ghost_name }
-    ensures stays { CommitsNothing S.Store tx.old.conn.now tx.new.conn.now }
-    ensures goes_on { Continues S.Store tx.old.conn.now tx.new.conn.now result }
-    ensures failure { IfErr result IsFailure }
+    ensures inside { GoesOnInside S.Store tx.old.conn tx.new.conn result }
     ensures becomes { Writes S.Store tx.old.conn.now tx.new.conn.now result
         (with_due (pos number) due) }
     ensures once { LeavesOnce S.Store tx.old.conn.now tx.new.conn.now result }
@@ -275,10 +254,7 @@ pub fn set_holds<S: Alter>(
     number: u32,
     holds: i64,
 ) -> Result<(), TableFault>
-    ensures same_reference { tx.new.conn.ghost_name ≡ tx.old.conn.ghost_name }
-    ensures stays { CommitsNothing S.Store tx.old.conn.now tx.new.conn.now }
-    ensures goes_on { Continues S.Store tx.old.conn.now tx.new.conn.now result }
-    ensures failure { IfErr result IsFailure }
+    ensures inside { GoesOnInside S.Store tx.old.conn tx.new.conn result }
     ensures becomes { Writes S.Store tx.old.conn.now tx.new.conn.now result
         (with_holds (pos number) holds) }
     ensures once { LeavesOnce S.Store tx.old.conn.now tx.new.conn.now result }
@@ -299,10 +275,7 @@ pub fn add_holds<S: Alter>(
     collection: &str,
     by: i64,
 ) -> Result<(), TableFault>
-    ensures same_reference { tx.new.conn.ghost_name ≡ tx.old.conn.ghost_name }
-    ensures stays { CommitsNothing S.Store tx.old.conn.now tx.new.conn.now }
-    ensures goes_on { Continues S.Store tx.old.conn.now tx.new.conn.now result }
-    ensures failure { IfErr result IsFailure }
+    ensures inside { GoesOnInside S.Store tx.old.conn tx.new.conn result }
     ensures becomes { HasCleanDisk (state S.Store tx.new.conn.now)
         → IsOffice (state S.Store tx.old.conn.now).now
         → FitMore by (tables_of (state S.Store tx.old.conn.now).now).dues
@@ -327,10 +300,7 @@ pub fn add_holds_class<S: Alter>(
     class: &str,
     by: i64,
 ) -> Result<(), TableFault>
-    ensures same_reference { tx.new.conn.ghost_name ≡ tx.old.conn.ghost_name }
-    ensures stays { CommitsNothing S.Store tx.old.conn.now tx.new.conn.now }
-    ensures goes_on { Continues S.Store tx.old.conn.now tx.new.conn.now result }
-    ensures failure { IfErr result IsFailure }
+    ensures inside { GoesOnInside S.Store tx.old.conn tx.new.conn result }
     ensures becomes { HasCleanDisk (state S.Store tx.new.conn.now)
         → IsOffice (state S.Store tx.old.conn.now).now
         → FitMore by (tables_of (state S.Store tx.old.conn.now).now).dues
@@ -349,10 +319,7 @@ pub fn add_holds_class<S: Alter>(
 
 /// The rows that show the deposits that may be destroyed on that day, whatever the rules of the policy say.
 fn rows_due<S: Alter>(tx: &mut Transaction<'_, S>, day: i64) -> Result<Vec<Row>, TableFault>
-    ensures same_reference { tx.new.conn.ghost_name ≡ tx.old.conn.ghost_name }
-    ensures stays { CommitsNothing S.Store tx.old.conn.now tx.new.conn.now }
-    ensures goes_on { Continues S.Store tx.old.conn.now tx.new.conn.now result }
-    ensures failure { IfErr result IsFailure }
+    ensures inside { GoesOnInside S.Store tx.old.conn tx.new.conn result }
     ensures found { Shows S.Store tx.old.conn.now tx.new.conn.now result (λ tables rows.
         due_places day tables ≡ map shown_place rows.items) }
 {
@@ -394,10 +361,7 @@ pub fn due_rows<S: Alter>(
     tx: &mut Transaction<'_, S>,
     day: i64,
 ) -> Result<Vec<PlaceRow>, TableFault>
-    ensures same_reference { tx.new.conn.ghost_name ≡ tx.old.conn.ghost_name }
-    ensures stays { CommitsNothing S.Store tx.old.conn.now tx.new.conn.now }
-    ensures goes_on { Continues S.Store tx.old.conn.now tx.new.conn.now result }
-    ensures failure { IfErr result IsFailure }
+    ensures inside { GoesOnInside S.Store tx.old.conn tx.new.conn result }
     ensures same { Keeps S.Store tx.old.conn.now tx.new.conn.now result }
     ensures found { Tells S.Store tx.old.conn.now tx.new.conn.now result (λ tables places.
         places.items ≡ due_places day tables) }
@@ -408,10 +372,7 @@ pub fn due_rows<S: Alter>(
 
 /// The rows that show the deposits of the class.
 fn rows_closed<S: Alter>(tx: &mut Transaction<'_, S>, class: &str) -> Result<Vec<Row>, TableFault>
-    ensures same_reference { tx.new.conn.ghost_name ≡ tx.old.conn.ghost_name }
-    ensures stays { CommitsNothing S.Store tx.old.conn.now tx.new.conn.now }
-    ensures goes_on { Continues S.Store tx.old.conn.now tx.new.conn.now result }
-    ensures failure { IfErr result IsFailure }
+    ensures inside { GoesOnInside S.Store tx.old.conn tx.new.conn result }
     ensures found { Shows S.Store tx.old.conn.now tx.new.conn.now result (λ tables rows.
         class_closings class.now tables ≡ map shown_closing rows.items) }
 {
@@ -451,10 +412,7 @@ pub fn rows_of_class<S: Alter>(
     tx: &mut Transaction<'_, S>,
     class: &str,
 ) -> Result<Vec<ClosingRow>, TableFault>
-    ensures same_reference { tx.new.conn.ghost_name ≡ tx.old.conn.ghost_name }
-    ensures stays { CommitsNothing S.Store tx.old.conn.now tx.new.conn.now }
-    ensures goes_on { Continues S.Store tx.old.conn.now tx.new.conn.now result }
-    ensures failure { IfErr result IsFailure }
+    ensures inside { GoesOnInside S.Store tx.old.conn tx.new.conn result }
     ensures same { Keeps S.Store tx.old.conn.now tx.new.conn.now result }
     ensures found { Tells S.Store tx.old.conn.now tx.new.conn.now result (λ tables closings.
         closings.items ≡ class_closings class.now tables) }

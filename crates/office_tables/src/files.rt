@@ -1,13 +1,12 @@
 //! The files of deposits.
 
-ghost use Rattle.std.specs.Prelude.{◌≡◌, true, IfErr, None, Some, pos, map, option_map, slice_get};
+ghost use Rattle.std.specs.Prelude.{◌≡◌, true, None, Some, pos, map, option_map, slice_get};
 ghost use Rattle.std.specs.Ordering.{int_eq};
 ghost use Rattle.sha2.specs.Sha256.{sha256};
 ghost use Rattle.sqlite_rules.specs.Lists.{Has};
 ghost use Rattle.sql_meaning.specs.Columns.{int_at};
-ghost use Rattle.office_tables.specs.Faults.{IsFailure};
 ghost use Rattle.office_rows.specs.Rows.{bytes_under, file_at, with_content, with_file, without_files};
-ghost use Rattle.office_tables.specs.Calls.{CommitsNothing, Continues, ContinuesInTurn, Keeps, Tells, Shows, Writes};
+ghost use Rattle.office_tables.specs.Calls.{GoesOnInTurn, GoesOnInside, Keeps, Shows, Tells, Writes};
 ghost use Rattle.office_tables.specs.Tables.{contents_of, tables_of};
 ghost use Rattle.office_tables.specs.Contents.{AreFilesDropped, AreUsed, Does, IsFileAdded, IsMarkedPut, LeavesOnce, StandOnce, references_of};
 ghost use Rattle.std.specs.List.{AllByRecursion};
@@ -51,10 +50,7 @@ fn add_file<S: Alter>(
     path: &str,
     id: i64,
 ) -> Result<usize, TableFault>
-    ensures same_reference { tx.new.conn.ghost_name ≡ tx.old.conn.ghost_name }
-    ensures stays { CommitsNothing S.Store tx.old.conn.now tx.new.conn.now }
-    ensures goes_on { Continues S.Store tx.old.conn.now tx.new.conn.now result }
-    ensures failure { IfErr result IsFailure }
+    ensures inside { GoesOnInside S.Store tx.old.conn tx.new.conn result }
     ensures added { Does S.Store tx.old.conn.now tx.new.conn.now result (λ old new _.
         IsFileAdded (pos number) path.now id old new) }
 {
@@ -73,10 +69,7 @@ fn put_kept<S: Alter>(
     mark: &[u8],
     content: &[u8],
 ) -> Result<usize, TableFault>
-    ensures same_reference { tx.new.conn.ghost_name ≡ tx.old.conn.ghost_name }
-    ensures stays { CommitsNothing S.Store tx.old.conn.now tx.new.conn.now }
-    ensures goes_on { Continues S.Store tx.old.conn.now tx.new.conn.now result }
-    ensures failure { IfErr result IsFailure }
+    ensures inside { GoesOnInside S.Store tx.old.conn tx.new.conn result }
     ensures put { Does S.Store tx.old.conn.now tx.new.conn.now result (λ old new _.
         IsMarkedPut (pos number) path.now mark.now content.now old new) }
 {
@@ -94,10 +87,7 @@ pub fn put_marked<S: Alter>(
     mark: &[u8; 32],
     content: &[u8],
 ) -> Result<(), TableFault>
-    ensures same_reference { tx.new.conn.ghost_name ≡ tx.old.conn.ghost_name }
-    ensures stays { CommitsNothing S.Store tx.old.conn.now tx.new.conn.now }
-    ensures goes_on { Continues S.Store tx.old.conn.now tx.new.conn.now result }
-    ensures failure { IfErr result IsFailure }
+    ensures inside { GoesOnInside S.Store tx.old.conn tx.new.conn result }
     ensures becomes { Writes S.Store tx.old.conn.now tx.new.conn.now result
         (with_file (record { deposit = pos number; path = path.now; content = content.now })) }
     ensures new_path { Tells S.Store tx.old.conn.now tx.new.conn.now result (λ tables _.
@@ -124,10 +114,7 @@ pub fn put_file<S: Alter>(
     path: &str,
     content: &[u8],
 ) -> Result<(), TableFault>
-    ensures same_reference { tx.new.conn.ghost_name ≡ tx.old.conn.ghost_name }
-    ensures stays { CommitsNothing S.Store tx.old.conn.now tx.new.conn.now }
-    ensures goes_on { Continues S.Store tx.old.conn.now tx.new.conn.now result }
-    ensures failure { IfErr result IsFailure }
+    ensures inside { GoesOnInside S.Store tx.old.conn tx.new.conn result }
     ensures becomes { Writes S.Store tx.old.conn.now tx.new.conn.now result
         (with_file (record { deposit = pos number; path = path.now; content = content.now })) }
     ensures new_path { Tells S.Store tx.old.conn.now tx.new.conn.now result (λ tables _.
@@ -150,10 +137,7 @@ fn rows_of_file<S: Alter>(
     number: u32,
     path: &str,
 ) -> Result<Vec<Row>, TableFault>
-    ensures same_reference { tx.new.conn.ghost_name ≡ tx.old.conn.ghost_name }
-    ensures stays { CommitsNothing S.Store tx.old.conn.now tx.new.conn.now }
-    ensures goes_on { Continues S.Store tx.old.conn.now tx.new.conn.now result }
-    ensures failure { IfErr result IsFailure }
+    ensures inside { GoesOnInside S.Store tx.old.conn tx.new.conn result }
     ensures found { Does S.Store tx.old.conn.now tx.new.conn.now result (λ old new rows.
         (new ≡ old)
         × (option_map (λ f. f.content) (file_at (pos number) path.now (tables_of old).files)
@@ -169,10 +153,7 @@ fn rows_of_file<S: Alter>(
 
 /// The content whose number a row shows.
 fn content_in<S: Alter>(tx: &mut Transaction<'_, S>, row: &Row) -> Result<Vec<u8>, TableFault>
-    ensures same_reference { tx.new.conn.ghost_name ≡ tx.old.conn.ghost_name }
-    ensures stays { CommitsNothing S.Store tx.old.conn.now tx.new.conn.now }
-    ensures goes_on { Continues S.Store tx.old.conn.now tx.new.conn.now result }
-    ensures failure { IfErr result IsFailure }
+    ensures inside { GoesOnInside S.Store tx.old.conn tx.new.conn result }
     ensures found { Does S.Store tx.old.conn.now tx.new.conn.now result (λ old new content.
         (new ≡ old) × (content.items ≡ bytes_under (contents_of old) (int_at row.now 0))) }
 {
@@ -191,10 +172,7 @@ pub fn file_of<S: Alter>(
     number: u32,
     path: &str,
 ) -> Result<Option<Vec<u8>>, TableFault>
-    ensures same_reference { tx.new.conn.ghost_name ≡ tx.old.conn.ghost_name }
-    ensures stays { CommitsNothing S.Store tx.old.conn.now tx.new.conn.now }
-    ensures goes_on { Continues S.Store tx.old.conn.now tx.new.conn.now result }
-    ensures failure { IfErr result IsFailure }
+    ensures inside { GoesOnInside S.Store tx.old.conn tx.new.conn result }
     ensures same { Keeps S.Store tx.old.conn.now tx.new.conn.now result }
     ensures found { Tells S.Store tx.old.conn.now tx.new.conn.now result (λ tables found.
         option_map (λ content. content.items) found
@@ -209,10 +187,7 @@ pub fn file_of<S: Alter>(
 
 /// Rows that show the numbers of the contents of the deposit's files.
 fn rows_of_ids<S: Alter>(tx: &mut Transaction<'_, S>, number: u32) -> Result<Vec<Row>, TableFault>
-    ensures same_reference { tx.new.conn.ghost_name ≡ tx.old.conn.ghost_name }
-    ensures stays { CommitsNothing S.Store tx.old.conn.now tx.new.conn.now }
-    ensures goes_on { Continues S.Store tx.old.conn.now tx.new.conn.now result }
-    ensures failure { IfErr result IsFailure }
+    ensures inside { GoesOnInside S.Store tx.old.conn tx.new.conn result }
     ensures found { Does S.Store tx.old.conn.now tx.new.conn.now result (λ old new rows.
         (new ≡ old)
         × ((r : _) → Has (old.trees 10) r → int_eq (int_at r 1) (pos number) ≡ true
@@ -227,10 +202,7 @@ fn rows_of_ids<S: Alter>(tx: &mut Transaction<'_, S>, number: u32) -> Result<Vec
 
 /// Takes out the files of the deposit, and leaves their contents.
 fn drop_rows<S: Alter>(tx: &mut Transaction<'_, S>, number: u32) -> Result<usize, TableFault>
-    ensures same_reference { tx.new.conn.ghost_name ≡ tx.old.conn.ghost_name }
-    ensures stays { CommitsNothing S.Store tx.old.conn.now tx.new.conn.now }
-    ensures goes_on { Continues S.Store tx.old.conn.now tx.new.conn.now result }
-    ensures failure { IfErr result IsFailure }
+    ensures inside { GoesOnInside S.Store tx.old.conn tx.new.conn result }
     ensures dropped { Does S.Store tx.old.conn.now tx.new.conn.now result (λ old new _.
         AreFilesDropped (pos number) old new) }
 {
@@ -241,10 +213,7 @@ fn drop_rows<S: Alter>(tx: &mut Transaction<'_, S>, number: u32) -> Result<usize
 ///
 /// Fails with `Memory` or `Store`.
 pub fn drop_files<S: Alter>(tx: &mut Transaction<'_, S>, number: u32) -> Result<(), TableFault>
-    ensures same_reference { tx.new.conn.ghost_name ≡ tx.old.conn.ghost_name }
-    ensures stays { CommitsNothing S.Store tx.old.conn.now tx.new.conn.now }
-    ensures goes_on { Continues S.Store tx.old.conn.now tx.new.conn.now result }
-    ensures failure { IfErr result IsFailure }
+    ensures inside { GoesOnInside S.Store tx.old.conn tx.new.conn result }
     ensures becomes { Writes S.Store tx.old.conn.now tx.new.conn.now result
         (without_files (pos number)) }
     ensures used { Does S.Store tx.old.conn.now tx.new.conn.now result (λ old new _.
@@ -260,10 +229,7 @@ pub fn drop_files<S: Alter>(tx: &mut Transaction<'_, S>, number: u32) -> Result<
 
 /// The rows that show the paths of the files of the deposit, ascending.
 fn rows_of_paths<S: Alter>(tx: &mut Transaction<'_, S>, number: u32) -> Result<Vec<Row>, TableFault>
-    ensures same_reference { tx.new.conn.ghost_name ≡ tx.old.conn.ghost_name }
-    ensures stays { CommitsNothing S.Store tx.old.conn.now tx.new.conn.now }
-    ensures goes_on { Continues S.Store tx.old.conn.now tx.new.conn.now result }
-    ensures failure { IfErr result IsFailure }
+    ensures inside { GoesOnInside S.Store tx.old.conn tx.new.conn result }
     ensures found { Shows S.Store tx.old.conn.now tx.new.conn.now result (λ tables rows.
         map (λ f. f.path) (files_by_path (pos number) tables) ≡ map shown_path rows.items) }
 {
@@ -280,10 +246,7 @@ fn file_at<S: Alter>(
     number: u32,
     row: &Row,
 ) -> Result<FileRow, TableFault>
-    ensures same_reference { tx.new.conn.ghost_name ≡ tx.old.conn.ghost_name }
-    ensures stays { CommitsNothing S.Store tx.old.conn.now tx.new.conn.now }
-    ensures goes_on { Continues S.Store tx.old.conn.now tx.new.conn.now result }
-    ensures failure { IfErr result IsFailure }
+    ensures inside { GoesOnInside S.Store tx.old.conn tx.new.conn result }
     ensures same { Keeps S.Store tx.old.conn.now tx.new.conn.now result }
     ensures found { Tells S.Store tx.old.conn.now tx.new.conn.now result (λ tables file.
         Some file ≡ file_at (pos number) (shown_path row.now) tables.files) }
@@ -307,10 +270,7 @@ fn files_at<S: Alter>(
     number: u32,
     rows: &[Row],
 ) -> Result<Vec<FileRow>, TableFault>
-    ensures same_reference { tx.new.conn.ghost_name ≡ tx.old.conn.ghost_name }
-    ensures stays { CommitsNothing S.Store tx.old.conn.now tx.new.conn.now }
-    ensures goes_on { ContinuesInTurn S.Store tx.old.conn.now tx.new.conn.now result }
-    ensures failure { IfErr result IsFailure }
+    ensures inside { GoesOnInTurn S.Store tx.old.conn tx.new.conn result }
     ensures found { Shows S.Store tx.old.conn.now tx.new.conn.now result (λ tables files.
         map Some files.items
         ≡ map (λ row. file_at (pos number) (shown_path row) tables.files) rows.now) }
@@ -330,10 +290,7 @@ pub fn files_of<S: Alter>(
     tx: &mut Transaction<'_, S>,
     number: u32,
 ) -> Result<Vec<FileRow>, TableFault>
-    ensures same_reference { tx.new.conn.ghost_name ≡ tx.old.conn.ghost_name }
-    ensures stays { CommitsNothing S.Store tx.old.conn.now tx.new.conn.now }
-    ensures goes_on { Continues S.Store tx.old.conn.now tx.new.conn.now result }
-    ensures failure { IfErr result IsFailure }
+    ensures inside { GoesOnInside S.Store tx.old.conn tx.new.conn result }
     ensures same { Keeps S.Store tx.old.conn.now tx.new.conn.now result }
     ensures found { Tells S.Store tx.old.conn.now tx.new.conn.now result (λ tables all.
         all.items ≡ files_by_path (pos number) tables) }

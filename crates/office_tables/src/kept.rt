@@ -8,7 +8,7 @@ ghost use Rattle.sql_meaning.specs.Columns.{int_at, bytes_at};
 ghost use Rattle.office_rows.specs.Rows.{content_numbered, is_content, is_alike, last_number};
 ghost use Rattle.office_tables.specs.Faults.{IsFailure};
 ghost use Rattle.office_tables.specs.Tables.{contents_of};
-ghost use Rattle.office_tables.specs.Calls.{CommitsNothing, Continues, ContinuesInTurn, Keeps};
+ghost use Rattle.office_tables.specs.Calls.{GoesOnInTurn, GoesOnInside};
 ghost use Rattle.office_tables.specs.Contents.{Does, KeepsFiles, IsContentAdded, IsNewContent, IsContentKept, IsFoundContent, IsTidied};
 
 use crate::fault::TableFault;
@@ -18,10 +18,7 @@ use std::alloc::Global;
 
 /// The row that shows the bytes of the content of that number, if there is one.
 fn rows_of_content<S: Alter>(tx: &mut Transaction<'_, S>, id: i64) -> Result<Vec<Row>, TableFault>
-    ensures same_reference { tx.new.conn.ghost_name ≡ tx.old.conn.ghost_name }
-    ensures stays { CommitsNothing S.Store tx.old.conn.now tx.new.conn.now }
-    ensures goes_on { Continues S.Store tx.old.conn.now tx.new.conn.now result }
-    ensures failure { IfErr result IsFailure }
+    ensures inside { GoesOnInside S.Store tx.old.conn tx.new.conn result }
     ensures found { Does S.Store tx.old.conn.now tx.new.conn.now result (λ old new rows.
         (new ≡ old)
         × (option_map (λ c. c.bytes) (content_numbered id (contents_of old))
@@ -36,10 +33,7 @@ fn rows_alike<S: Alter>(
     mark: &[u8],
     bytes: &[u8],
 ) -> Result<Vec<Row>, TableFault>
-    ensures same_reference { tx.new.conn.ghost_name ≡ tx.old.conn.ghost_name }
-    ensures stays { CommitsNothing S.Store tx.old.conn.now tx.new.conn.now }
-    ensures goes_on { Continues S.Store tx.old.conn.now tx.new.conn.now result }
-    ensures failure { IfErr result IsFailure }
+    ensures inside { GoesOnInside S.Store tx.old.conn tx.new.conn result }
     ensures found { Does S.Store tx.old.conn.now tx.new.conn.now result (λ old new rows.
         (new ≡ old)
         × (rows.items ≡ [] → list_any (is_alike mark.now bytes.now) (contents_of old) ≡ false)
@@ -62,10 +56,7 @@ fn add_content<S: Alter>(
     bytes: &[u8],
 ) -> Result<usize, TableFault>
     requires sized { size ≡ pos (length bytes.now) }
-    ensures same_reference { tx.new.conn.ghost_name ≡ tx.old.conn.ghost_name }
-    ensures stays { CommitsNothing S.Store tx.old.conn.now tx.new.conn.now }
-    ensures goes_on { Continues S.Store tx.old.conn.now tx.new.conn.now result }
-    ensures failure { IfErr result IsFailure }
+    ensures inside { GoesOnInside S.Store tx.old.conn tx.new.conn result }
     ensures added { Does S.Store tx.old.conn.now tx.new.conn.now result (λ old new _.
         IsContentAdded mark.now bytes.now old new) }
 {
@@ -78,10 +69,7 @@ fn add_content<S: Alter>(
 
 /// The row that shows the number of the last content, if there is one.
 fn rows_of_last<S: Alter>(tx: &mut Transaction<'_, S>) -> Result<Vec<Row>, TableFault>
-    ensures same_reference { tx.new.conn.ghost_name ≡ tx.old.conn.ghost_name }
-    ensures stays { CommitsNothing S.Store tx.old.conn.now tx.new.conn.now }
-    ensures goes_on { Continues S.Store tx.old.conn.now tx.new.conn.now result }
-    ensures failure { IfErr result IsFailure }
+    ensures inside { GoesOnInside S.Store tx.old.conn tx.new.conn result }
     ensures found { Does S.Store tx.old.conn.now tx.new.conn.now result (λ old new rows.
         (new ≡ old)
         × (last_number (λ c. c.id) (contents_of old)
@@ -92,10 +80,7 @@ fn rows_of_last<S: Alter>(tx: &mut Transaction<'_, S>) -> Result<Vec<Row>, Table
 
 /// A row where some file has the content of that number, and else none.
 fn rows_of_users<S: Alter>(tx: &mut Transaction<'_, S>, id: i64) -> Result<Vec<Row>, TableFault>
-    ensures same_reference { tx.new.conn.ghost_name ≡ tx.old.conn.ghost_name }
-    ensures stays { CommitsNothing S.Store tx.old.conn.now tx.new.conn.now }
-    ensures goes_on { Continues S.Store tx.old.conn.now tx.new.conn.now result }
-    ensures failure { IfErr result IsFailure }
+    ensures inside { GoesOnInside S.Store tx.old.conn tx.new.conn result }
     ensures found { Does S.Store tx.old.conn.now tx.new.conn.now result (λ old new rows.
         (new ≡ old)
         × (list_any (λ r. int_eq (int_at r 3) id) (old.trees 10)
@@ -110,10 +95,7 @@ fn rows_of_users<S: Alter>(tx: &mut Transaction<'_, S>, id: i64) -> Result<Vec<R
 
 /// Takes out the content of that number.
 fn remove_content<S: Alter>(tx: &mut Transaction<'_, S>, id: i64) -> Result<usize, TableFault>
-    ensures same_reference { tx.new.conn.ghost_name ≡ tx.old.conn.ghost_name }
-    ensures stays { CommitsNothing S.Store tx.old.conn.now tx.new.conn.now }
-    ensures goes_on { Continues S.Store tx.old.conn.now tx.new.conn.now result }
-    ensures failure { IfErr result IsFailure }
+    ensures inside { GoesOnInside S.Store tx.old.conn tx.new.conn result }
     ensures removed { Does S.Store tx.old.conn.now tx.new.conn.now result (λ old new _.
         KeepsFiles old new
         × (contents_of new ≡ filter (λ c. not (is_content id c)) (contents_of old))) }
@@ -123,10 +105,7 @@ fn remove_content<S: Alter>(tx: &mut Transaction<'_, S>, id: i64) -> Result<usiz
 
 /// The rows that show the number and the size of each content, ascending.
 fn rows_of_contents<S: Alter>(tx: &mut Transaction<'_, S>) -> Result<Vec<Row>, TableFault>
-    ensures same_reference { tx.new.conn.ghost_name ≡ tx.old.conn.ghost_name }
-    ensures stays { CommitsNothing S.Store tx.old.conn.now tx.new.conn.now }
-    ensures goes_on { Continues S.Store tx.old.conn.now tx.new.conn.now result }
-    ensures failure { IfErr result IsFailure }
+    ensures inside { GoesOnInside S.Store tx.old.conn tx.new.conn result }
     ensures found { Does S.Store tx.old.conn.now tx.new.conn.now result (λ old new rows.
         (new ≡ old)
         × (map {B = ℤ × ℤ} (λ c. (c.id, c.size)) (contents_of old)
@@ -140,10 +119,7 @@ pub(crate) fn content_of<S: Alter>(
     tx: &mut Transaction<'_, S>,
     id: i64,
 ) -> Result<Option<Vec<u8>>, TableFault>
-    ensures same_reference { tx.new.conn.ghost_name ≡ tx.old.conn.ghost_name }
-    ensures stays { CommitsNothing S.Store tx.old.conn.now tx.new.conn.now }
-    ensures goes_on { Continues S.Store tx.old.conn.now tx.new.conn.now result }
-    ensures failure { IfErr result IsFailure }
+    ensures inside { GoesOnInside S.Store tx.old.conn tx.new.conn result }
     ensures found { Does S.Store tx.old.conn.now tx.new.conn.now result (λ old new found.
         (new ≡ old)
         × (option_map (λ content. content.items) found
@@ -162,10 +138,7 @@ fn content_alike<S: Alter>(
     mark: &[u8],
     bytes: &[u8],
 ) -> Result<Option<i64>, TableFault>
-    ensures same_reference { tx.new.conn.ghost_name ≡ tx.old.conn.ghost_name }
-    ensures stays { CommitsNothing S.Store tx.old.conn.now tx.new.conn.now }
-    ensures goes_on { Continues S.Store tx.old.conn.now tx.new.conn.now result }
-    ensures failure { IfErr result IsFailure }
+    ensures inside { GoesOnInside S.Store tx.old.conn tx.new.conn result }
     ensures found { Does S.Store tx.old.conn.now tx.new.conn.now result (λ old new found.
         (new ≡ old) × IsFoundContent mark.now bytes.now old found) }
 {
@@ -178,10 +151,7 @@ fn content_alike<S: Alter>(
 
 /// The number of the last content.
 fn last_content<S: Alter>(tx: &mut Transaction<'_, S>) -> Result<i64, TableFault>
-    ensures same_reference { tx.new.conn.ghost_name ≡ tx.old.conn.ghost_name }
-    ensures stays { CommitsNothing S.Store tx.old.conn.now tx.new.conn.now }
-    ensures goes_on { Continues S.Store tx.old.conn.now tx.new.conn.now result }
-    ensures failure { IfErr result IsFailure }
+    ensures inside { GoesOnInside S.Store tx.old.conn tx.new.conn result }
     ensures found { Does S.Store tx.old.conn.now tx.new.conn.now result (λ old new id.
         (new ≡ old) × (last_number (λ c. c.id) (contents_of old) ≡ Some id)) }
 {
@@ -198,10 +168,7 @@ fn new_content<S: Alter>(
     mark: &[u8],
     bytes: &[u8],
 ) -> Result<i64, TableFault>
-    ensures same_reference { tx.new.conn.ghost_name ≡ tx.old.conn.ghost_name }
-    ensures stays { CommitsNothing S.Store tx.old.conn.now tx.new.conn.now }
-    ensures goes_on { Continues S.Store tx.old.conn.now tx.new.conn.now result }
-    ensures failure { IfErr result IsFailure }
+    ensures inside { GoesOnInside S.Store tx.old.conn tx.new.conn result }
     ensures kept { Does S.Store tx.old.conn.now tx.new.conn.now result (λ old new id.
         IsNewContent mark.now bytes.now id old new) }
 {
@@ -218,10 +185,7 @@ pub(crate) fn keep_content<S: Alter>(
     mark: &[u8],
     bytes: &[u8],
 ) -> Result<i64, TableFault>
-    ensures same_reference { tx.new.conn.ghost_name ≡ tx.old.conn.ghost_name }
-    ensures stays { CommitsNothing S.Store tx.old.conn.now tx.new.conn.now }
-    ensures goes_on { Continues S.Store tx.old.conn.now tx.new.conn.now result }
-    ensures failure { IfErr result IsFailure }
+    ensures inside { GoesOnInside S.Store tx.old.conn tx.new.conn result }
     ensures kept { Does S.Store tx.old.conn.now tx.new.conn.now result
         (IsContentKept mark.now bytes.now) }
 {
@@ -233,10 +197,7 @@ pub(crate) fn keep_content<S: Alter>(
 
 /// Whether some file has the content of that number.
 fn is_used<S: Alter>(tx: &mut Transaction<'_, S>, id: i64) -> Result<bool, TableFault>
-    ensures same_reference { tx.new.conn.ghost_name ≡ tx.old.conn.ghost_name }
-    ensures stays { CommitsNothing S.Store tx.old.conn.now tx.new.conn.now }
-    ensures goes_on { Continues S.Store tx.old.conn.now tx.new.conn.now result }
-    ensures failure { IfErr result IsFailure }
+    ensures inside { GoesOnInside S.Store tx.old.conn tx.new.conn result }
     ensures found { Does S.Store tx.old.conn.now tx.new.conn.now result (λ old new used.
         (new ≡ old) × (list_any (λ r. int_eq (int_at r 3) id) (old.trees 10) ≡ used)) }
 {
@@ -246,10 +207,7 @@ fn is_used<S: Alter>(tx: &mut Transaction<'_, S>, id: i64) -> Result<bool, Table
 
 /// Takes out the content of that number unless some file has it.
 fn drop_unused<S: Alter>(tx: &mut Transaction<'_, S>, id: i64) -> Result<(), TableFault>
-    ensures same_reference { tx.new.conn.ghost_name ≡ tx.old.conn.ghost_name }
-    ensures stays { CommitsNothing S.Store tx.old.conn.now tx.new.conn.now }
-    ensures goes_on { Continues S.Store tx.old.conn.now tx.new.conn.now result }
-    ensures failure { IfErr result IsFailure }
+    ensures inside { GoesOnInside S.Store tx.old.conn tx.new.conn result }
     ensures tidied { Does S.Store tx.old.conn.now tx.new.conn.now result (λ old new _.
         (ids : List ℤ) → IsTidied (id ∷ ids) ids old new) }
 {
@@ -264,10 +222,7 @@ pub(crate) fn drop_each_unused<S: Alter>(
     tx: &mut Transaction<'_, S>,
     rows: &[Row],
 ) -> Result<(), TableFault>
-    ensures same_reference { tx.new.conn.ghost_name ≡ tx.old.conn.ghost_name }
-    ensures stays { CommitsNothing S.Store tx.old.conn.now tx.new.conn.now }
-    ensures goes_on { ContinuesInTurn S.Store tx.old.conn.now tx.new.conn.now result }
-    ensures failure { IfErr result IsFailure }
+    ensures inside { GoesOnInTurn S.Store tx.old.conn tx.new.conn result }
     ensures tidied { Does S.Store tx.old.conn.now tx.new.conn.now result (λ old new _.
         IsTidied (map (λ row. int_at row 0) rows.now) [] old new) }
 {
@@ -309,10 +264,7 @@ pub fn contents<S: Alter>(
     alloc: Global,
     tx: &mut Transaction<'_, S>,
 ) -> Result<Vec<ContentSize>, TableFault>
-    ensures same_reference { tx.new.conn.ghost_name ≡ tx.old.conn.ghost_name }
-    ensures stays { CommitsNothing S.Store tx.old.conn.now tx.new.conn.now }
-    ensures goes_on { Continues S.Store tx.old.conn.now tx.new.conn.now result }
-    ensures failure { IfErr result IsFailure }
+    ensures inside { GoesOnInside S.Store tx.old.conn tx.new.conn result }
     ensures found { Does S.Store tx.old.conn.now tx.new.conn.now result (λ old new sizes.
         (new ≡ old)
         × (map {B = ℤ × ℤ} (λ s. (s.id, s.size)) sizes.items

@@ -1,12 +1,11 @@
 //! The tables of an older version: the newer ones are made beside them, and have their rows.
 
-ghost use Rattle.std.specs.Prelude.{◌≡◌, [], map, pos, IfErr, OnOk};
+ghost use Rattle.std.specs.Prelude.{◌≡◌, [], map, pos, OnOk};
 ghost use Rattle.sqlite.specs.State.{HasCleanDisk};
 ghost use Rattle.sqlite.specs.Held.{state};
 ghost use Rattle.sql_meaning.specs.Growing.{Grows};
 ghost use Rattle.sql_meaning.specs.Whole.{IsWhole, Sets};
-ghost use Rattle.office_tables.specs.Calls.{CommitsNothing, Continues, ContinuesInTurn};
-ghost use Rattle.office_tables.specs.Faults.{IsFailure};
+ghost use Rattle.office_tables.specs.Calls.{GoesOnInTurn, GoesOnInside};
 ghost use Rattle.office_tables.specs.Moving.{AllRows, all_in_version, BecomesAt, moved_hold, moved_rule, Moves};
 ghost use Rattle.office_tables.specs.Versions.{schema_at};
 ghost use Rattle.office_tables.specs.declared.version.TableVersion.TheVariants.{Third, Fourth, Fifth};
@@ -18,10 +17,7 @@ use sqlite::{Alter, Transaction, params};
 
 /// Makes the table of holds that may name a class.
 fn define_holds<S: Alter>(tx: &mut Transaction<'_, S>) -> Result<(), TableFault>
-    ensures same_reference { tx.new.conn.ghost_name ≡ tx.old.conn.ghost_name }
-    ensures stays { CommitsNothing S.Store tx.old.conn.now tx.new.conn.now }
-    ensures goes_on { ContinuesInTurn S.Store tx.old.conn.now tx.new.conn.now result }
-    ensures failure { IfErr result IsFailure }
+    ensures inside { GoesOnInTurn S.Store tx.old.conn tx.new.conn result }
     ensures grown { HasCleanDisk (state S.Store tx.new.conn.now)
         → IsWhole (schema_at Third) (state S.Store tx.old.conn.now).now
         → OnOk result
@@ -41,10 +37,7 @@ fn define_holds<S: Alter>(tx: &mut Transaction<'_, S>) -> Result<(), TableFault>
 
 /// Makes the table of rules with days.
 fn define_rules<S: Alter>(tx: &mut Transaction<'_, S>) -> Result<(), TableFault>
-    ensures same_reference { tx.new.conn.ghost_name ≡ tx.old.conn.ghost_name }
-    ensures stays { CommitsNothing S.Store tx.old.conn.now tx.new.conn.now }
-    ensures goes_on { ContinuesInTurn S.Store tx.old.conn.now tx.new.conn.now result }
-    ensures failure { IfErr result IsFailure }
+    ensures inside { GoesOnInTurn S.Store tx.old.conn tx.new.conn result }
     ensures grown { HasCleanDisk (state S.Store tx.new.conn.now)
         → IsWhole (schema_at Fourth) (state S.Store tx.old.conn.now).now
         → OnOk result
@@ -61,10 +54,7 @@ fn define_rules<S: Alter>(tx: &mut Transaction<'_, S>) -> Result<(), TableFault>
 
 /// Copies the holds into the table whose holds may name a class.
 fn copy_holds<S: Alter>(tx: &mut Transaction<'_, S>) -> Result<(), TableFault>
-    ensures same_reference { tx.new.conn.ghost_name ≡ tx.old.conn.ghost_name }
-    ensures stays { CommitsNothing S.Store tx.old.conn.now tx.new.conn.now }
-    ensures goes_on { Continues S.Store tx.old.conn.now tx.new.conn.now result }
-    ensures failure { IfErr result IsFailure }
+    ensures inside { GoesOnInside S.Store tx.old.conn tx.new.conn result }
     ensures copied { HasCleanDisk (state S.Store tx.new.conn.now)
         → IsWhole (schema_at Fourth) (state S.Store tx.old.conn.now).now
         → (state S.Store tx.old.conn.now).now.trees 19 ≡ []
@@ -82,10 +72,7 @@ fn copy_holds<S: Alter>(tx: &mut Transaction<'_, S>) -> Result<(), TableFault>
 
 /// Empties the table of holds that can't name a class.
 fn empty_holds<S: Alter>(tx: &mut Transaction<'_, S>) -> Result<(), TableFault>
-    ensures same_reference { tx.new.conn.ghost_name ≡ tx.old.conn.ghost_name }
-    ensures stays { CommitsNothing S.Store tx.old.conn.now tx.new.conn.now }
-    ensures goes_on { Continues S.Store tx.old.conn.now tx.new.conn.now result }
-    ensures failure { IfErr result IsFailure }
+    ensures inside { GoesOnInside S.Store tx.old.conn tx.new.conn result }
     ensures emptied { HasCleanDisk (state S.Store tx.new.conn.now)
         → IsWhole (schema_at Fourth) (state S.Store tx.old.conn.now).now
         → OnOk result
@@ -101,10 +88,7 @@ fn empty_holds<S: Alter>(tx: &mut Transaction<'_, S>) -> Result<(), TableFault>
 ///
 /// Fails with `Memory` or `Store`.
 pub fn move_holds<S: Alter>(tx: &mut Transaction<'_, S>) -> Result<(), TableFault>
-    ensures same_reference { tx.new.conn.ghost_name ≡ tx.old.conn.ghost_name }
-    ensures stays { CommitsNothing S.Store tx.old.conn.now tx.new.conn.now }
-    ensures goes_on { ContinuesInTurn S.Store tx.old.conn.now tx.new.conn.now result }
-    ensures failure { IfErr result IsFailure }
+    ensures inside { GoesOnInTurn S.Store tx.old.conn tx.new.conn result }
     ensures moved { Moves S.Store Third Fourth tx.old.conn.now tx.new.conn.now result }
 {
     define_holds(tx)?;
@@ -114,10 +98,7 @@ pub fn move_holds<S: Alter>(tx: &mut Transaction<'_, S>) -> Result<(), TableFaul
 
 /// Copies the rules into the table whose rules have days.
 fn copy_rules<S: Alter>(tx: &mut Transaction<'_, S>) -> Result<(), TableFault>
-    ensures same_reference { tx.new.conn.ghost_name ≡ tx.old.conn.ghost_name }
-    ensures stays { CommitsNothing S.Store tx.old.conn.now tx.new.conn.now }
-    ensures goes_on { Continues S.Store tx.old.conn.now tx.new.conn.now result }
-    ensures failure { IfErr result IsFailure }
+    ensures inside { GoesOnInside S.Store tx.old.conn tx.new.conn result }
     ensures copied { HasCleanDisk (state S.Store tx.new.conn.now)
         → IsWhole (schema_at Fifth) (state S.Store tx.old.conn.now).now
         → (state S.Store tx.old.conn.now).now.trees 23 ≡ []
@@ -135,10 +116,7 @@ fn copy_rules<S: Alter>(tx: &mut Transaction<'_, S>) -> Result<(), TableFault>
 
 /// Empties the table of rules without days.
 fn empty_rules<S: Alter>(tx: &mut Transaction<'_, S>) -> Result<(), TableFault>
-    ensures same_reference { tx.new.conn.ghost_name ≡ tx.old.conn.ghost_name }
-    ensures stays { CommitsNothing S.Store tx.old.conn.now tx.new.conn.now }
-    ensures goes_on { Continues S.Store tx.old.conn.now tx.new.conn.now result }
-    ensures failure { IfErr result IsFailure }
+    ensures inside { GoesOnInside S.Store tx.old.conn tx.new.conn result }
     ensures emptied { HasCleanDisk (state S.Store tx.new.conn.now)
         → IsWhole (schema_at Fifth) (state S.Store tx.old.conn.now).now
         → OnOk result
@@ -151,10 +129,7 @@ fn empty_rules<S: Alter>(tx: &mut Transaction<'_, S>) -> Result<(), TableFault>
 
 /// Makes the table of rules with days, and takes the rules over.
 fn move_rules<S: Alter>(tx: &mut Transaction<'_, S>) -> Result<(), TableFault>
-    ensures same_reference { tx.new.conn.ghost_name ≡ tx.old.conn.ghost_name }
-    ensures stays { CommitsNothing S.Store tx.old.conn.now tx.new.conn.now }
-    ensures goes_on { ContinuesInTurn S.Store tx.old.conn.now tx.new.conn.now result }
-    ensures failure { IfErr result IsFailure }
+    ensures inside { GoesOnInTurn S.Store tx.old.conn tx.new.conn result }
     ensures moved { Moves S.Store Fourth Fifth tx.old.conn.now tx.new.conn.now result }
 {
     define_rules(tx)?;
@@ -164,10 +139,7 @@ fn move_rules<S: Alter>(tx: &mut Transaction<'_, S>) -> Result<(), TableFault>
 
 /// Notes the newest version in the row of the office.
 fn set_version<S: Alter>(tx: &mut Transaction<'_, S>) -> Result<(), TableFault>
-    ensures same_reference { tx.new.conn.ghost_name ≡ tx.old.conn.ghost_name }
-    ensures stays { CommitsNothing S.Store tx.old.conn.now tx.new.conn.now }
-    ensures goes_on { Continues S.Store tx.old.conn.now tx.new.conn.now result }
-    ensures failure { IfErr result IsFailure }
+    ensures inside { GoesOnInside S.Store tx.old.conn tx.new.conn result }
     ensures told { HasCleanDisk (state S.Store tx.new.conn.now) → (rows : AllRows)
         → BecomesAt Fifth (state S.Store tx.old.conn.now).now rows
         → OnOk result
@@ -185,10 +157,7 @@ fn set_version<S: Alter>(tx: &mut Transaction<'_, S>) -> Result<(), TableFault>
 ///
 /// Fails with `Memory` or `Store`.
 pub fn renew_fourth<S: Alter>(tx: &mut Transaction<'_, S>) -> Result<(), TableFault>
-    ensures same_reference { tx.new.conn.ghost_name ≡ tx.old.conn.ghost_name }
-    ensures stays { CommitsNothing S.Store tx.old.conn.now tx.new.conn.now }
-    ensures goes_on { ContinuesInTurn S.Store tx.old.conn.now tx.new.conn.now result }
-    ensures failure { IfErr result IsFailure }
+    ensures inside { GoesOnInTurn S.Store tx.old.conn tx.new.conn result }
     ensures renewed { HasCleanDisk (state S.Store tx.new.conn.now) → (rows : AllRows)
         → BecomesAt Fourth (state S.Store tx.old.conn.now).now rows
         → OnOk result

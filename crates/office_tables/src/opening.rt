@@ -1,13 +1,12 @@
 //! Opening an office, and its limits.
 
-ghost use Rattle.std.specs.Prelude.{pos, [], Ok, Err, ◌≡◌, true, false, MatchOption, IfOk, IfErr, OnOk, IsTrue, Some, None, option_map, slice_get};
+ghost use Rattle.std.specs.Prelude.{pos, [], Ok, Err, ◌≡◌, true, false, MatchOption, IfOk, OnOk, IsTrue, Some, None, option_map, slice_get};
 ghost use Rattle.sqlite.specs.State.{HasCleanDisk, Survives};
 ghost use Rattle.sqlite.specs.Held.{state};
 ghost use Rattle.sqlite.specs.Order.{Row as SqlRow, column};
 ghost use Rattle.sqlite.specs.declared.types.Value.TheVariants.{Int};
-ghost use Rattle.office_tables.specs.Faults.{IsFailure};
 ghost use Rattle.office_rows.specs.Rows.{this_version, limits_of, version_of};
-ghost use Rattle.office_tables.specs.Calls.{CommitsNothing, Continues, Keeps, Tells, Shows};
+ghost use Rattle.office_tables.specs.Calls.{GoesOnInside, Keeps, Shows, Tells};
 ghost use Rattle.office_tables.specs.Tables.{shown_limits};
 ghost use Rattle.office_tables.specs.Versions.{IsOfficeAt, tables_at};
 ghost use Rattle.office_tables.specs.declared.version.TableVersion.{TableVersion};
@@ -60,10 +59,7 @@ fn version_among(rows: &[Row]) -> Option<i64>
 ///
 /// Fails with `Memory` or `Store`.
 pub fn version_told<S: Alter>(tx: &mut Transaction<'_, S>) -> Result<Option<i64>, TableFault>
-    ensures same_reference { tx.new.conn.ghost_name ≡ tx.old.conn.ghost_name }
-    ensures stays { CommitsNothing S.Store tx.old.conn.now tx.new.conn.now }
-    ensures goes_on { Continues S.Store tx.old.conn.now tx.new.conn.now result }
-    ensures failure { IfErr result IsFailure }
+    ensures inside { GoesOnInside S.Store tx.old.conn tx.new.conn result }
     ensures same { HasCleanDisk (state S.Store tx.new.conn.now)
         → OnOk result ((state S.Store tx.new.conn.now).now ≡ (state S.Store tx.old.conn.now).now) }
     ensures shown { HasCleanDisk (state S.Store tx.new.conn.now)
@@ -155,10 +151,7 @@ pub struct OfficeLimits {
 
 /// The row that shows the limits.
 fn rows_of_limits<S: Alter>(tx: &mut Transaction<'_, S>) -> Result<Vec<Row>, TableFault>
-    ensures same_reference { tx.new.conn.ghost_name ≡ tx.old.conn.ghost_name }
-    ensures stays { CommitsNothing S.Store tx.old.conn.now tx.new.conn.now }
-    ensures goes_on { Continues S.Store tx.old.conn.now tx.new.conn.now result }
-    ensures failure { IfErr result IsFailure }
+    ensures inside { GoesOnInside S.Store tx.old.conn tx.new.conn result }
     ensures found { Shows S.Store tx.old.conn.now tx.new.conn.now result (λ tables rows.
         limits_of tables ≡ option_map shown_limits (slice_get rows.items 0)) }
 {
@@ -173,10 +166,7 @@ fn rows_of_limits<S: Alter>(tx: &mut Transaction<'_, S>) -> Result<Vec<Row>, Tab
 ///
 /// Fails with `Store` where it has none that fit, and with `Memory` or `Store`.
 pub fn limits<S: Alter>(tx: &mut Transaction<'_, S>) -> Result<OfficeLimits, TableFault>
-    ensures same_reference { tx.new.conn.ghost_name ≡ tx.old.conn.ghost_name }
-    ensures stays { CommitsNothing S.Store tx.old.conn.now tx.new.conn.now }
-    ensures goes_on { Continues S.Store tx.old.conn.now tx.new.conn.now result }
-    ensures failure { IfErr result IsFailure }
+    ensures inside { GoesOnInside S.Store tx.old.conn tx.new.conn result }
     ensures same { Keeps S.Store tx.old.conn.now tx.new.conn.now result }
     ensures found { Tells S.Store tx.old.conn.now tx.new.conn.now result (λ tables limits.
         limits_of tables

@@ -6,7 +6,7 @@ ghost use Rattle.office_tables.specs.Faults.{IsFailure};
 ghost use Rattle.office_rows.specs.Rows.{caller_named, without_callers, without_rules, with_caller, with_rule, with_callers, with_rules, with_policy};
 ghost use Rattle.office_tables.specs.Contents.{LeavesOnce};
 ghost use Rattle.office_rows.specs.Matching.{matching_rule};
-ghost use Rattle.office_tables.specs.Calls.{CommitsNothing, Continues, ContinuesInTurn, Keeps, Tells, Shows, Writes};
+ghost use Rattle.office_tables.specs.Calls.{GoesOnInTurn, GoesOnInside, Keeps, Shows, Tells, Writes};
 ghost use Rattle.office_tables.specs.ShownPolicy.{shown_rule};
 
 use crate::fault::TableFault;
@@ -88,10 +88,7 @@ impl Model for RuleRow {
 
 /// The row that shows the role of the caller of that name, if there is one.
 fn rows_of_role<S: Alter>(tx: &mut Transaction<'_, S>, name: &str) -> Result<Vec<Row>, TableFault>
-    ensures same_reference { tx.new.conn.ghost_name ≡ tx.old.conn.ghost_name }
-    ensures stays { CommitsNothing S.Store tx.old.conn.now tx.new.conn.now }
-    ensures goes_on { Continues S.Store tx.old.conn.now tx.new.conn.now result }
-    ensures failure { IfErr result IsFailure }
+    ensures inside { GoesOnInside S.Store tx.old.conn tx.new.conn result }
     ensures found { Shows S.Store tx.old.conn.now tx.new.conn.now result (λ tables rows.
         option_map (λ c. c.role) (caller_named name.now tables.callers)
         ≡ option_map (λ row. bytes_at row 0) (slice_get rows.items 0)) }
@@ -114,10 +111,7 @@ pub fn role_of<S: Alter>(
     tx: &mut Transaction<'_, S>,
     name: &str,
 ) -> Result<Option<String>, TableFault>
-    ensures same_reference { tx.new.conn.ghost_name ≡ tx.old.conn.ghost_name }
-    ensures stays { CommitsNothing S.Store tx.old.conn.now tx.new.conn.now }
-    ensures goes_on { Continues S.Store tx.old.conn.now tx.new.conn.now result }
-    ensures failure { IfErr result IsFailure }
+    ensures inside { GoesOnInside S.Store tx.old.conn tx.new.conn result }
     ensures same { Keeps S.Store tx.old.conn.now tx.new.conn.now result }
     ensures found { Tells S.Store tx.old.conn.now tx.new.conn.now result (λ tables found.
         option_map string_bytes found
@@ -132,10 +126,7 @@ pub fn role_of<S: Alter>(
 
 /// The rows that show the rules.
 fn rows_of_rules<S: Alter>(tx: &mut Transaction<'_, S>) -> Result<Vec<Row>, TableFault>
-    ensures same_reference { tx.new.conn.ghost_name ≡ tx.old.conn.ghost_name }
-    ensures stays { CommitsNothing S.Store tx.old.conn.now tx.new.conn.now }
-    ensures goes_on { Continues S.Store tx.old.conn.now tx.new.conn.now result }
-    ensures failure { IfErr result IsFailure }
+    ensures inside { GoesOnInside S.Store tx.old.conn tx.new.conn result }
     ensures found { Shows S.Store tx.old.conn.now tx.new.conn.now result (λ tables rows.
         tables.rules ≡ map shown_rule rows.items) }
 {
@@ -182,10 +173,7 @@ pub fn rules<S: Alter>(
     alloc: Global,
     tx: &mut Transaction<'_, S>,
 ) -> Result<Vec<RuleRow>, TableFault>
-    ensures same_reference { tx.new.conn.ghost_name ≡ tx.old.conn.ghost_name }
-    ensures stays { CommitsNothing S.Store tx.old.conn.now tx.new.conn.now }
-    ensures goes_on { Continues S.Store tx.old.conn.now tx.new.conn.now result }
-    ensures failure { IfErr result IsFailure }
+    ensures inside { GoesOnInside S.Store tx.old.conn tx.new.conn result }
     ensures same { Keeps S.Store tx.old.conn.now tx.new.conn.now result }
     ensures found { Tells S.Store tx.old.conn.now tx.new.conn.now result (λ tables rules.
         rules.items ≡ tables.rules) }
@@ -203,10 +191,7 @@ fn rows_of_match<S: Alter>(
     class: &str,
     day: i64,
 ) -> Result<Vec<Row>, TableFault>
-    ensures same_reference { tx.new.conn.ghost_name ≡ tx.old.conn.ghost_name }
-    ensures stays { CommitsNothing S.Store tx.old.conn.now tx.new.conn.now }
-    ensures goes_on { Continues S.Store tx.old.conn.now tx.new.conn.now result }
-    ensures failure { IfErr result IsFailure }
+    ensures inside { GoesOnInside S.Store tx.old.conn tx.new.conn result }
     ensures found { Shows S.Store tx.old.conn.now tx.new.conn.now result (λ tables rows.
         matching_rule role.now action.now collection.now class.now day tables.rules
         ≡ option_map shown_rule (slice_get rows.items 0)) }
@@ -230,10 +215,7 @@ pub fn match_rule<S: Alter>(
     class: &str,
     day: i64,
 ) -> Result<Option<RuleRow>, TableFault>
-    ensures same_reference { tx.new.conn.ghost_name ≡ tx.old.conn.ghost_name }
-    ensures stays { CommitsNothing S.Store tx.old.conn.now tx.new.conn.now }
-    ensures goes_on { Continues S.Store tx.old.conn.now tx.new.conn.now result }
-    ensures failure { IfErr result IsFailure }
+    ensures inside { GoesOnInside S.Store tx.old.conn tx.new.conn result }
     ensures same { Keeps S.Store tx.old.conn.now tx.new.conn.now result }
     ensures found { Tells S.Store tx.old.conn.now tx.new.conn.now result (λ tables found.
         found ≡ matching_rule role.now action.now collection.now class.now day tables.rules) }
@@ -247,10 +229,7 @@ pub fn match_rule<S: Alter>(
 
 /// Takes out each caller.
 fn drop_callers<S: Alter>(tx: &mut Transaction<'_, S>) -> Result<usize, TableFault>
-    ensures same_reference { tx.new.conn.ghost_name ≡ tx.old.conn.ghost_name }
-    ensures stays { CommitsNothing S.Store tx.old.conn.now tx.new.conn.now }
-    ensures goes_on { Continues S.Store tx.old.conn.now tx.new.conn.now result }
-    ensures failure { IfErr result IsFailure }
+    ensures inside { GoesOnInside S.Store tx.old.conn tx.new.conn result }
     ensures becomes { Writes S.Store tx.old.conn.now tx.new.conn.now result without_callers }
     ensures once { LeavesOnce S.Store tx.old.conn.now tx.new.conn.now result }
 {
@@ -259,10 +238,7 @@ fn drop_callers<S: Alter>(tx: &mut Transaction<'_, S>) -> Result<usize, TableFau
 
 /// Takes out each rule.
 fn drop_rules<S: Alter>(tx: &mut Transaction<'_, S>) -> Result<usize, TableFault>
-    ensures same_reference { tx.new.conn.ghost_name ≡ tx.old.conn.ghost_name }
-    ensures stays { CommitsNothing S.Store tx.old.conn.now tx.new.conn.now }
-    ensures goes_on { Continues S.Store tx.old.conn.now tx.new.conn.now result }
-    ensures failure { IfErr result IsFailure }
+    ensures inside { GoesOnInside S.Store tx.old.conn tx.new.conn result }
     ensures becomes { Writes S.Store tx.old.conn.now tx.new.conn.now result without_rules }
     ensures once { LeavesOnce S.Store tx.old.conn.now tx.new.conn.now result }
 {
@@ -275,10 +251,7 @@ fn add_caller<S: Alter>(
     name: &str,
     role: &str,
 ) -> Result<usize, TableFault>
-    ensures same_reference { tx.new.conn.ghost_name ≡ tx.old.conn.ghost_name }
-    ensures stays { CommitsNothing S.Store tx.old.conn.now tx.new.conn.now }
-    ensures goes_on { Continues S.Store tx.old.conn.now tx.new.conn.now result }
-    ensures failure { IfErr result IsFailure }
+    ensures inside { GoesOnInside S.Store tx.old.conn tx.new.conn result }
     ensures becomes { Writes S.Store tx.old.conn.now tx.new.conn.now result
         (with_caller (record { name = name.now; role = role.now })) }
     ensures once { LeavesOnce S.Store tx.old.conn.now tx.new.conn.now result }
@@ -302,10 +275,7 @@ fn add_rule<S: Alter>(
     first: i64,
     last: i64,
 ) -> Result<usize, TableFault>
-    ensures same_reference { tx.new.conn.ghost_name ≡ tx.old.conn.ghost_name }
-    ensures stays { CommitsNothing S.Store tx.old.conn.now tx.new.conn.now }
-    ensures goes_on { Continues S.Store tx.old.conn.now tx.new.conn.now result }
-    ensures failure { IfErr result IsFailure }
+    ensures inside { GoesOnInside S.Store tx.old.conn tx.new.conn result }
     ensures becomes { Writes S.Store tx.old.conn.now tx.new.conn.now result
         (with_rule
         (record {
@@ -332,10 +302,7 @@ fn add_callers<S: Alter>(
     tx: &mut Transaction<'_, S>,
     callers: &[CallerRow],
 ) -> Result<(), TableFault>
-    ensures same_reference { tx.new.conn.ghost_name ≡ tx.old.conn.ghost_name }
-    ensures stays { CommitsNothing S.Store tx.old.conn.now tx.new.conn.now }
-    ensures goes_on { ContinuesInTurn S.Store tx.old.conn.now tx.new.conn.now result }
-    ensures failure { IfErr result IsFailure }
+    ensures inside { GoesOnInTurn S.Store tx.old.conn tx.new.conn result }
     ensures becomes { Writes S.Store tx.old.conn.now tx.new.conn.now result
         (with_callers callers.now) }
     ensures once { LeavesOnce S.Store tx.old.conn.now tx.new.conn.now result }
@@ -348,10 +315,7 @@ fn add_callers<S: Alter>(
 
 /// Adds these rules in turn, each at its place.
 fn add_rules<S: Alter>(tx: &mut Transaction<'_, S>, rules: &[RuleRow]) -> Result<(), TableFault>
-    ensures same_reference { tx.new.conn.ghost_name ≡ tx.old.conn.ghost_name }
-    ensures stays { CommitsNothing S.Store tx.old.conn.now tx.new.conn.now }
-    ensures goes_on { ContinuesInTurn S.Store tx.old.conn.now tx.new.conn.now result }
-    ensures failure { IfErr result IsFailure }
+    ensures inside { GoesOnInTurn S.Store tx.old.conn tx.new.conn result }
     ensures becomes { Writes S.Store tx.old.conn.now tx.new.conn.now result (with_rules rules.now) }
     ensures once { LeavesOnce S.Store tx.old.conn.now tx.new.conn.now result }
 {
@@ -379,10 +343,7 @@ pub fn put_policy<S: Alter>(
     callers: &[CallerRow],
     rules: &[RuleRow],
 ) -> Result<(), TableFault>
-    ensures same_reference { tx.new.conn.ghost_name ≡ tx.old.conn.ghost_name }
-    ensures stays { CommitsNothing S.Store tx.old.conn.now tx.new.conn.now }
-    ensures goes_on { Continues S.Store tx.old.conn.now tx.new.conn.now result }
-    ensures failure { IfErr result IsFailure }
+    ensures inside { GoesOnInside S.Store tx.old.conn tx.new.conn result }
     ensures becomes { Writes S.Store tx.old.conn.now tx.new.conn.now result
         (with_policy callers.now rules.now) }
     ensures once { LeavesOnce S.Store tx.old.conn.now tx.new.conn.now result }

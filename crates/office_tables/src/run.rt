@@ -5,7 +5,7 @@ ghost use Rattle.sqlite.specs.State.{HasCleanDisk, Executes, Shown};
 ghost use Rattle.sqlite.specs.Values.{bound};
 ghost use Rattle.sqlite.specs.Held.{state};
 ghost use Rattle.sql_meaning.specs.Columns.{int_at};
-ghost use Rattle.office_tables.specs.Calls.{CommitsNothing, Continues};
+ghost use Rattle.office_tables.specs.Calls.{GoesOnInside};
 ghost use Rattle.office_tables.specs.Faults.{IsFailure};
 
 use crate::fault::TableFault;
@@ -18,10 +18,7 @@ pub(crate) fn change<S: Alter>(
     sql: &str,
     values: &[ValueRef<'_>],
 ) -> Result<usize, TableFault>
-    ensures same_reference { tx.new.conn.ghost_name ≡ tx.old.conn.ghost_name }
-    ensures stays { CommitsNothing S.Store tx.old.conn.now tx.new.conn.now }
-    ensures goes_on { Continues S.Store tx.old.conn.now tx.new.conn.now result }
-    ensures failure { IfErr result IsFailure }
+    ensures inside { GoesOnInside S.Store tx.old.conn tx.new.conn result }
     ensures ran { HasCleanDisk (state S.Store tx.new.conn.now)
         → IfOk result (λ count.
         Executes sql.now (bound values.now) (state S.Store tx.old.conn.now)
@@ -39,10 +36,7 @@ pub(crate) fn ask<S: Alter>(
     sql: &str,
     values: &[ValueRef<'_>],
 ) -> Result<Vec<Row>, TableFault>
-    ensures same_reference { tx.new.conn.ghost_name ≡ tx.old.conn.ghost_name }
-    ensures stays { CommitsNothing S.Store tx.old.conn.now tx.new.conn.now }
-    ensures goes_on { Continues S.Store tx.old.conn.now tx.new.conn.now result }
-    ensures failure { IfErr result IsFailure }
+    ensures inside { GoesOnInside S.Store tx.old.conn tx.new.conn result }
     ensures shown { HasCleanDisk (state S.Store tx.new.conn.now)
         → IfOk result (λ rows.
         Shown sql.now (bound values.now) (state S.Store tx.old.conn.now)

@@ -29,7 +29,7 @@ returns-clause-asked g c clean h legal pictured =
     let a = c.args in
     let old = state g.S.Store a.tx.now.conn.now in
     let mid = state g.S.Store c.deposit_row.new.tx.conn.now in
-    let early : HasCleanDisk mid = clean_before mid (state g.S.Store c.denial.new.tx.conn.now) c.denial.ensures.stays clean in
+    let early : HasCleanDisk mid = clean_before mid (state g.S.Store c.denial.new.tx.conn.now) c.denial.ensures.inside.stays clean in
     let read = deposit_read h old.now pictured a.number c.in_ok-deposit.field-0 (c.in_ok-deposit.ensures.found early pictured.office) in
     let still = pictured_still h old.now pictured mid.now (c.in_ok-deposit.ensures.same early pictured.office) in
     let row = c.in-Some.deposit in
@@ -40,20 +40,9 @@ returns-clause-asked g c clean h legal pictured =
     let said : c.in_ok-denied.denied ≡ denial h a.day a.caller.now a.action (Some row.collection) (Some row.class) = denied.1 ∙ (λ i. denial h a.day a.caller.now a.action (Some (collection i)) (Some (class i))) in
     IfOk-weaker c.unless_refused.result _ _ (λ asked says. (denied.0, says h a.day a.caller.now a.action a.number some said)) c.unless_refused.ensures.asked
 
-pub returns-in_err-denied-clause-stays : goal.returns-in_err-denied-clause-stays
-returns-in_err-denied-clause-stays g c = stays_then (state g.S.Store c.args.tx.now.conn.now) (state g.S.Store c.deposit_row.new.tx.conn.now) (state g.S.Store c.denial.new.tx.conn.now) c.deposit_row.ensures.stays c.in_ok-deposit.ensures.goes_on c.denial.ensures.stays
-
-pub returns-clause-stays : goal.returns-clause-stays
-returns-clause-stays g c = stays_then (state g.S.Store c.args.tx.now.conn.now) (state g.S.Store c.deposit_row.new.tx.conn.now) (state g.S.Store c.denial.new.tx.conn.now) c.deposit_row.ensures.stays c.in_ok-deposit.ensures.goes_on c.denial.ensures.stays
-
-pub returns-clause-goes_on : goal.returns-clause-goes_on
-returns-clause-goes_on g c clean =
-    let goes = goes_twice (state g.S.Store c.args.tx.now.conn.now) (state g.S.Store c.deposit_row.new.tx.conn.now) (state g.S.Store c.denial.new.tx.conn.now) c.denial.ensures.stays c.in_ok-deposit.ensures.goes_on c.in_ok-denied.ensures.goes_on clean in
-    on_ok c.unless_refused.result (λ _ _. goes) c.unless_refused.ensures.asked
-
 pub returns-clause-same : goal.returns-clause-same
 returns-clause-same g c clean office =
-    let same = same_twice (state g.S.Store c.args.tx.now.conn.now) (state g.S.Store c.deposit_row.new.tx.conn.now) (state g.S.Store c.denial.new.tx.conn.now) c.denial.ensures.stays c.in_ok-deposit.ensures.same c.in_ok-denied.ensures.same clean office in
+    let same = same_twice (state g.S.Store c.args.tx.now.conn.now) (state g.S.Store c.deposit_row.new.tx.conn.now) (state g.S.Store c.denial.new.tx.conn.now) c.denial.ensures.inside.stays c.in_ok-deposit.ensures.same c.in_ok-denied.ensures.same clean office in
     on_ok c.unless_refused.result (λ _ _. same) c.unless_refused.ensures.asked
 
 pub returns-in_default-clause-rows : goal.returns-in_default-clause-rows
@@ -68,7 +57,7 @@ returns-clause-rows g c clean office =
     let a = c.args in
     let old = state g.S.Store a.tx.now.conn.now in
     let mid = state g.S.Store c.deposit_row.new.tx.conn.now in
-    let early : HasCleanDisk mid = clean_before mid (state g.S.Store c.denial.new.tx.conn.now) c.denial.ensures.stays clean in
+    let early : HasCleanDisk mid = clean_before mid (state g.S.Store c.denial.new.tx.conn.now) c.denial.ensures.inside.stays clean in
     let same = c.in_ok-deposit.ensures.same early office in
     let row = c.in-Some.deposit in
     let there = sym c.in-Some.is ∙ c.in_ok-deposit.ensures.found early office in
@@ -77,3 +66,21 @@ returns-clause-rows g c clean office =
     let told = told_before old.now mid.now same (λ t. IsDenialIn t a.day a.caller.now a.action (Some c.deref.result.now) (Some c.deref-2.result.now) c.in_ok-denied.denied) (c.in_ok-denied.ensures.rows clean (office_still old.now mid.now same office)) in
     let denial : IsDenialIn (tables_of old.now) a.day a.caller.now a.action (Some row.collection) (Some row.class) c.in_ok-denied.denied = rw (collection, class) at told in
     row_asked (tables_of old.now) a.day a.caller.now a.action a.number row there c.in_ok-denied.denied denial c.unless_refused.result c.unless_refused.ensures.kept c.unless_refused.ensures.refused
+
+pub returns-in_err-denied-clause-inside : goal.returns-in_err-denied-clause-inside
+returns-in_err-denied-clause-inside g c = record {
+  same_reference = search rules;
+  stays = stays_then (state g.S.Store c.args.tx.now.conn.now) (state g.S.Store c.deposit_row.new.tx.conn.now) (state g.S.Store c.denial.new.tx.conn.now) c.deposit_row.ensures.inside.stays c.in_ok-deposit.ensures.inside.goes_on c.denial.ensures.inside.stays;
+  goes_on = search rules;
+  failure = search rules;
+}
+
+pub returns-clause-inside : goal.returns-clause-inside
+returns-clause-inside g c = record {
+  same_reference = search rules;
+  stays = stays_then (state g.S.Store c.args.tx.now.conn.now) (state g.S.Store c.deposit_row.new.tx.conn.now) (state g.S.Store c.denial.new.tx.conn.now) c.deposit_row.ensures.inside.stays c.in_ok-deposit.ensures.inside.goes_on c.denial.ensures.inside.stays;
+  goes_on = λ clean. (
+      let goes = goes_twice (state g.S.Store c.args.tx.now.conn.now) (state g.S.Store c.deposit_row.new.tx.conn.now) (state g.S.Store c.denial.new.tx.conn.now) c.denial.ensures.inside.stays c.in_ok-deposit.ensures.inside.goes_on c.in_ok-denied.ensures.inside.goes_on clean in
+      on_ok c.unless_refused.result (λ _ _. goes) c.unless_refused.ensures.asked);
+  failure = search rules;
+}

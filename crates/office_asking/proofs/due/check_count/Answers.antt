@@ -1,4 +1,4 @@
-use Rattle.std.proofs.Common.{OnOk, pos, w64}
+use Rattle.std.proofs.Common.{OnOk, pos, w64, rules}
 use Rattle.std.proofs.lemmas.Int.{to_z-of_z}
 use Rattle.std.proofs.lemmas.Result.{on_ok_weaker}
 use Rattle.jiff.specs.Words.{IsBetween}
@@ -10,8 +10,13 @@ returns-clause-rows g c clean office =
     let between : OnOk c.check_between.result (IsBetween (pos 1) (pos most.max_holds) c.args.count) = rw (to_z-of_z w64 c.args.count c.ranges.count) at c.check_between.ensures.between in
     on_ok_weaker c.check_between.result (λ is. record { limits = record { max_deposits = pos most.max_deposits; max_holds = pos most.max_holds }; are = c.in_ok-limits.ensures.found clean office; is = is }) between
 
-pub returns-clause-goes_on : goal.returns-clause-goes_on
-returns-clause-goes_on g c clean = on_ok_weaker c.check_between.result (λ _. c.in_ok-limits.ensures.goes_on clean) c.check_between.ensures.between
-
 pub returns-clause-same : goal.returns-clause-same
 returns-clause-same g c clean office = on_ok_weaker c.check_between.result (λ _. c.in_ok-limits.ensures.same clean office) c.check_between.ensures.between
+
+pub returns-clause-inside : goal.returns-clause-inside
+returns-clause-inside g c = record {
+  same_reference = search rules;
+  stays = search rules;
+  goes_on = λ clean. on_ok_weaker c.check_between.result (λ _. c.in_ok-limits.ensures.inside.goes_on clean) c.check_between.ensures.between;
+  failure = search rules;
+}

@@ -21,17 +21,11 @@ returns-then-count-eq0-clause-least g c clean h legal pictured =
 pub returns-then-count-eq0-clause-rows : goal.returns-then-count-eq0-clause-rows
 returns-then-count-eq0-clause-rows g c clean office = search rules
 
-pub returns-then-count-eq0-clause-goes_on : goal.returns-then-count-eq0-clause-goes_on
-returns-then-count-eq0-clause-goes_on g c clean = stands_still (state g.S.Store c.args.tx.now.conn.now)
-
-pub returns-then-count-eq0-clause-stays : goal.returns-then-count-eq0-clause-stays
-returns-then-count-eq0-clause-stays g c = stays_still (state g.S.Store c.args.tx.now.conn.now)
-
 pub returns-clause-least : goal.returns-clause-least
 returns-clause-least g c clean h legal pictured =
     let old = state g.S.Store c.args.tx.now.conn.now in
     let mid = state g.S.Store c.check_count.new.tx.conn.now in
-    let early : HasCleanDisk mid = clean_before mid (state g.S.Store c.least_hold.new.tx.conn.now) c.least_hold.ensures.stays clean in
+    let early : HasCleanDisk mid = clean_before mid (state g.S.Store c.least_hold.new.tx.conn.now) c.least_hold.ensures.inside.stays clean in
     let still = pictured_still h old.now pictured mid.now (c.in_ok-check_count.ensures.same early pictured.office) in
     let found = c.in_ok-found.ensures.least clean h legal still in
     let some : Some c.in_ok-hold.hold ≡ c.in_ok-found.found = there_is c.in_ok-found.found Store c.in_ok-hold.hold c.in_ok-hold.ensures in
@@ -41,7 +35,7 @@ pub returns-clause-rows : goal.returns-clause-rows
 returns-clause-rows g c clean office =
     let old = state g.S.Store c.args.tx.now.conn.now in
     let mid = state g.S.Store c.check_count.new.tx.conn.now in
-    let early : HasCleanDisk mid = clean_before mid (state g.S.Store c.least_hold.new.tx.conn.now) c.least_hold.ensures.stays clean in
+    let early : HasCleanDisk mid = clean_before mid (state g.S.Store c.least_hold.new.tx.conn.now) c.least_hold.ensures.inside.stays clean in
     let same = c.in_ok-check_count.ensures.same early office in
     let some : Some c.in_ok-hold.hold ≡ c.in_ok-found.found = there_is c.in_ok-found.found Store c.in_ok-hold.hold c.in_ok-hold.ensures in
     let least = c.in_ok-found.ensures.rows clean (office_still old.now mid.now same office) in
@@ -49,12 +43,30 @@ returns-clause-rows g c clean office =
     let fits : SFits w64 c.args.count = search rules in
     (rw (to_z-of_z w64 c.args.count fits) at c.in_ok-check_count.ensures.rows early office, told_before old.now mid.now same (λ t. IsLeastIn t c.args.number c.args.collection.now c.args.class.now c.in_ok-hold.hold) is)
 
-pub returns-clause-goes_on : goal.returns-clause-goes_on
-returns-clause-goes_on g c clean =
-    let old = state g.S.Store c.args.tx.now.conn.now in
-    let mid = state g.S.Store c.check_count.new.tx.conn.now in
-    let new = state g.S.Store c.least_hold.new.tx.conn.now in
-    stands_then old old new (stands_still old) (goes_twice old mid new c.least_hold.ensures.stays c.in_ok-check_count.ensures.goes_on c.in_ok-found.ensures.goes_on clean)
+pub returns-then-count-eq0-clause-inside : goal.returns-then-count-eq0-clause-inside
+returns-then-count-eq0-clause-inside g c = record {
+  same_reference = search rules;
+  stays = stays_still (state g.S.Store c.args.tx.now.conn.now);
+  goes_on = λ clean. stands_still (state g.S.Store c.args.tx.now.conn.now);
+  failure = search rules;
+}
 
-pub returns-clause-stays : goal.returns-clause-stays
-returns-clause-stays g c = stays_then (state g.S.Store c.args.tx.now.conn.now) (state g.S.Store c.check_count.new.tx.conn.now) (state g.S.Store c.least_hold.new.tx.conn.now) c.check_count.ensures.stays c.in_ok-check_count.ensures.goes_on c.least_hold.ensures.stays
+pub returns-clause-inside : goal.returns-clause-inside
+returns-clause-inside g c = record {
+  same_reference = search rules;
+  stays = stays_then (state g.S.Store c.args.tx.now.conn.now) (state g.S.Store c.check_count.new.tx.conn.now) (state g.S.Store c.least_hold.new.tx.conn.now) c.check_count.ensures.inside.stays c.in_ok-check_count.ensures.inside.goes_on c.least_hold.ensures.inside.stays;
+  goes_on = λ clean. (
+      let old = state g.S.Store c.args.tx.now.conn.now in
+      let mid = state g.S.Store c.check_count.new.tx.conn.now in
+      let new = state g.S.Store c.least_hold.new.tx.conn.now in
+      stands_then old old new (stands_still old) (goes_twice old mid new c.least_hold.ensures.inside.stays c.in_ok-check_count.ensures.inside.goes_on c.in_ok-found.ensures.inside.goes_on clean));
+  failure = search rules;
+}
+
+pub returns-in_err-hold-clause-inside : goal.returns-in_err-hold-clause-inside
+returns-in_err-hold-clause-inside g c = record {
+  same_reference = search rules;
+  stays = stays_then (state g.S.Store c.args.tx.now.conn.now) (state g.S.Store c.check_count.new.tx.conn.now) (state g.S.Store c.least_hold.new.tx.conn.now) c.check_count.ensures.inside.stays c.in_ok-check_count.ensures.inside.goes_on c.least_hold.ensures.inside.stays;
+  goes_on = search rules;
+  failure = search rules;
+}

@@ -27,8 +27,8 @@ returns-clause-facts g c clean h legal pictured =
     let a = c.args in
     let s1 = state g.S.Store c.decision.new.tx.conn.now in
     let s2 = state g.S.Store c.kept_of.new.tx.conn.now in
-    let before_last : HasCleanDisk s2 = clean_before s2 (state g.S.Store c.counted_hold.new.tx.conn.now) c.counted_hold.ensures.stays clean in
-    let early : HasCleanDisk s1 = clean_before s1 s2 c.kept_of.ensures.stays before_last in
+    let before_last : HasCleanDisk s2 = clean_before s2 (state g.S.Store c.counted_hold.new.tx.conn.now) c.counted_hold.ensures.inside.stays clean in
+    let early : HasCleanDisk s1 = clean_before s1 s2 c.kept_of.ensures.inside.stays before_last in
     let decided = c.in_ok-decision.ensures.decided early h legal pictured in
     let kept = c.in_ok-kept.ensures.kept before_last h legal decided.0 in
     let held = c.in_ok-hold.ensures.least clean h legal kept.0 in
@@ -53,42 +53,17 @@ returns-clause-facts g c clean h legal pictured =
           (due_back c.in_ok-due.due (due h found.1) (falls ∙ ap (λ (k : DueRow). k.due) kept_is)),
     )
 
-pub returns-in_err-kept-clause-stays : goal.returns-in_err-kept-clause-stays
-returns-in_err-kept-clause-stays g c = stays_then (state g.S.Store c.args.tx.now.conn.now) (state g.S.Store c.decision.new.tx.conn.now) (state g.S.Store c.kept_of.new.tx.conn.now) c.decision.ensures.stays c.in_ok-decision.ensures.goes_on c.kept_of.ensures.stays
-
-pub returns-in_err-due-clause-stays : goal.returns-in_err-due-clause-stays
-returns-in_err-due-clause-stays g c = stays_then (state g.S.Store c.args.tx.now.conn.now) (state g.S.Store c.decision.new.tx.conn.now) (state g.S.Store c.kept_of.new.tx.conn.now) c.decision.ensures.stays c.in_ok-decision.ensures.goes_on c.kept_of.ensures.stays
-
-pub returns-in_err-hold-clause-stays : goal.returns-in_err-hold-clause-stays
-returns-in_err-hold-clause-stays g c =
-    stays_thrice (state g.S.Store c.args.tx.now.conn.now) (state g.S.Store c.decision.new.tx.conn.now) (state g.S.Store c.kept_of.new.tx.conn.now) (state g.S.Store c.counted_hold.new.tx.conn.now) c.decision.ensures.stays c.in_ok-decision.ensures.goes_on c.kept_of.ensures.stays c.in_ok-kept.ensures.goes_on c.counted_hold.ensures.stays
-
-pub returns-clause-stays : goal.returns-clause-stays
-returns-clause-stays g c =
-    stays_thrice (state g.S.Store c.args.tx.now.conn.now) (state g.S.Store c.decision.new.tx.conn.now) (state g.S.Store c.kept_of.new.tx.conn.now) (state g.S.Store c.counted_hold.new.tx.conn.now) c.decision.ensures.stays c.in_ok-decision.ensures.goes_on c.kept_of.ensures.stays c.in_ok-kept.ensures.goes_on c.counted_hold.ensures.stays
-
-pub returns-clause-goes_on : goal.returns-clause-goes_on
-returns-clause-goes_on g c clean =
-    let s0 = state g.S.Store c.args.tx.now.conn.now in
-    let s1 = state g.S.Store c.decision.new.tx.conn.now in
-    let s2 = state g.S.Store c.kept_of.new.tx.conn.now in
-    let s3 = state g.S.Store c.counted_hold.new.tx.conn.now in
-    goes_still s0 s2 s3 (goes_twice s0 s1 s2 c.kept_of.ensures.stays c.in_ok-decision.ensures.goes_on c.in_ok-kept.ensures.goes_on (clean_before s2 s3 c.counted_hold.ensures.stays clean)) (c.in_ok-hold.ensures.goes_on clean)
-
-pub returns-in_err-days-clause-stays : goal.returns-in_err-days-clause-stays
-returns-in_err-days-clause-stays g c = stays_still (state g.S.Store c.args.tx.now.conn.now)
-
 pub returns-clause-rows : goal.returns-clause-rows
 returns-clause-rows g c clean office day caller is n numbered =
     let a = c.args in
     let s0 = state g.S.Store a.tx.now.conn.now in
     let s1 = state g.S.Store c.decision.new.tx.conn.now in
     let s2 = state g.S.Store c.kept_of.new.tx.conn.now in
-    let before_last : HasCleanDisk s2 = clean_before s2 (state g.S.Store c.counted_hold.new.tx.conn.now) c.counted_hold.ensures.stays clean in
-    let early : HasCleanDisk s1 = clean_before s1 s2 c.kept_of.ensures.stays before_last in
+    let before_last : HasCleanDisk s2 = clean_before s2 (state g.S.Store c.counted_hold.new.tx.conn.now) c.counted_hold.ensures.inside.stays clean in
+    let early : HasCleanDisk s1 = clean_before s1 s2 c.kept_of.ensures.inside.stays before_last in
     let same1 = c.in_ok-decision.ensures.same early office in
     let office1 = office_still s0.now s1.now same1 office in
-    let same2 = same_twice s0 s1 s2 c.kept_of.ensures.stays c.in_ok-decision.ensures.same c.in_ok-kept.ensures.same before_last office in
+    let same2 = same_twice s0 s1 s2 c.kept_of.ensures.inside.stays c.in_ok-decision.ensures.same c.in_ok-kept.ensures.same before_last office in
     let row = a.row.now in
     let number : c.row.inside.number ≡ n = same_count c.row.inside.number n ((search rules) ∙ sym numbered) in
     let collection : c.deref.result.now ≡ row.collection = search rules in
@@ -112,3 +87,48 @@ returns-clause-rows g c clean office day caller is n numbered =
       is_due = search rules;
       hold = rw (to_z-of_z w64 c.kept.inside.holds fits ∙ counts, number, covered, covered_of) at held;
     }
+
+pub returns-in_err-kept-clause-inside : goal.returns-in_err-kept-clause-inside
+returns-in_err-kept-clause-inside g c = record {
+  same_reference = search rules;
+  stays = stays_then (state g.S.Store c.args.tx.now.conn.now) (state g.S.Store c.decision.new.tx.conn.now) (state g.S.Store c.kept_of.new.tx.conn.now) c.decision.ensures.inside.stays c.in_ok-decision.ensures.inside.goes_on c.kept_of.ensures.inside.stays;
+  goes_on = search rules;
+  failure = search rules;
+}
+
+pub returns-in_err-due-clause-inside : goal.returns-in_err-due-clause-inside
+returns-in_err-due-clause-inside g c = record {
+  same_reference = search rules;
+  stays = stays_then (state g.S.Store c.args.tx.now.conn.now) (state g.S.Store c.decision.new.tx.conn.now) (state g.S.Store c.kept_of.new.tx.conn.now) c.decision.ensures.inside.stays c.in_ok-decision.ensures.inside.goes_on c.kept_of.ensures.inside.stays;
+  goes_on = search rules;
+  failure = search rules;
+}
+
+pub returns-in_err-hold-clause-inside : goal.returns-in_err-hold-clause-inside
+returns-in_err-hold-clause-inside g c = record {
+  same_reference = search rules;
+  stays = stays_thrice (state g.S.Store c.args.tx.now.conn.now) (state g.S.Store c.decision.new.tx.conn.now) (state g.S.Store c.kept_of.new.tx.conn.now) (state g.S.Store c.counted_hold.new.tx.conn.now) c.decision.ensures.inside.stays c.in_ok-decision.ensures.inside.goes_on c.kept_of.ensures.inside.stays c.in_ok-kept.ensures.inside.goes_on c.counted_hold.ensures.inside.stays;
+  goes_on = search rules;
+  failure = search rules;
+}
+
+pub returns-clause-inside : goal.returns-clause-inside
+returns-clause-inside g c = record {
+  same_reference = search rules;
+  stays = stays_thrice (state g.S.Store c.args.tx.now.conn.now) (state g.S.Store c.decision.new.tx.conn.now) (state g.S.Store c.kept_of.new.tx.conn.now) (state g.S.Store c.counted_hold.new.tx.conn.now) c.decision.ensures.inside.stays c.in_ok-decision.ensures.inside.goes_on c.kept_of.ensures.inside.stays c.in_ok-kept.ensures.inside.goes_on c.counted_hold.ensures.inside.stays;
+  goes_on = λ clean. (
+      let s0 = state g.S.Store c.args.tx.now.conn.now in
+      let s1 = state g.S.Store c.decision.new.tx.conn.now in
+      let s2 = state g.S.Store c.kept_of.new.tx.conn.now in
+      let s3 = state g.S.Store c.counted_hold.new.tx.conn.now in
+      goes_still s0 s2 s3 (goes_twice s0 s1 s2 c.kept_of.ensures.inside.stays c.in_ok-decision.ensures.inside.goes_on c.in_ok-kept.ensures.inside.goes_on (clean_before s2 s3 c.counted_hold.ensures.inside.stays clean)) (c.in_ok-hold.ensures.inside.goes_on clean));
+  failure = search rules;
+}
+
+pub returns-in_err-days-clause-inside : goal.returns-in_err-days-clause-inside
+returns-in_err-days-clause-inside g c = record {
+  same_reference = search rules;
+  stays = stays_still (state g.S.Store c.args.tx.now.conn.now);
+  goes_on = search rules;
+  failure = search rules;
+}

@@ -16,28 +16,35 @@ returns-in_default-clause-least g c clean h legal pictured =
 pub returns-clause-least : goal.returns-clause-least
 returns-clause-least g c clean h legal pictured =
     let mid = state g.S.Store c.holds_over.new.tx.conn.now in
-    let early : HasCleanDisk mid = clean_before mid (state g.S.Store c.told_hold.new.tx.conn.now) c.told_hold.ensures.stays clean in
+    let early : HasCleanDisk mid = clean_before mid (state g.S.Store c.told_hold.new.tx.conn.now) c.told_hold.ensures.inside.stays clean in
     let live = c.in_ok-holds.ensures.live early h legal pictured in
     let told = c.in_ok-told_hold.ensures.told clean h legal live.0 in
     let first : Some c.in-Some.least ≡ slice_get c.in_ok-holds.holds.items 0 = search rules in
     (told.0, λ deposit within of. first ∙ ap (λ ks. slice_get ks 0) (live.1 deposit within of))
 
-pub returns-in_err-told_hold-clause-stays : goal.returns-in_err-told_hold-clause-stays
-returns-in_err-told_hold-clause-stays g c = stays_then (state g.S.Store c.args.tx.now.conn.now) (state g.S.Store c.holds_over.new.tx.conn.now) (state g.S.Store c.told_hold.new.tx.conn.now) c.holds_over.ensures.stays c.in_ok-holds.ensures.goes_on c.told_hold.ensures.stays
-
-pub returns-clause-stays : goal.returns-clause-stays
-returns-clause-stays g c = stays_then (state g.S.Store c.args.tx.now.conn.now) (state g.S.Store c.holds_over.new.tx.conn.now) (state g.S.Store c.told_hold.new.tx.conn.now) c.holds_over.ensures.stays c.in_ok-holds.ensures.goes_on c.told_hold.ensures.stays
-
-pub returns-clause-goes_on : goal.returns-clause-goes_on
-returns-clause-goes_on g c = goes_twice (state g.S.Store c.args.tx.now.conn.now) (state g.S.Store c.holds_over.new.tx.conn.now) (state g.S.Store c.told_hold.new.tx.conn.now) c.told_hold.ensures.stays c.in_ok-holds.ensures.goes_on c.in_ok-told_hold.ensures.goes_on
-
 pub returns-clause-rows : goal.returns-clause-rows
 returns-clause-rows g c clean office =
     let old = state g.S.Store c.args.tx.now.conn.now in
     let mid = state g.S.Store c.holds_over.new.tx.conn.now in
-    let early : HasCleanDisk mid = clean_before mid (state g.S.Store c.told_hold.new.tx.conn.now) c.told_hold.ensures.stays clean in
+    let early : HasCleanDisk mid = clean_before mid (state g.S.Store c.told_hold.new.tx.conn.now) c.told_hold.ensures.inside.stays clean in
     let same = c.in_ok-holds.ensures.same early office in
     let told = c.in_ok-told_hold.ensures.rows clean (office_still old.now mid.now same office) in
     let over = c.in_ok-holds.ensures.rows early office in
     let first = first_of c.in-Some.least c.in_ok-holds.holds.items _ over.0 (search rules) in
     record { released = over.1; others = first.0; live = first.1; told = c.in_ok-told_hold.field-0; is = told_before old.now mid.now same (λ t. IsHoldIn t c.in-Some.least c.in_ok-told_hold.field-0) told }
+
+pub returns-in_err-told_hold-clause-inside : goal.returns-in_err-told_hold-clause-inside
+returns-in_err-told_hold-clause-inside g c = record {
+  same_reference = search rules;
+  stays = stays_then (state g.S.Store c.args.tx.now.conn.now) (state g.S.Store c.holds_over.new.tx.conn.now) (state g.S.Store c.told_hold.new.tx.conn.now) c.holds_over.ensures.inside.stays c.in_ok-holds.ensures.inside.goes_on c.told_hold.ensures.inside.stays;
+  goes_on = search rules;
+  failure = search rules;
+}
+
+pub returns-clause-inside : goal.returns-clause-inside
+returns-clause-inside g c = record {
+  same_reference = search rules;
+  stays = stays_then (state g.S.Store c.args.tx.now.conn.now) (state g.S.Store c.holds_over.new.tx.conn.now) (state g.S.Store c.told_hold.new.tx.conn.now) c.holds_over.ensures.inside.stays c.in_ok-holds.ensures.inside.goes_on c.told_hold.ensures.inside.stays;
+  goes_on = goes_twice (state g.S.Store c.args.tx.now.conn.now) (state g.S.Store c.holds_over.new.tx.conn.now) (state g.S.Store c.told_hold.new.tx.conn.now) c.told_hold.ensures.inside.stays c.in_ok-holds.ensures.inside.goes_on c.in_ok-told_hold.ensures.inside.goes_on;
+  failure = search rules;
+}

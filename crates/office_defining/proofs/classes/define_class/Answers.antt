@@ -25,28 +25,17 @@ returns-in-Some-clause-decides g c clean h legal pictured =
     let said : Some c.in-Some.why ≡ denial h a.day a.caller.now acts.Class None (Some a.name.now) = search (rules, asked.1) in
     refused_serves h a.day a.caller.now (requests.DefineClass a.name.now a.years) _ c.in-Some.why (said ∙ one_refusal _) asked.0
 
-pub returns-in_err-put_years-clause-stays : goal.returns-in_err-put_years-clause-stays
-returns-in_err-put_years-clause-stays g c =
-    stays_then (state g.S.Store c.args.tx.now.conn.now) (state g.S.Store c.denial.new.tx.conn.now) (state g.S.Store c.put_years.new.tx.conn.now) c.denial.ensures.stays c.in_ok-why.ensures.goes_on c.put_years.ensures.stays
-
-pub returns-clause-stays : goal.returns-clause-stays
-returns-clause-stays g c =
-    stays_then (state g.S.Store c.args.tx.now.conn.now) (state g.S.Store c.denial.new.tx.conn.now) (state g.S.Store c.put_years.new.tx.conn.now) c.denial.ensures.stays c.in_ok-why.ensures.goes_on c.put_years.ensures.stays
-
 pub returns-clause-decides : goal.returns-clause-decides
 returns-clause-decides g c clean h legal pictured =
     let a = c.args in
     let mid = state g.S.Store c.denial.new.tx.conn.now in
     let new = state g.S.Store c.put_years.new.tx.conn.now in
-    let early : HasCleanDisk mid = clean_before mid new c.put_years.ensures.stays clean in
+    let early : HasCleanDisk mid = clean_before mid new c.put_years.ensures.inside.stays clean in
     let asked = c.in_ok-why.ensures.denied early h legal pictured in
     let said : None ≡ denial h a.day a.caller.now acts.Class None (Some a.name.now) = search (rules, asked.1) in
     let name = c.as_str-2.ensures.text in
     let grew : Pictures (with_changes h (DefinedClass a.day a.name.now a.years ∷ [])) new.now = rw name at (c.in_ok-put_years.ensures.defined a.day clean h legal asked.0 tt) in
     allowed_serves h a.day a.caller.now (requests.DefineClass a.name.now a.years) new.now _ (said ∙ one_refusal _) (ap (λ n. answers.Class n a.years) c.in_ok-defined.ensures) grew
-
-pub returns-clause-goes_on : goal.returns-clause-goes_on
-returns-clause-goes_on g c = goes_twice (state g.S.Store c.args.tx.now.conn.now) (state g.S.Store c.denial.new.tx.conn.now) (state g.S.Store c.put_years.new.tx.conn.now) c.put_years.ensures.stays c.in_ok-why.ensures.goes_on c.in_ok-put_years.ensures.goes_on
 
 pub returns-in-Some-clause-rows : goal.returns-in-Some-clause-rows
 returns-in-Some-clause-rows g c clean office =
@@ -62,10 +51,26 @@ returns-clause-rows g c clean office =
     let old = state g.S.Store a.tx.now.conn.now in
     let mid = state g.S.Store c.denial.new.tx.conn.now in
     let new = state g.S.Store c.put_years.new.tx.conn.now in
-    let early : HasCleanDisk mid = clean_before mid new c.put_years.ensures.stays clean in
+    let early : HasCleanDisk mid = clean_before mid new c.put_years.ensures.inside.stays clean in
     let same : mid.now ≡ old.now = c.in_ok-why.ensures.same early office in
     let none : c.in_ok-why.field-0 ≡ None = search rules in
     let denied = subst (λ (n : List ℕ). IsDenialIn (tables_of old.now) a.day a.caller.now acts.Class None (Some n) c.in_ok-why.field-0) c.as_str.ensures.text (c.in_ok-why.ensures.rows early office) in
     let told = told_before old.now mid.now same (λ t. AreClosedOnDays (class_closings c.as_str-2.result.now t)) (c.in_ok-put_years.ensures.rows clean (office_still old.now mid.now same office)) in
     let closed = subst (λ (n : List ℕ). AreClosedOnDays (class_closings n (tables_of old.now))) c.as_str-2.ensures.text told in
     subst (λ (n : List ℕ). IsClassDefinedIn (tables_of old.now) a.day a.caller.now a.name.now a.years (answers.Class n a.years)) (sym c.in_ok-defined.ensures) (class_allowed (tables_of old.now) a.day a.caller.now a.name.now a.years c.in_ok-why.field-0 none denied closed)
+
+pub returns-in_err-put_years-clause-inside : goal.returns-in_err-put_years-clause-inside
+returns-in_err-put_years-clause-inside g c = record {
+  same_reference = search rules;
+  stays = stays_then (state g.S.Store c.args.tx.now.conn.now) (state g.S.Store c.denial.new.tx.conn.now) (state g.S.Store c.put_years.new.tx.conn.now) c.denial.ensures.inside.stays c.in_ok-why.ensures.inside.goes_on c.put_years.ensures.inside.stays;
+  goes_on = search rules;
+  failure = search rules;
+}
+
+pub returns-clause-inside : goal.returns-clause-inside
+returns-clause-inside g c = record {
+  same_reference = search rules;
+  stays = stays_then (state g.S.Store c.args.tx.now.conn.now) (state g.S.Store c.denial.new.tx.conn.now) (state g.S.Store c.put_years.new.tx.conn.now) c.denial.ensures.inside.stays c.in_ok-why.ensures.inside.goes_on c.put_years.ensures.inside.stays;
+  goes_on = goes_twice (state g.S.Store c.args.tx.now.conn.now) (state g.S.Store c.denial.new.tx.conn.now) (state g.S.Store c.put_years.new.tx.conn.now) c.put_years.ensures.inside.stays c.in_ok-why.ensures.inside.goes_on c.in_ok-put_years.ensures.inside.goes_on;
+  failure = search rules;
+}

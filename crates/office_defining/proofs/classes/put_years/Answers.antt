@@ -14,25 +14,13 @@ use Rattle.office_defining.proofs.ClassTold.{those, closings_read, class_defined
 use Rattle.office_defining.proofs.DefinedByRows.{closed_before}
 use Rattle.office_defining.proofs.classes.put_years.Goals as goal
 
-pub returns-clause-stays : goal.returns-clause-stays
-returns-clause-stays g c =
-    stays_then (state g.S.Store c.args.tx.now.conn.now) (state g.S.Store c.put_class.new.tx.conn.now) (state g.S.Store c.set_days_of_class.new.tx.conn.now) c.put_class.ensures.stays c.in_ok-put_class.ensures.goes_on c.set_days_of_class.ensures.stays
-
-pub returns-clause-goes_on : goal.returns-clause-goes_on
-returns-clause-goes_on g c clean =
-    let old = state g.S.Store c.args.tx.now.conn.now in
-    let mid = state g.S.Store c.put_class.new.tx.conn.now in
-    let new = state g.S.Store c.set_days_of_class.new.tx.conn.now in
-    let early : HasCleanDisk mid = clean_before mid new c.set_days_of_class.ensures.stays clean in
-    on_ok_weaker c.set_days_of_class.result (goes_then old mid new (c.in_ok-put_class.ensures.goes_on early)) (c.set_days_of_class.ensures.goes_on clean)
-
 pub returns-clause-defined : goal.returns-clause-defined
 returns-clause-defined g c day clean h legal pictured _ =
     let a = c.args in
     let old = state g.S.Store a.tx.now.conn.now in
     let mid = state g.S.Store c.put_class.new.tx.conn.now in
     let new = state g.S.Store c.set_days_of_class.new.tx.conn.now in
-    let early : HasCleanDisk mid = clean_before mid new c.set_days_of_class.ensures.stays clean in
+    let early : HasCleanDisk mid = clean_before mid new c.set_days_of_class.ensures.inside.stays clean in
     let years : c.years_number.result ≡ years_number a.years = search rules in
     let fits : SFits w64 c.years_number.result = search rules in
     let put : Becomes mid.now (with_class a.name.now (years_number a.years) (tables_of old.now)) = rw (to_z-of_z w64 c.years_number.result fits, years) at (c.in_ok-put_class.ensures.becomes early pictured.office) in
@@ -46,6 +34,19 @@ returns-clause-rows g c clean office =
     let old = state g.S.Store a.tx.now.conn.now in
     let mid = state g.S.Store c.put_class.new.tx.conn.now in
     let new = state g.S.Store c.set_days_of_class.new.tx.conn.now in
-    let early : HasCleanDisk mid = clean_before mid new c.set_days_of_class.ensures.stays clean in
+    let early : HasCleanDisk mid = clean_before mid new c.set_days_of_class.ensures.inside.stays clean in
     let put = c.in_ok-put_class.ensures.becomes early office in
     on_ok_weaker c.set_days_of_class.result (closed_before a.name.now _ old.now mid.now put) (c.set_days_of_class.ensures.rows clean put.office)
+
+pub returns-clause-inside : goal.returns-clause-inside
+returns-clause-inside g c = record {
+  same_reference = search rules;
+  stays = stays_then (state g.S.Store c.args.tx.now.conn.now) (state g.S.Store c.put_class.new.tx.conn.now) (state g.S.Store c.set_days_of_class.new.tx.conn.now) c.put_class.ensures.inside.stays c.in_ok-put_class.ensures.inside.goes_on c.set_days_of_class.ensures.inside.stays;
+  goes_on = λ clean. (
+      let old = state g.S.Store c.args.tx.now.conn.now in
+      let mid = state g.S.Store c.put_class.new.tx.conn.now in
+      let new = state g.S.Store c.set_days_of_class.new.tx.conn.now in
+      let early : HasCleanDisk mid = clean_before mid new c.set_days_of_class.ensures.inside.stays clean in
+      on_ok_weaker c.set_days_of_class.result (goes_then old mid new (c.in_ok-put_class.ensures.inside.goes_on early)) (c.set_days_of_class.ensures.inside.goes_on clean));
+  failure = search rules;
+}

@@ -10,25 +10,13 @@ use Rattle.office_defining.specs.ByRows.{AreClosedOnDays}
 use Rattle.office_defining.specs.Revising.{AreDueDaysSet}
 use Rattle.office_defining.proofs.classes.set_days_of_class.Goals as goal
 
-pub returns-clause-stays : goal.returns-clause-stays
-returns-clause-stays g c =
-    stays_then (state g.S.Store c.args.tx.now.conn.now) (state g.S.Store c.rows_of_class.new.tx.conn.now) (state g.S.Store c.set_due_days.new.tx.conn.now) c.rows_of_class.ensures.stays c.in_ok-rows.ensures.goes_on c.set_due_days.ensures.stays
-
-pub returns-clause-goes_on : goal.returns-clause-goes_on
-returns-clause-goes_on g c clean =
-    let old = state g.S.Store c.args.tx.now.conn.now in
-    let mid = state g.S.Store c.rows_of_class.new.tx.conn.now in
-    let new = state g.S.Store c.set_due_days.new.tx.conn.now in
-    let early : HasCleanDisk mid = clean_before mid new c.set_due_days.ensures.stays clean in
-    on_ok_weaker c.set_due_days.result (goes_still old mid new (c.in_ok-rows.ensures.goes_on early)) (c.set_due_days.ensures.goes_on clean)
-
 pub returns-clause-set : goal.returns-clause-set
 returns-clause-set g c deposits are clean office =
     let a = c.args in
     let old = state g.S.Store a.tx.now.conn.now in
     let mid = state g.S.Store c.rows_of_class.new.tx.conn.now in
     let new = state g.S.Store c.set_due_days.new.tx.conn.now in
-    let early : HasCleanDisk mid = clean_before mid new c.set_due_days.ensures.stays clean in
+    let early : HasCleanDisk mid = clean_before mid new c.set_due_days.ensures.inside.stays clean in
     let same : mid.now ≡ old.now = c.in_ok-rows.ensures.same early office in
     let found : c.deref.result.now ≡ class_closings a.class.now (tables_of old.now) = search (rules, c.in_ok-rows.ensures.found early office) in
     on_ok_weaker c.set_due_days.result (subst (λ db. AreDueDaysSet a.years deposits db new.now) same)
@@ -40,6 +28,19 @@ returns-clause-rows g c clean office =
     let old = state g.S.Store a.tx.now.conn.now in
     let mid = state g.S.Store c.rows_of_class.new.tx.conn.now in
     let new = state g.S.Store c.set_due_days.new.tx.conn.now in
-    let early : HasCleanDisk mid = clean_before mid new c.set_due_days.ensures.stays clean in
+    let early : HasCleanDisk mid = clean_before mid new c.set_due_days.ensures.inside.stays clean in
     let found : c.deref.result.now ≡ class_closings a.class.now (tables_of old.now) = search (rules, c.in_ok-rows.ensures.found early office) in
     on_ok_weaker c.set_due_days.result (subst AreClosedOnDays found) c.set_due_days.ensures.closed
+
+pub returns-clause-inside : goal.returns-clause-inside
+returns-clause-inside g c = record {
+  same_reference = search rules;
+  stays = stays_then (state g.S.Store c.args.tx.now.conn.now) (state g.S.Store c.rows_of_class.new.tx.conn.now) (state g.S.Store c.set_due_days.new.tx.conn.now) c.rows_of_class.ensures.inside.stays c.in_ok-rows.ensures.inside.goes_on c.set_due_days.ensures.inside.stays;
+  goes_on = λ clean. (
+      let old = state g.S.Store c.args.tx.now.conn.now in
+      let mid = state g.S.Store c.rows_of_class.new.tx.conn.now in
+      let new = state g.S.Store c.set_due_days.new.tx.conn.now in
+      let early : HasCleanDisk mid = clean_before mid new c.set_due_days.ensures.inside.stays clean in
+      on_ok_weaker c.set_due_days.result (goes_still old mid new (c.in_ok-rows.ensures.inside.goes_on early)) (c.set_due_days.ensures.inside.goes_on clean));
+  failure = search rules;
+}

@@ -11,9 +11,6 @@ use Rattle.office_asking.proofs.InTurn.{stays_still}
 use Rattle.office_defining.proofs.DefinedByRows.{so_anyway}
 use Rattle.office_defining.proofs.classes.set_due_day.Goals as goal
 
-pub returns-in_err-closed-clause-stays : goal.returns-in_err-closed-clause-stays
-returns-in_err-closed-clause-stays g c = stays_still (state g.S.Store c.args.tx.now.conn.now)
-
 pub returns-clause-becomes : goal.returns-clause-becomes
 returns-clause-becomes g c closed e clean office =
     let a = c.args in
@@ -31,3 +28,11 @@ returns-clause-closed g c =
     let there : c.row.inside.closed ≡ c.args.row.now.closed = search rules in
     let range : IsDayNumber c.row.inside.closed = rw (to_z-of_z w64 c.row.inside.closed fits) at c.in_ok-closed.ensures.range in
     so_anyway c.set_due.result (subst IsDayNumber there range)
+
+pub returns-in_err-closed-clause-inside : goal.returns-in_err-closed-clause-inside
+returns-in_err-closed-clause-inside g c = record {
+  same_reference = search rules;
+  stays = stays_still (state g.S.Store c.args.tx.now.conn.now);
+  goes_on = search rules;
+  failure = search rules;
+}

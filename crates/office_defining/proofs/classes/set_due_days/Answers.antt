@@ -26,11 +26,11 @@ loop-row-preserved g c =
     let now = state g.S.Store c.loop-row.tx.conn.now in
     let new = state g.S.Store c.set_due_day.new.tx.conn.now in
     let inv = c.loop-row.invariant in
-    let early = λ (clean : HasCleanDisk new). let e : HasCleanDisk now = clean_before now new c.set_due_day.ensures.stays clean in e in
+    let early = λ (clean : HasCleanDisk new). let e : HasCleanDisk now = clean_before now new c.set_due_day.ensures.inside.stays clean in e in
     record {
       same_reference = search rules;
-      stays = stays_on old now new inv.stays inv.goes_on c.set_due_day.ensures.stays;
-      goes_on = λ clean. let p = inv.goes_on (early clean) in let q = c.in_ok-set_due_day.ensures.goes_on clean in record { is_open = λ _. q.is_open; inside = λ i. q.inside (p.inside i) };
+      stays = stays_on old now new inv.stays inv.goes_on c.set_due_day.ensures.inside.stays;
+      goes_on = λ clean. let p = inv.goes_on (early clean) in let q = c.in_ok-set_due_day.ensures.inside.goes_on clean in record { is_open = λ _. q.is_open; inside = λ i. q.inside (p.inside i) };
       set = λ deposits are clean office.
           let there = inv.set deposits are (early clean) office in
           let next = sets_next c.args.years c.args.rows.now deposits c.loop-row.row-index _ c.loop-row-test.true c.row-item.is are old.now now.now new.now
@@ -38,9 +38,6 @@ loop-row-preserved g c =
           (next.0, next.1, λ kept. c.in_ok-set_due_day.ensures.once clean there.0 (there.2 kept));
       closed = closed_next c.args.rows.now c.loop-row.row-index _ c.loop-row-test.true c.row-item.is c.in_ok-set_due_day.ensures.closed inv.closed;
     }
-
-pub returns-in_err-set_due_day-clause-stays : goal.returns-in_err-set_due_day-clause-stays
-returns-in_err-set_due_day-clause-stays g c = stays_on (state g.S.Store c.args.tx.now.conn.now) (state g.S.Store c.loop-row.tx.conn.now) (state g.S.Store c.set_due_day.new.tx.conn.now) c.loop-row.invariant.stays c.loop-row.invariant.goes_on c.set_due_day.ensures.stays
 
 pub returns-clause-set : goal.returns-clause-set
 returns-clause-set g c deposits are clean office =
@@ -55,3 +52,11 @@ returns-clause-set g c deposits are clean office =
 
 pub returns-clause-closed : goal.returns-clause-closed
 returns-clause-closed g c = subst AreClosedOnDays (take_all c.loop-row.row-index c.args.rows.now c.loop-row-test.false) c.loop-row.invariant.closed
+
+pub returns-in_err-set_due_day-clause-inside : goal.returns-in_err-set_due_day-clause-inside
+returns-in_err-set_due_day-clause-inside g c = record {
+  same_reference = search rules;
+  stays = stays_on (state g.S.Store c.args.tx.now.conn.now) (state g.S.Store c.loop-row.tx.conn.now) (state g.S.Store c.set_due_day.new.tx.conn.now) c.loop-row.invariant.stays c.loop-row.invariant.goes_on c.set_due_day.ensures.inside.stays;
+  goes_on = search rules;
+  failure = search rules;
+}

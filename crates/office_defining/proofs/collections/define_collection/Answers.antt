@@ -25,29 +25,18 @@ returns-in-Some-clause-decides g c clean h legal pictured =
     let said : Some c.in-Some.why ≡ denial h a.day a.caller.now acts.Collection (Some a.name.now) None = search (rules, asked.1) in
     refused_serves h a.day a.caller.now (requests.DefineCollection a.name.now) _ c.in-Some.why (said ∙ one_refusal _) asked.0
 
-pub returns-in_err-put_collection-clause-stays : goal.returns-in_err-put_collection-clause-stays
-returns-in_err-put_collection-clause-stays g c =
-    stays_then (state g.S.Store c.args.tx.now.conn.now) (state g.S.Store c.denial.new.tx.conn.now) (state g.S.Store c.put_collection.new.tx.conn.now) c.denial.ensures.stays c.in_ok-why.ensures.goes_on c.put_collection.ensures.stays
-
-pub returns-clause-stays : goal.returns-clause-stays
-returns-clause-stays g c =
-    stays_then (state g.S.Store c.args.tx.now.conn.now) (state g.S.Store c.denial.new.tx.conn.now) (state g.S.Store c.put_collection.new.tx.conn.now) c.denial.ensures.stays c.in_ok-why.ensures.goes_on c.put_collection.ensures.stays
-
 pub returns-clause-decides : goal.returns-clause-decides
 returns-clause-decides g c clean h legal pictured =
     let a = c.args in
     let mid = state g.S.Store c.denial.new.tx.conn.now in
     let new = state g.S.Store c.put_collection.new.tx.conn.now in
-    let early : HasCleanDisk mid = clean_before mid new c.put_collection.ensures.stays clean in
+    let early : HasCleanDisk mid = clean_before mid new c.put_collection.ensures.inside.stays clean in
     let asked = c.in_ok-why.ensures.denied early h legal pictured in
     let said : None ≡ denial h a.day a.caller.now acts.Collection (Some a.name.now) None = search (rules, asked.1) in
     let name = c.as_str-2.ensures.text in
     let put : Becomes new.now (with_collection a.name.now (tables_of mid.now)) = rw name at (c.in_ok-put_collection.ensures.becomes clean asked.0.office) in
     let grew = pictures_grown h (with_changes h (allowed_change h a.day (requests.DefineCollection a.name.now))) (with_collection a.name.now) mid.now new.now (collection_told h a.day a.name.now) asked.0 put (c.in_ok-put_collection.ensures.once clean asked.0.office) in
     allowed_serves h a.day a.caller.now (requests.DefineCollection a.name.now) new.now _ (said ∙ one_refusal _) (ap answers.Collection c.in_ok-defined.ensures) grew
-
-pub returns-clause-goes_on : goal.returns-clause-goes_on
-returns-clause-goes_on g c = goes_twice (state g.S.Store c.args.tx.now.conn.now) (state g.S.Store c.denial.new.tx.conn.now) (state g.S.Store c.put_collection.new.tx.conn.now) c.put_collection.ensures.stays c.in_ok-why.ensures.goes_on c.in_ok-put_collection.ensures.goes_on
 
 pub returns-in-Some-clause-rows : goal.returns-in-Some-clause-rows
 returns-in-Some-clause-rows g c clean office =
@@ -61,7 +50,23 @@ returns-clause-rows g c clean office =
     let a = c.args in
     let old = state g.S.Store a.tx.now.conn.now in
     let mid = state g.S.Store c.denial.new.tx.conn.now in
-    let early : HasCleanDisk mid = clean_before mid (state g.S.Store c.put_collection.new.tx.conn.now) c.put_collection.ensures.stays clean in
+    let early : HasCleanDisk mid = clean_before mid (state g.S.Store c.put_collection.new.tx.conn.now) c.put_collection.ensures.inside.stays clean in
     let none : c.in_ok-why.field-0 ≡ None = search rules in
     let denied = subst (λ (n : List ℕ). IsDenialIn (tables_of old.now) a.day a.caller.now acts.Collection (Some n) None c.in_ok-why.field-0) c.as_str.ensures.text (c.in_ok-why.ensures.rows early office) in
     subst (λ (n : List ℕ). IsCollectionDefinedIn (tables_of old.now) a.day a.caller.now a.name.now (answers.Collection n)) (sym c.in_ok-defined.ensures) (collection_allowed (tables_of old.now) a.day a.caller.now a.name.now c.in_ok-why.field-0 none denied)
+
+pub returns-in_err-put_collection-clause-inside : goal.returns-in_err-put_collection-clause-inside
+returns-in_err-put_collection-clause-inside g c = record {
+  same_reference = search rules;
+  stays = stays_then (state g.S.Store c.args.tx.now.conn.now) (state g.S.Store c.denial.new.tx.conn.now) (state g.S.Store c.put_collection.new.tx.conn.now) c.denial.ensures.inside.stays c.in_ok-why.ensures.inside.goes_on c.put_collection.ensures.inside.stays;
+  goes_on = search rules;
+  failure = search rules;
+}
+
+pub returns-clause-inside : goal.returns-clause-inside
+returns-clause-inside g c = record {
+  same_reference = search rules;
+  stays = stays_then (state g.S.Store c.args.tx.now.conn.now) (state g.S.Store c.denial.new.tx.conn.now) (state g.S.Store c.put_collection.new.tx.conn.now) c.denial.ensures.inside.stays c.in_ok-why.ensures.inside.goes_on c.put_collection.ensures.inside.stays;
+  goes_on = goes_twice (state g.S.Store c.args.tx.now.conn.now) (state g.S.Store c.denial.new.tx.conn.now) (state g.S.Store c.put_collection.new.tx.conn.now) c.put_collection.ensures.inside.stays c.in_ok-why.ensures.inside.goes_on c.in_ok-put_collection.ensures.inside.goes_on;
+  failure = search rules;
+}

@@ -20,8 +20,8 @@ returns g c =
     let same : end ≡ c.conn-1.given.0 = search rules in
     let made : IsMade g.S.Store first last (after_policy policy) c.install-done.result = record {
       committed = c.is_autocommit-is_settled.ensures.settled (c.is_autocommit-is_settled.ensures.value ∙ ap not c.requires.outside);
-      stays = rw begun at c.install-done.ensures.stays;
-      goes_on = rw begun at c.install-done.ensures.goes_on;
+      stays = rw begun at c.install-done.ensures.inside.stays;
+      goes_on = rw begun at c.install-done.ensures.inside.goes_on;
       makes = λ clean h legal pictured. let accepted = rw begun at (c.install-done.ensures.installed clean) in accepted h legal pictured tt;
     } in
     let survives : Survives (state g.S.Store first) (state g.S.Store end) (CommitsTo (state g.S.Store first) (after_policy policy)) = made_survives made end c.end.ensures.survives in
@@ -30,7 +30,7 @@ returns g c =
     let early = λ (late : HasCleanDisk (state g.S.Store end)). let clean : HasCleanDisk (state g.S.Store last) = omega (arith, late, c.end.ensures.survives.clean) in clean in
     rw (← same) (record {
       outside = c.end.ensures.outside;
-      failure = c.end.ensures.failure c.install-done.ensures.failure;
+      failure = c.end.ensures.failure c.install-done.ensures.inside.failure;
       installed = λ late.
           on_committed (Installs (state g.S.Store first) (state g.S.Store end) policy) _ c.install-done.result c.end.result
           (λ x is shows h legal keeps. record { legal = runs.install h policy c.rules-rules.ensures.policy legal; kept = made_kept made end (early late) x is shows h legal keeps }) (c.end.ensures.committed late);

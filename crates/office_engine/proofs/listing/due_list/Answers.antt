@@ -15,8 +15,8 @@ returns-clause-listed g c =
     let settled = c.is_autocommit-is_settled.ensures.settled (c.is_autocommit-is_settled.ensures.value ∙ ap not c.requires.outside) in
     rw (← same) (λ (late : HasCleanDisk (state g.S.Store end)).
     let early : HasCleanDisk (state g.S.Store last) = omega (arith, late, c.rollback.ensures.survives.clean) in
-    found_kept g.S.Store first last end (λ h numbers. numbers.items ≡ due_list h c.args.day c.args.caller.now) settled (rw begun at c.due_numbers-found.ensures.stays) c.due_numbers-found.result
-    (rw begun at c.due_numbers-found.ensures.goes_on) (rw begun at c.due_numbers-found.ensures.due) early (c.rollback.ensures.undone late))
+    found_kept g.S.Store first last end (λ h numbers. numbers.items ≡ due_list h c.args.day c.args.caller.now) settled (rw begun at c.due_numbers-found.ensures.inside.stays) c.due_numbers-found.result
+    (rw begun at c.due_numbers-found.ensures.inside.goes_on) (rw begun at c.due_numbers-found.ensures.due) early (c.rollback.ensures.undone late))
 
 pub returns-clause-rows : goal.returns-clause-rows
 returns-clause-rows g c =

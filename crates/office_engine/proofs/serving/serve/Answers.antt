@@ -19,8 +19,8 @@ returns g c =
     let decided : IsDecided g.S.Store first last item c.decide-decided.result = record {
       ranged = (search rules, c.prove_in_range.ensures);
       committed = c.is_autocommit-is_settled.ensures.settled (c.is_autocommit-is_settled.ensures.value ∙ ap not c.requires.outside);
-      stays = rw begun at c.decide-decided.ensures.stays;
-      goes_on = rw begun at c.decide-decided.ensures.goes_on;
+      stays = rw begun at c.decide-decided.ensures.inside.stays;
+      goes_on = rw begun at c.decide-decided.ensures.inside.goes_on;
       decides = rw begun at c.decide-decided.ensures.decides;
       rows = rw begun at c.decide-decided.ensures.rows;
     } in

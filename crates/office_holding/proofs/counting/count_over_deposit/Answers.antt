@@ -23,10 +23,10 @@ returns-clause-counted g c clean office =
     let s1 = state g.S.Store c.limits.new.tx.conn.now in
     let s2 = state g.S.Store c.due_row.new.tx.conn.now in
     let s3 = state g.S.Store c.set_holds.new.tx.conn.now in
-    let clean2 : HasCleanDisk s2 = clean_before s2 s3 c.set_holds.ensures.stays clean in
-    let clean1 : HasCleanDisk s1 = clean_before s1 s2 c.due_row.ensures.stays clean2 in
+    let clean2 : HasCleanDisk s2 = clean_before s2 s3 c.set_holds.ensures.inside.stays clean in
+    let clean1 : HasCleanDisk s1 = clean_before s1 s2 c.due_row.ensures.inside.stays clean2 in
     let same1 = c.in_ok-limits.ensures.same clean1 office in
-    let same = same_twice s0 s1 s2 c.due_row.ensures.stays c.in_ok-limits.ensures.same c.in_ok-found.ensures.same clean2 office in
+    let same = same_twice s0 s1 s2 c.due_row.ensures.inside.stays c.in_ok-limits.ensures.same c.in_ok-found.ensures.same clean2 office in
     let row = c.in_ok-row.row in
     let some : Some row ≡ c.in_ok-found.found = there_is c.in_ok-found.found Store row c.in_ok-row.ensures in
     let read = told_before s0.now s1.now same1 (λ t. c.in_ok-found.found ≡ due_numbered (pos a.number) t.dues) (c.in_ok-found.ensures.found clean2 (office_still s0.now s1.now same1 office)) in
@@ -47,8 +47,8 @@ returns-clause-rows g c clean office =
     let s1 = state g.S.Store c.limits.new.tx.conn.now in
     let s2 = state g.S.Store c.due_row.new.tx.conn.now in
     let s3 = state g.S.Store c.set_holds.new.tx.conn.now in
-    let clean2 : HasCleanDisk s2 = clean_before s2 s3 c.set_holds.ensures.stays clean in
-    let clean1 : HasCleanDisk s1 = clean_before s1 s2 c.due_row.ensures.stays clean2 in
+    let clean2 : HasCleanDisk s2 = clean_before s2 s3 c.set_holds.ensures.inside.stays clean in
+    let clean1 : HasCleanDisk s1 = clean_before s1 s2 c.due_row.ensures.inside.stays clean2 in
     let same1 = c.in_ok-limits.ensures.same clean1 office in
     let row = c.in_ok-row.row in
     let some : Some row ≡ c.in_ok-found.found = there_is c.in_ok-found.found Store row c.in_ok-row.ensures in
@@ -65,7 +65,7 @@ returns-clause-rows g c clean office =
       before = subst (λ n. IsBetween (pos 0) (pos c.in_ok-limits.limits.max_holds) n) held (rw (to_z-of_z w64 c.row.inside.holds fits_read) at c.in_ok-holds.ensures.before);
       after = subst (λ n. IsBetween (pos 0) (pos c.in_ok-limits.limits.max_holds) n) sum c.in_ok-holds.ensures.after;
     } in
-    IfOk-weaker c.set_holds.result _ _ (λ _ _. count) (c.set_holds.ensures.goes_on clean)
+    IfOk-weaker c.set_holds.result _ _ (λ _ _. count) (c.set_holds.ensures.inside.goes_on clean)
 
 pub returns-clause-once : goal.returns-clause-once
 returns-clause-once g c clean office once =
@@ -73,28 +73,45 @@ returns-clause-once g c clean office once =
     let s1 = state g.S.Store c.limits.new.tx.conn.now in
     let s2 = state g.S.Store c.due_row.new.tx.conn.now in
     let s3 = state g.S.Store c.set_holds.new.tx.conn.now in
-    let clean2 : HasCleanDisk s2 = clean_before s2 s3 c.set_holds.ensures.stays clean in
-    let same = same_twice s0 s1 s2 c.due_row.ensures.stays c.in_ok-limits.ensures.same c.in_ok-found.ensures.same clean2 office in
+    let clean2 : HasCleanDisk s2 = clean_before s2 s3 c.set_holds.ensures.inside.stays clean in
+    let same = same_twice s0 s1 s2 c.due_row.ensures.inside.stays c.in_ok-limits.ensures.same c.in_ok-found.ensures.same clean2 office in
     c.set_holds.ensures.once clean (office_still s0.now s2.now same office) (subst KeepsOnce (sym same) once)
 
-pub returns-clause-stays : goal.returns-clause-stays
-returns-clause-stays g c =
-    stays_thrice (state g.S.Store c.args.tx.now.conn.now) (state g.S.Store c.limits.new.tx.conn.now) (state g.S.Store c.due_row.new.tx.conn.now) (state g.S.Store c.set_holds.new.tx.conn.now)
-    c.limits.ensures.stays c.in_ok-limits.ensures.goes_on c.due_row.ensures.stays c.in_ok-found.ensures.goes_on c.set_holds.ensures.stays
+pub returns-clause-inside : goal.returns-clause-inside
+returns-clause-inside g c = record {
+  same_reference = search rules;
+  stays = (
+      stays_thrice (state g.S.Store c.args.tx.now.conn.now) (state g.S.Store c.limits.new.tx.conn.now) (state g.S.Store c.due_row.new.tx.conn.now) (state g.S.Store c.set_holds.new.tx.conn.now)
+      c.limits.ensures.inside.stays c.in_ok-limits.ensures.inside.goes_on c.due_row.ensures.inside.stays c.in_ok-found.ensures.inside.goes_on c.set_holds.ensures.inside.stays);
+  goes_on = (
+      let s0 = state g.S.Store c.args.tx.now.conn.now in
+      let s1 = state g.S.Store c.limits.new.tx.conn.now in
+      let s2 = state g.S.Store c.due_row.new.tx.conn.now in
+      let s3 = state g.S.Store c.set_holds.new.tx.conn.now in
+      on_after s0 s2 s3 c.set_holds.ensures.inside.stays c.set_holds.result (goes_then s0 s2 s3) (goes_twice s0 s1 s2 c.due_row.ensures.inside.stays c.in_ok-limits.ensures.inside.goes_on c.in_ok-found.ensures.inside.goes_on) c.set_holds.ensures.inside.goes_on);
+  failure = search rules;
+}
 
-pub returns-in_err-found-clause-stays : goal.returns-in_err-found-clause-stays
-returns-in_err-found-clause-stays g c = stays_then (state g.S.Store c.args.tx.now.conn.now) (state g.S.Store c.limits.new.tx.conn.now) (state g.S.Store c.due_row.new.tx.conn.now) c.limits.ensures.stays c.in_ok-limits.ensures.goes_on c.due_row.ensures.stays
+pub returns-in_err-found-clause-inside : goal.returns-in_err-found-clause-inside
+returns-in_err-found-clause-inside g c = record {
+  same_reference = search rules;
+  stays = stays_then (state g.S.Store c.args.tx.now.conn.now) (state g.S.Store c.limits.new.tx.conn.now) (state g.S.Store c.due_row.new.tx.conn.now) c.limits.ensures.inside.stays c.in_ok-limits.ensures.inside.goes_on c.due_row.ensures.inside.stays;
+  goes_on = search rules;
+  failure = search rules;
+}
 
-pub returns-in_err-row-clause-stays : goal.returns-in_err-row-clause-stays
-returns-in_err-row-clause-stays g c = stays_then (state g.S.Store c.args.tx.now.conn.now) (state g.S.Store c.limits.new.tx.conn.now) (state g.S.Store c.due_row.new.tx.conn.now) c.limits.ensures.stays c.in_ok-limits.ensures.goes_on c.due_row.ensures.stays
+pub returns-in_err-row-clause-inside : goal.returns-in_err-row-clause-inside
+returns-in_err-row-clause-inside g c = record {
+  same_reference = search rules;
+  stays = stays_then (state g.S.Store c.args.tx.now.conn.now) (state g.S.Store c.limits.new.tx.conn.now) (state g.S.Store c.due_row.new.tx.conn.now) c.limits.ensures.inside.stays c.in_ok-limits.ensures.inside.goes_on c.due_row.ensures.inside.stays;
+  goes_on = search rules;
+  failure = search rules;
+}
 
-pub returns-in_err-holds-clause-stays : goal.returns-in_err-holds-clause-stays
-returns-in_err-holds-clause-stays g c = stays_then (state g.S.Store c.args.tx.now.conn.now) (state g.S.Store c.limits.new.tx.conn.now) (state g.S.Store c.due_row.new.tx.conn.now) c.limits.ensures.stays c.in_ok-limits.ensures.goes_on c.due_row.ensures.stays
-
-pub returns-clause-goes_on : goal.returns-clause-goes_on
-returns-clause-goes_on g c =
-    let s0 = state g.S.Store c.args.tx.now.conn.now in
-    let s1 = state g.S.Store c.limits.new.tx.conn.now in
-    let s2 = state g.S.Store c.due_row.new.tx.conn.now in
-    let s3 = state g.S.Store c.set_holds.new.tx.conn.now in
-    on_after s0 s2 s3 c.set_holds.ensures.stays c.set_holds.result (goes_then s0 s2 s3) (goes_twice s0 s1 s2 c.due_row.ensures.stays c.in_ok-limits.ensures.goes_on c.in_ok-found.ensures.goes_on) c.set_holds.ensures.goes_on
+pub returns-in_err-holds-clause-inside : goal.returns-in_err-holds-clause-inside
+returns-in_err-holds-clause-inside g c = record {
+  same_reference = search rules;
+  stays = stays_then (state g.S.Store c.args.tx.now.conn.now) (state g.S.Store c.limits.new.tx.conn.now) (state g.S.Store c.due_row.new.tx.conn.now) c.limits.ensures.inside.stays c.in_ok-limits.ensures.inside.goes_on c.due_row.ensures.inside.stays;
+  goes_on = search rules;
+  failure = search rules;
+}

@@ -30,27 +30,17 @@ returns-clause-denied g c clean h legal pictured =
     let a = c.args in
     let old = state g.S.Store a.tx.now.conn.now in
     let mid = state g.S.Store c.class_of.new.tx.conn.now in
-    let early : HasCleanDisk mid = clean_before mid (state g.S.Store c.denial.new.tx.conn.now) c.denial.ensures.stays clean in
+    let early : HasCleanDisk mid = clean_before mid (state g.S.Store c.denial.new.tx.conn.now) c.denial.ensures.inside.stays clean in
     let still = pictured_still h old.now pictured mid.now (c.in_ok-class_of.ensures.same early pictured.office) in
     let some : true ≡ is_some c.in_ok-class_of.field-0 = search rules in
     let there = some ∙ class_there h a.class.now c.in_ok-class_of.field-0 (years_read_back h old.now pictured a.class.now c.in_ok-class_of.field-0 (c.in_ok-class_of.ensures.found early pictured.office)) in
     IfOk-weaker c.denial.result _ _ (λ why p. (p.0, is_class h a.day a.caller.now a.class.now there why p.1)) (c.denial.ensures.denied clean h legal still)
 
-pub returns-clause-stays : goal.returns-clause-stays
-returns-clause-stays g c = stays_then (state g.S.Store c.args.tx.now.conn.now) (state g.S.Store c.class_of.new.tx.conn.now) (state g.S.Store c.denial.new.tx.conn.now) c.class_of.ensures.stays c.in_ok-class_of.ensures.goes_on c.denial.ensures.stays
-
-pub returns-clause-goes_on : goal.returns-clause-goes_on
-returns-clause-goes_on g c =
-    let s0 = state g.S.Store c.args.tx.now.conn.now in
-    let s1 = state g.S.Store c.class_of.new.tx.conn.now in
-    let s2 = state g.S.Store c.denial.new.tx.conn.now in
-    on_after s0 s1 s2 c.denial.ensures.stays c.denial.result (goes_then s0 s1 s2) c.in_ok-class_of.ensures.goes_on c.denial.ensures.goes_on
-
 pub returns-clause-same : goal.returns-clause-same
 returns-clause-same g c clean office =
     let old = state g.S.Store c.args.tx.now.conn.now in
     let mid = state g.S.Store c.class_of.new.tx.conn.now in
-    let early : HasCleanDisk mid = clean_before mid (state g.S.Store c.denial.new.tx.conn.now) c.denial.ensures.stays clean in
+    let early : HasCleanDisk mid = clean_before mid (state g.S.Store c.denial.new.tx.conn.now) c.denial.ensures.inside.stays clean in
     let same : mid.now ≡ old.now = c.in_ok-class_of.ensures.same early office in
     on_ok_weaker c.denial.result (λ e. e ∙ same) (c.denial.ensures.same clean (office_still old.now mid.now same office))
 
@@ -66,9 +56,21 @@ returns-clause-rows g c clean office =
     let a = c.args in
     let old = state g.S.Store a.tx.now.conn.now in
     let mid = state g.S.Store c.class_of.new.tx.conn.now in
-    let early : HasCleanDisk mid = clean_before mid (state g.S.Store c.denial.new.tx.conn.now) c.denial.ensures.stays clean in
+    let early : HasCleanDisk mid = clean_before mid (state g.S.Store c.denial.new.tx.conn.now) c.denial.ensures.inside.stays clean in
     let same : mid.now ≡ old.now = c.in_ok-class_of.ensures.same early office in
     let some : true ≡ is_some c.in_ok-class_of.field-0 = search rules in
     let there = some ∙ class_read (tables_of old.now) a.class.now c.in_ok-class_of.field-0 (c.in_ok-class_of.ensures.found early office) in
     IfOk-weaker c.denial.result _ _ (λ why is. class_asked_there (tables_of old.now) a.day a.caller.now a.class.now there why (told_before old.now mid.now same (λ t. IsDenialIn t a.day a.caller.now acts.Hold None (Some a.class.now) why) is))
     (c.denial.ensures.rows clean (office_still old.now mid.now same office))
+
+pub returns-clause-inside : goal.returns-clause-inside
+returns-clause-inside g c = record {
+  same_reference = search rules;
+  stays = stays_then (state g.S.Store c.args.tx.now.conn.now) (state g.S.Store c.class_of.new.tx.conn.now) (state g.S.Store c.denial.new.tx.conn.now) c.class_of.ensures.inside.stays c.in_ok-class_of.ensures.inside.goes_on c.denial.ensures.inside.stays;
+  goes_on = (
+      let s0 = state g.S.Store c.args.tx.now.conn.now in
+      let s1 = state g.S.Store c.class_of.new.tx.conn.now in
+      let s2 = state g.S.Store c.denial.new.tx.conn.now in
+      on_after s0 s1 s2 c.denial.ensures.inside.stays c.denial.result (goes_then s0 s1 s2) c.in_ok-class_of.ensures.inside.goes_on c.denial.ensures.inside.goes_on);
+  failure = search rules;
+}

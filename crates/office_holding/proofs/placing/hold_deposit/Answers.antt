@@ -1,4 +1,4 @@
-use Rattle.std.proofs.Common.{ap, subst, [], ◌∷◌, Ok, Err, refl, ◌≡◌, pos}
+use Rattle.std.proofs.Common.{ap, subst, [], ◌∷◌, Ok, Err, refl, ◌≡◌, pos, rules}
 use Rattle.sqlite.specs.State.{HasCleanDisk}
 use Rattle.sqlite.specs.Held.{state}
 use Rattle.office_core.specs.declared.answer.Answer.TheVariants as answers
@@ -21,7 +21,7 @@ returns-in_ok-place_on_deposit-in-Ok-clause-decides g c clean h legal pictured =
     let a = c.args in
     let mid = state g.S.Store c.place_for_deposit.new.tx.conn.now in
     let new = state g.S.Store c.place_on_deposit.new.tx.conn.now in
-    let early : HasCleanDisk mid = clean_before mid new c.place_on_deposit.ensures.stays clean in
+    let early : HasCleanDisk mid = clean_before mid new c.place_on_deposit.ensures.inside.stays clean in
     let found = c.in_ok-hold.ensures.found early h legal pictured in
     let place = subst (IsPlace h (of_deposit (deposit_numbered h a.number) (hold_refusals h a.day a.caller.now a.number))) c.in-Ok.is found.1 in
     let put : Pictures (with_changes h (PlacedHold a.day (record { target = OnDeposit a.number; matter = a.matter.now }) ∷ [])) new.now =
@@ -36,21 +36,12 @@ returns-in-Err-clause-decides g c clean h legal pictured =
     let said = subst (IsPlace h (of_deposit (deposit_numbered h a.number) (hold_refusals h a.day a.caller.now a.number))) c.in-Err.is found.1 in
     refused_serves h a.day a.caller.now (requests.HoldDeposit a.number a.matter.now) new.now c.in-Err.why said found.0
 
-pub returns-in_err-place_on_deposit-in-Ok-clause-stays : goal.returns-in_err-place_on_deposit-in-Ok-clause-stays
-returns-in_err-place_on_deposit-in-Ok-clause-stays g c = stays_then (state g.S.Store c.args.tx.now.conn.now) (state g.S.Store c.place_for_deposit.new.tx.conn.now) (state g.S.Store c.place_on_deposit.new.tx.conn.now) c.place_for_deposit.ensures.stays c.in_ok-hold.ensures.goes_on c.place_on_deposit.ensures.stays
-
-pub returns-in_ok-place_on_deposit-in-Ok-clause-stays : goal.returns-in_ok-place_on_deposit-in-Ok-clause-stays
-returns-in_ok-place_on_deposit-in-Ok-clause-stays g c = stays_then (state g.S.Store c.args.tx.now.conn.now) (state g.S.Store c.place_for_deposit.new.tx.conn.now) (state g.S.Store c.place_on_deposit.new.tx.conn.now) c.place_for_deposit.ensures.stays c.in_ok-hold.ensures.goes_on c.place_on_deposit.ensures.stays
-
-pub returns-in_ok-place_on_deposit-in-Ok-clause-goes_on : goal.returns-in_ok-place_on_deposit-in-Ok-clause-goes_on
-returns-in_ok-place_on_deposit-in-Ok-clause-goes_on g c = goes_twice (state g.S.Store c.args.tx.now.conn.now) (state g.S.Store c.place_for_deposit.new.tx.conn.now) (state g.S.Store c.place_on_deposit.new.tx.conn.now) c.place_on_deposit.ensures.stays c.in_ok-hold.ensures.goes_on c.in_ok-place_on_deposit-in-Ok.ensures.goes_on
-
 pub returns-in_ok-place_on_deposit-in-Ok-clause-rows : goal.returns-in_ok-place_on_deposit-in-Ok-clause-rows
 returns-in_ok-place_on_deposit-in-Ok-clause-rows g c clean office =
     let a = c.args in
     let old = state g.S.Store a.tx.now.conn.now in
     let mid = state g.S.Store c.place_for_deposit.new.tx.conn.now in
-    let early : HasCleanDisk mid = clean_before mid (state g.S.Store c.place_on_deposit.new.tx.conn.now) c.place_on_deposit.ensures.stays clean in
+    let early : HasCleanDisk mid = clean_before mid (state g.S.Store c.place_on_deposit.new.tx.conn.now) c.place_on_deposit.ensures.inside.stays clean in
     let same : mid.now ≡ old.now = c.in_ok-hold.ensures.same early office in record {
       place = Ok c.in-Ok.hold;
       is_place = subst (IsDepositPlaceIn (tables_of old.now) a.day a.caller.now a.number) c.in-Ok.is (c.in_ok-hold.ensures.rows early office);
@@ -63,3 +54,19 @@ returns-in-Err-clause-rows g c clean office =
     let a = c.args in
     let t = tables_of (state g.S.Store a.tx.now.conn.now).now in
     record { place = Err c.in-Err.why; is_place = subst (IsDepositPlaceIn t a.day a.caller.now a.number) c.in-Err.is (c.in_ok-hold.ensures.rows clean office); counts = tt; is = refl }
+
+pub returns-in_err-place_on_deposit-in-Ok-clause-inside : goal.returns-in_err-place_on_deposit-in-Ok-clause-inside
+returns-in_err-place_on_deposit-in-Ok-clause-inside g c = record {
+  same_reference = search rules;
+  stays = stays_then (state g.S.Store c.args.tx.now.conn.now) (state g.S.Store c.place_for_deposit.new.tx.conn.now) (state g.S.Store c.place_on_deposit.new.tx.conn.now) c.place_for_deposit.ensures.inside.stays c.in_ok-hold.ensures.inside.goes_on c.place_on_deposit.ensures.inside.stays;
+  goes_on = search rules;
+  failure = search rules;
+}
+
+pub returns-in_ok-place_on_deposit-in-Ok-clause-inside : goal.returns-in_ok-place_on_deposit-in-Ok-clause-inside
+returns-in_ok-place_on_deposit-in-Ok-clause-inside g c = record {
+  same_reference = search rules;
+  stays = stays_then (state g.S.Store c.args.tx.now.conn.now) (state g.S.Store c.place_for_deposit.new.tx.conn.now) (state g.S.Store c.place_on_deposit.new.tx.conn.now) c.place_for_deposit.ensures.inside.stays c.in_ok-hold.ensures.inside.goes_on c.place_on_deposit.ensures.inside.stays;
+  goes_on = goes_twice (state g.S.Store c.args.tx.now.conn.now) (state g.S.Store c.place_for_deposit.new.tx.conn.now) (state g.S.Store c.place_on_deposit.new.tx.conn.now) c.place_on_deposit.ensures.inside.stays c.in_ok-hold.ensures.inside.goes_on c.in_ok-place_on_deposit-in-Ok.ensures.inside.goes_on;
+  failure = search rules;
+}

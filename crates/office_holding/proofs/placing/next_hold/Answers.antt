@@ -1,4 +1,4 @@
-use Rattle.std.proofs.Common.{length, unwrap_or, ◌≡◌, pos, option_map}
+use Rattle.std.proofs.Common.{length, unwrap_or, ◌≡◌, pos, option_map, rules}
 use Rattle.sqlite.specs.State.{HasCleanDisk}
 use Rattle.sqlite.specs.Held.{state}
 use Rattle.office_history.specs.Histories.{holds}
@@ -19,7 +19,7 @@ returns-clause-next g c clean h legal pictured =
     let old = state g.S.Store c.args.tx.now.conn.now in
     let mid = state g.S.Store c.limits.new.tx.conn.now in
     let new = state g.S.Store c.last_hold.new.tx.conn.now in
-    let early : HasCleanDisk mid = clean_before mid new c.last_hold.ensures.stays clean in
+    let early : HasCleanDisk mid = clean_before mid new c.last_hold.ensures.inside.stays clean in
     let still = pictured_still h old.now pictured mid.now (c.in_ok-limits.ensures.same early pictured.office) in
     let most = c.in_ok-limits.limits in
     let limit = (limits_told h old.now pictured most.max_deposits most.max_holds (c.in_ok-limits.ensures.found early pictured.office)).1 in
@@ -30,20 +30,11 @@ returns-clause-next g c clean h legal pictured =
       next_placed h number (number_told (unwrap_or last 0) most.max_holds (length (holds h)) h.max_holds count limit number c.number_after.ensures),
     )
 
-pub returns-in_err-last-clause-stays : goal.returns-in_err-last-clause-stays
-returns-in_err-last-clause-stays g c = stays_then (state g.S.Store c.args.tx.now.conn.now) (state g.S.Store c.limits.new.tx.conn.now) (state g.S.Store c.last_hold.new.tx.conn.now) c.limits.ensures.stays c.in_ok-limits.ensures.goes_on c.last_hold.ensures.stays
-
-pub returns-clause-stays : goal.returns-clause-stays
-returns-clause-stays g c = stays_then (state g.S.Store c.args.tx.now.conn.now) (state g.S.Store c.limits.new.tx.conn.now) (state g.S.Store c.last_hold.new.tx.conn.now) c.limits.ensures.stays c.in_ok-limits.ensures.goes_on c.last_hold.ensures.stays
-
-pub returns-clause-goes_on : goal.returns-clause-goes_on
-returns-clause-goes_on g c = goes_twice (state g.S.Store c.args.tx.now.conn.now) (state g.S.Store c.limits.new.tx.conn.now) (state g.S.Store c.last_hold.new.tx.conn.now) c.last_hold.ensures.stays c.in_ok-limits.ensures.goes_on c.in_ok-last.ensures.goes_on
-
 pub returns-clause-rows : goal.returns-clause-rows
 returns-clause-rows g c clean office =
     let old = state g.S.Store c.args.tx.now.conn.now in
     let mid = state g.S.Store c.limits.new.tx.conn.now in
-    let early : HasCleanDisk mid = clean_before mid (state g.S.Store c.last_hold.new.tx.conn.now) c.last_hold.ensures.stays clean in
+    let early : HasCleanDisk mid = clean_before mid (state g.S.Store c.last_hold.new.tx.conn.now) c.last_hold.ensures.inside.stays clean in
     let same : mid.now ≡ old.now = c.in_ok-limits.ensures.same early office in
     let most = c.in_ok-limits.limits in
     let last = c.in_ok-last.last in
@@ -51,4 +42,20 @@ returns-clause-rows g c clean office =
     next_told (tables_of old.now) most.max_deposits most.max_holds (c.in_ok-limits.ensures.found early office) last told c.number_after.result c.number_after.ensures
 
 pub returns-clause-same : goal.returns-clause-same
-returns-clause-same g c = same_twice (state g.S.Store c.args.tx.now.conn.now) (state g.S.Store c.limits.new.tx.conn.now) (state g.S.Store c.last_hold.new.tx.conn.now) c.last_hold.ensures.stays c.in_ok-limits.ensures.same c.in_ok-last.ensures.same
+returns-clause-same g c = same_twice (state g.S.Store c.args.tx.now.conn.now) (state g.S.Store c.limits.new.tx.conn.now) (state g.S.Store c.last_hold.new.tx.conn.now) c.last_hold.ensures.inside.stays c.in_ok-limits.ensures.same c.in_ok-last.ensures.same
+
+pub returns-in_err-last-clause-inside : goal.returns-in_err-last-clause-inside
+returns-in_err-last-clause-inside g c = record {
+  same_reference = search rules;
+  stays = stays_then (state g.S.Store c.args.tx.now.conn.now) (state g.S.Store c.limits.new.tx.conn.now) (state g.S.Store c.last_hold.new.tx.conn.now) c.limits.ensures.inside.stays c.in_ok-limits.ensures.inside.goes_on c.last_hold.ensures.inside.stays;
+  goes_on = search rules;
+  failure = search rules;
+}
+
+pub returns-clause-inside : goal.returns-clause-inside
+returns-clause-inside g c = record {
+  same_reference = search rules;
+  stays = stays_then (state g.S.Store c.args.tx.now.conn.now) (state g.S.Store c.limits.new.tx.conn.now) (state g.S.Store c.last_hold.new.tx.conn.now) c.limits.ensures.inside.stays c.in_ok-limits.ensures.inside.goes_on c.last_hold.ensures.inside.stays;
+  goes_on = goes_twice (state g.S.Store c.args.tx.now.conn.now) (state g.S.Store c.limits.new.tx.conn.now) (state g.S.Store c.last_hold.new.tx.conn.now) c.last_hold.ensures.inside.stays c.in_ok-limits.ensures.inside.goes_on c.in_ok-last.ensures.inside.goes_on;
+  failure = search rules;
+}

@@ -23,20 +23,10 @@ pub returns-clause-found : goal.returns-clause-found
 returns-clause-found g c clean h legal pictured =
     let a = c.args in
     let mid = state g.S.Store c.collection_denial.new.tx.conn.now in
-    let early : HasCleanDisk mid = clean_before mid (state g.S.Store c.next_hold.new.tx.conn.now) c.next_hold.ensures.stays clean in
+    let early : HasCleanDisk mid = clean_before mid (state g.S.Store c.next_hold.new.tx.conn.now) c.next_hold.ensures.inside.stays clean in
     let asked = c.in_ok-why.ensures.denied early h legal pictured in
     let none : None ≡ first_some (collection_denials h a.day a.caller.now a.collection.now) = search (rules, asked.1) in
     IfOk-weaker c.next_hold.result _ _ (λ place p. (p.0, collection_placed h a.day a.caller.now a.collection.now place none p.1)) (c.next_hold.ensures.next clean h legal asked.0)
-
-pub returns-clause-stays : goal.returns-clause-stays
-returns-clause-stays g c = stays_then (state g.S.Store c.args.tx.now.conn.now) (state g.S.Store c.collection_denial.new.tx.conn.now) (state g.S.Store c.next_hold.new.tx.conn.now) c.collection_denial.ensures.stays c.in_ok-why.ensures.goes_on c.next_hold.ensures.stays
-
-pub returns-clause-goes_on : goal.returns-clause-goes_on
-returns-clause-goes_on g c =
-    let s0 = state g.S.Store c.args.tx.now.conn.now in
-    let s1 = state g.S.Store c.collection_denial.new.tx.conn.now in
-    let s2 = state g.S.Store c.next_hold.new.tx.conn.now in
-    on_after s0 s1 s2 c.next_hold.ensures.stays c.next_hold.result (goes_then s0 s1 s2) c.in_ok-why.ensures.goes_on c.next_hold.ensures.goes_on
 
 pub returns-in-Some-clause-rows : goal.returns-in-Some-clause-rows
 returns-in-Some-clause-rows g c clean office =
@@ -49,7 +39,7 @@ returns-clause-rows g c clean office =
     let a = c.args in
     let old = state g.S.Store a.tx.now.conn.now in
     let mid = state g.S.Store c.collection_denial.new.tx.conn.now in
-    let early : HasCleanDisk mid = clean_before mid (state g.S.Store c.next_hold.new.tx.conn.now) c.next_hold.ensures.stays clean in
+    let early : HasCleanDisk mid = clean_before mid (state g.S.Store c.next_hold.new.tx.conn.now) c.next_hold.ensures.inside.stays clean in
     let same : mid.now ≡ old.now = c.in_ok-why.ensures.same early office in
     let none : c.in_ok-why.field-0 ≡ None = search rules in
     let denial = subst (IsCollectionDenialIn (tables_of old.now) a.day a.caller.now a.collection.now) none (c.in_ok-why.ensures.rows early office) in
@@ -60,6 +50,18 @@ pub returns-clause-same : goal.returns-clause-same
 returns-clause-same g c clean office =
     let old = state g.S.Store c.args.tx.now.conn.now in
     let mid = state g.S.Store c.collection_denial.new.tx.conn.now in
-    let early : HasCleanDisk mid = clean_before mid (state g.S.Store c.next_hold.new.tx.conn.now) c.next_hold.ensures.stays clean in
+    let early : HasCleanDisk mid = clean_before mid (state g.S.Store c.next_hold.new.tx.conn.now) c.next_hold.ensures.inside.stays clean in
     let same : mid.now ≡ old.now = c.in_ok-why.ensures.same early office in
     on_ok_weaker c.next_hold.result (λ e. e ∙ same) (c.next_hold.ensures.same clean (office_still old.now mid.now same office))
+
+pub returns-clause-inside : goal.returns-clause-inside
+returns-clause-inside g c = record {
+  same_reference = search rules;
+  stays = stays_then (state g.S.Store c.args.tx.now.conn.now) (state g.S.Store c.collection_denial.new.tx.conn.now) (state g.S.Store c.next_hold.new.tx.conn.now) c.collection_denial.ensures.inside.stays c.in_ok-why.ensures.inside.goes_on c.next_hold.ensures.inside.stays;
+  goes_on = (
+      let s0 = state g.S.Store c.args.tx.now.conn.now in
+      let s1 = state g.S.Store c.collection_denial.new.tx.conn.now in
+      let s2 = state g.S.Store c.next_hold.new.tx.conn.now in
+      on_after s0 s1 s2 c.next_hold.ensures.inside.stays c.next_hold.result (goes_then s0 s1 s2) c.in_ok-why.ensures.inside.goes_on c.next_hold.ensures.inside.goes_on);
+  failure = search rules;
+}

@@ -1,4 +1,4 @@
-use Rattle.std.proofs.Common.{subst, ◌≡◌, ◌∙◌}
+use Rattle.std.proofs.Common.{subst, ◌≡◌, ◌∙◌, rules}
 use Rattle.std.proofs.lemmas.Result.{IfOk-weaker, on_ok_weaker}
 use Rattle.sqlite.specs.State.{HasCleanDisk}
 use Rattle.sqlite.specs.Held.{state}
@@ -19,7 +19,7 @@ pub returns-in-Ok-clause-found : goal.returns-in-Ok-clause-found
 returns-in-Ok-clause-found g c clean h legal pictured =
     let a = c.args in
     let mid = state g.S.Store c.kept_deposit.new.tx.conn.now in
-    let early : HasCleanDisk mid = clean_before mid (state g.S.Store c.next_hold.new.tx.conn.now) c.next_hold.ensures.stays clean in
+    let early : HasCleanDisk mid = clean_before mid (state g.S.Store c.next_hold.new.tx.conn.now) c.next_hold.ensures.inside.stays clean in
     let asked = c.in_ok-kept_deposit.ensures.asked early h legal pictured in
     let kept = subst (IsAsked h a.number (kept_refusals h a.day a.caller.now acts.Hold a.number)) c.in-Ok.is asked.1 in
     IfOk-weaker c.next_hold.result _ _ (λ place p. (p.0, deposit_placed h a.day a.caller.now a.number _ place kept p.1)) (c.next_hold.ensures.next clean h legal asked.0)
@@ -30,22 +30,12 @@ returns-clause-found g c clean h legal pictured =
     let asked = c.in_ok-kept_deposit.ensures.asked clean h legal pictured in
     (asked.0, deposit_denied h a.day a.caller.now a.number c.in-Err.why (subst (IsAsked h a.number (kept_refusals h a.day a.caller.now acts.Hold a.number)) c.in-Err.is asked.1))
 
-pub returns-in-Ok-clause-stays : goal.returns-in-Ok-clause-stays
-returns-in-Ok-clause-stays g c = stays_then (state g.S.Store c.args.tx.now.conn.now) (state g.S.Store c.kept_deposit.new.tx.conn.now) (state g.S.Store c.next_hold.new.tx.conn.now) c.kept_deposit.ensures.stays c.in_ok-kept_deposit.ensures.goes_on c.next_hold.ensures.stays
-
-pub returns-in-Ok-clause-goes_on : goal.returns-in-Ok-clause-goes_on
-returns-in-Ok-clause-goes_on g c =
-    let s0 = state g.S.Store c.args.tx.now.conn.now in
-    let s1 = state g.S.Store c.kept_deposit.new.tx.conn.now in
-    let s2 = state g.S.Store c.next_hold.new.tx.conn.now in
-    on_after s0 s1 s2 c.next_hold.ensures.stays c.next_hold.result (goes_then s0 s1 s2) c.in_ok-kept_deposit.ensures.goes_on c.next_hold.ensures.goes_on
-
 pub returns-in-Ok-clause-rows : goal.returns-in-Ok-clause-rows
 returns-in-Ok-clause-rows g c clean office =
     let a = c.args in
     let old = state g.S.Store a.tx.now.conn.now in
     let mid = state g.S.Store c.kept_deposit.new.tx.conn.now in
-    let early : HasCleanDisk mid = clean_before mid (state g.S.Store c.next_hold.new.tx.conn.now) c.next_hold.ensures.stays clean in
+    let early : HasCleanDisk mid = clean_before mid (state g.S.Store c.next_hold.new.tx.conn.now) c.next_hold.ensures.inside.stays clean in
     let same : mid.now ≡ old.now = c.in_ok-kept_deposit.ensures.same early office in
     let asked = subst (IsAskedIn (tables_of old.now) a.day a.caller.now acts.Hold a.number) c.in-Ok.is (c.in_ok-kept_deposit.ensures.rows early office) in
     IfOk-weaker c.next_hold.result _ _ (λ place next. deposit_next (tables_of old.now) a.day a.caller.now a.number _ asked place (told_before old.now mid.now same (λ t. IsNextHoldIn t place) next))
@@ -61,6 +51,18 @@ pub returns-in-Ok-clause-same : goal.returns-in-Ok-clause-same
 returns-in-Ok-clause-same g c clean office =
     let old = state g.S.Store c.args.tx.now.conn.now in
     let mid = state g.S.Store c.kept_deposit.new.tx.conn.now in
-    let early : HasCleanDisk mid = clean_before mid (state g.S.Store c.next_hold.new.tx.conn.now) c.next_hold.ensures.stays clean in
+    let early : HasCleanDisk mid = clean_before mid (state g.S.Store c.next_hold.new.tx.conn.now) c.next_hold.ensures.inside.stays clean in
     let same : mid.now ≡ old.now = c.in_ok-kept_deposit.ensures.same early office in
     on_ok_weaker c.next_hold.result (λ e. e ∙ same) (c.next_hold.ensures.same clean (office_still old.now mid.now same office))
+
+pub returns-in-Ok-clause-inside : goal.returns-in-Ok-clause-inside
+returns-in-Ok-clause-inside g c = record {
+  same_reference = search rules;
+  stays = stays_then (state g.S.Store c.args.tx.now.conn.now) (state g.S.Store c.kept_deposit.new.tx.conn.now) (state g.S.Store c.next_hold.new.tx.conn.now) c.kept_deposit.ensures.inside.stays c.in_ok-kept_deposit.ensures.inside.goes_on c.next_hold.ensures.inside.stays;
+  goes_on = (
+      let s0 = state g.S.Store c.args.tx.now.conn.now in
+      let s1 = state g.S.Store c.kept_deposit.new.tx.conn.now in
+      let s2 = state g.S.Store c.next_hold.new.tx.conn.now in
+      on_after s0 s1 s2 c.next_hold.ensures.inside.stays c.next_hold.result (goes_then s0 s1 s2) c.in_ok-kept_deposit.ensures.inside.goes_on c.next_hold.ensures.inside.goes_on);
+  failure = search rules;
+}

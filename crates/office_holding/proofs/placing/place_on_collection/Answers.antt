@@ -20,7 +20,7 @@ returns-clause-placed g c clean h legal pictured next =
     let old = state g.S.Store a.tx.now.conn.now in
     let mid = state g.S.Store c.put_hold.new.tx.conn.now in
     let new = state g.S.Store c.add_holds.new.tx.conn.now in
-    let early : HasCleanDisk mid = clean_before mid new c.add_holds.ensures.stays clean in
+    let early : HasCleanDisk mid = clean_before mid new c.add_holds.ensures.inside.stays clean in
     let hold : Hold = record { target = OnCollection a.collection.now; matter = a.matter.now } in
     let small : SFits w32 c.number.result = search rules in
     let fits : SFits w64 c.number.result = search rules in
@@ -31,12 +31,14 @@ returns-clause-placed g c clean h legal pictured next =
     on_both c.add_holds.result (placed_on_collection h legal a.day hold a.number next old.now mid.now pictured put a.collection.now refl new.now)
     (c.add_holds.ensures.becomes clean put.office fit) (c.add_holds.ensures.once clean put.office kept)
 
-pub returns-clause-stays : goal.returns-clause-stays
-returns-clause-stays g c = stays_then (state g.S.Store c.args.tx.now.conn.now) (state g.S.Store c.put_hold.new.tx.conn.now) (state g.S.Store c.add_holds.new.tx.conn.now) c.put_hold.ensures.stays c.in_ok-put_hold.ensures.goes_on c.add_holds.ensures.stays
-
-pub returns-clause-goes_on : goal.returns-clause-goes_on
-returns-clause-goes_on g c =
-    let s0 = state g.S.Store c.args.tx.now.conn.now in
-    let s1 = state g.S.Store c.put_hold.new.tx.conn.now in
-    let s2 = state g.S.Store c.add_holds.new.tx.conn.now in
-    on_after s0 s1 s2 c.add_holds.ensures.stays c.add_holds.result (goes_then s0 s1 s2) c.in_ok-put_hold.ensures.goes_on c.add_holds.ensures.goes_on
+pub returns-clause-inside : goal.returns-clause-inside
+returns-clause-inside g c = record {
+  same_reference = search rules;
+  stays = stays_then (state g.S.Store c.args.tx.now.conn.now) (state g.S.Store c.put_hold.new.tx.conn.now) (state g.S.Store c.add_holds.new.tx.conn.now) c.put_hold.ensures.inside.stays c.in_ok-put_hold.ensures.inside.goes_on c.add_holds.ensures.inside.stays;
+  goes_on = (
+      let s0 = state g.S.Store c.args.tx.now.conn.now in
+      let s1 = state g.S.Store c.put_hold.new.tx.conn.now in
+      let s2 = state g.S.Store c.add_holds.new.tx.conn.now in
+      on_after s0 s1 s2 c.add_holds.ensures.inside.stays c.add_holds.result (goes_then s0 s1 s2) c.in_ok-put_hold.ensures.inside.goes_on c.add_holds.ensures.inside.goes_on);
+  failure = search rules;
+}

@@ -20,7 +20,7 @@ returns-clause-placed g c clean h legal pictured next =
     let old = state g.S.Store a.tx.now.conn.now in
     let mid = state g.S.Store c.put_hold.new.tx.conn.now in
     let new = state g.S.Store c.count_over_deposit.new.tx.conn.now in
-    let early : HasCleanDisk mid = clean_before mid new c.count_over_deposit.ensures.stays clean in
+    let early : HasCleanDisk mid = clean_before mid new c.count_over_deposit.ensures.inside.stays clean in
     let hold : Hold = record { target = OnDeposit a.deposit; matter = a.matter.now } in
     let small : SFits w32 c.number.result = search rules in
     let fits : SFits w64 c.number.result = search rules in
@@ -30,21 +30,23 @@ returns-clause-placed g c clean h legal pictured next =
     on_both c.count_over_deposit.result (placed_on_deposit h legal a.day hold a.number next old.now mid.now pictured put a.deposit refl new.now)
     (c.count_over_deposit.ensures.counted clean put.office) (c.count_over_deposit.ensures.once clean put.office kept)
 
-pub returns-clause-stays : goal.returns-clause-stays
-returns-clause-stays g c = stays_then (state g.S.Store c.args.tx.now.conn.now) (state g.S.Store c.put_hold.new.tx.conn.now) (state g.S.Store c.count_over_deposit.new.tx.conn.now) c.put_hold.ensures.stays c.in_ok-put_hold.ensures.goes_on c.count_over_deposit.ensures.stays
-
-pub returns-clause-goes_on : goal.returns-clause-goes_on
-returns-clause-goes_on g c =
-    let s0 = state g.S.Store c.args.tx.now.conn.now in
-    let s1 = state g.S.Store c.put_hold.new.tx.conn.now in
-    let s2 = state g.S.Store c.count_over_deposit.new.tx.conn.now in
-    on_after s0 s1 s2 c.count_over_deposit.ensures.stays c.count_over_deposit.result (goes_then s0 s1 s2) c.in_ok-put_hold.ensures.goes_on c.count_over_deposit.ensures.goes_on
-
 pub returns-clause-rows : goal.returns-clause-rows
 returns-clause-rows g c clean office =
     let a = c.args in
     let old = state g.S.Store a.tx.now.conn.now in
     let mid = state g.S.Store c.put_hold.new.tx.conn.now in
-    let early : HasCleanDisk mid = clean_before mid (state g.S.Store c.count_over_deposit.new.tx.conn.now) c.count_over_deposit.ensures.stays clean in
+    let early : HasCleanDisk mid = clean_before mid (state g.S.Store c.count_over_deposit.new.tx.conn.now) c.count_over_deposit.ensures.inside.stays clean in
     let put = c.in_ok-put_hold.ensures.becomes early office in
     on_ok_weaker c.count_over_deposit.result (countable_after_put (tables_of old.now) mid.now (pos a.deposit) (pos 1) _ put) (c.count_over_deposit.ensures.rows clean put.office)
+
+pub returns-clause-inside : goal.returns-clause-inside
+returns-clause-inside g c = record {
+  same_reference = search rules;
+  stays = stays_then (state g.S.Store c.args.tx.now.conn.now) (state g.S.Store c.put_hold.new.tx.conn.now) (state g.S.Store c.count_over_deposit.new.tx.conn.now) c.put_hold.ensures.inside.stays c.in_ok-put_hold.ensures.inside.goes_on c.count_over_deposit.ensures.inside.stays;
+  goes_on = (
+      let s0 = state g.S.Store c.args.tx.now.conn.now in
+      let s1 = state g.S.Store c.put_hold.new.tx.conn.now in
+      let s2 = state g.S.Store c.count_over_deposit.new.tx.conn.now in
+      on_after s0 s1 s2 c.count_over_deposit.ensures.inside.stays c.count_over_deposit.result (goes_then s0 s1 s2) c.in_ok-put_hold.ensures.inside.goes_on c.count_over_deposit.ensures.inside.goes_on);
+  failure = search rules;
+}

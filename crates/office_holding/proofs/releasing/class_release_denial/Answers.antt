@@ -18,26 +18,16 @@ returns-clause-denied g c clean h legal pictured =
     let a = c.args in
     let old = state g.S.Store a.tx.now.conn.now in
     let mid = state g.S.Store c.class_of.new.tx.conn.now in
-    let early : HasCleanDisk mid = clean_before mid (state g.S.Store c.denial.new.tx.conn.now) c.denial.ensures.stays clean in
+    let early : HasCleanDisk mid = clean_before mid (state g.S.Store c.denial.new.tx.conn.now) c.denial.ensures.inside.stays clean in
     let still = pictured_still h old.now pictured mid.now (c.in_ok-found.ensures.same early pictured.office) in
     c.denial.ensures.denied clean h legal still
-
-pub returns-clause-stays : goal.returns-clause-stays
-returns-clause-stays g c = stays_then (state g.S.Store c.args.tx.now.conn.now) (state g.S.Store c.class_of.new.tx.conn.now) (state g.S.Store c.denial.new.tx.conn.now) c.class_of.ensures.stays c.in_ok-found.ensures.goes_on c.denial.ensures.stays
-
-pub returns-clause-goes_on : goal.returns-clause-goes_on
-returns-clause-goes_on g c =
-    let s0 = state g.S.Store c.args.tx.now.conn.now in
-    let s1 = state g.S.Store c.class_of.new.tx.conn.now in
-    let s2 = state g.S.Store c.denial.new.tx.conn.now in
-    on_after s0 s1 s2 c.denial.ensures.stays c.denial.result (goes_then s0 s1 s2) c.in_ok-found.ensures.goes_on c.denial.ensures.goes_on
 
 pub returns-clause-rows : goal.returns-clause-rows
 returns-clause-rows g c clean office =
     let a = c.args in
     let old = state g.S.Store a.tx.now.conn.now in
     let mid = state g.S.Store c.class_of.new.tx.conn.now in
-    let early : HasCleanDisk mid = clean_before mid (state g.S.Store c.denial.new.tx.conn.now) c.denial.ensures.stays clean in
+    let early : HasCleanDisk mid = clean_before mid (state g.S.Store c.denial.new.tx.conn.now) c.denial.ensures.inside.stays clean in
     let same : mid.now ≡ old.now = c.in_ok-found.ensures.same early office in
     let some : true ≡ is_some c.in_ok-found.found = search (rules, is_there c.is_some.result Store c.in_ok-check_there.ensures) in
     let there = some ∙ class_read (tables_of old.now) a.class.now c.in_ok-found.found (c.in_ok-found.ensures.found early office) in
@@ -48,6 +38,18 @@ pub returns-clause-same : goal.returns-clause-same
 returns-clause-same g c clean office =
     let old = state g.S.Store c.args.tx.now.conn.now in
     let mid = state g.S.Store c.class_of.new.tx.conn.now in
-    let early : HasCleanDisk mid = clean_before mid (state g.S.Store c.denial.new.tx.conn.now) c.denial.ensures.stays clean in
+    let early : HasCleanDisk mid = clean_before mid (state g.S.Store c.denial.new.tx.conn.now) c.denial.ensures.inside.stays clean in
     let same : mid.now ≡ old.now = c.in_ok-found.ensures.same early office in
     on_ok_weaker c.denial.result (λ e. e ∙ same) (c.denial.ensures.same clean (office_still old.now mid.now same office))
+
+pub returns-clause-inside : goal.returns-clause-inside
+returns-clause-inside g c = record {
+  same_reference = search rules;
+  stays = stays_then (state g.S.Store c.args.tx.now.conn.now) (state g.S.Store c.class_of.new.tx.conn.now) (state g.S.Store c.denial.new.tx.conn.now) c.class_of.ensures.inside.stays c.in_ok-found.ensures.inside.goes_on c.denial.ensures.inside.stays;
+  goes_on = (
+      let s0 = state g.S.Store c.args.tx.now.conn.now in
+      let s1 = state g.S.Store c.class_of.new.tx.conn.now in
+      let s2 = state g.S.Store c.denial.new.tx.conn.now in
+      on_after s0 s1 s2 c.denial.ensures.inside.stays c.denial.result (goes_then s0 s1 s2) c.in_ok-found.ensures.inside.goes_on c.denial.ensures.inside.goes_on);
+  failure = search rules;
+}

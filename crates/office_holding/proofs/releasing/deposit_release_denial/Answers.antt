@@ -21,7 +21,7 @@ returns-clause-denied g c clean h legal pictured =
     let a = c.args in
     let old = state g.S.Store a.tx.now.conn.now in
     let mid = state g.S.Store c.deposit_row.new.tx.conn.now in
-    let early : HasCleanDisk mid = clean_before mid (state g.S.Store c.denial.new.tx.conn.now) c.denial.ensures.stays clean in
+    let early : HasCleanDisk mid = clean_before mid (state g.S.Store c.denial.new.tx.conn.now) c.denial.ensures.inside.stays clean in
     let read = deposit_read h old.now pictured a.number c.in_ok-found.found (c.in_ok-found.ensures.found early pictured.office) in
     let still = pictured_still h old.now pictured mid.now (c.in_ok-found.ensures.same early pictured.office) in
     let row = c.in_ok-deposit.deposit in
@@ -30,22 +30,12 @@ returns-clause-denied g c clean h legal pictured =
     let class : c.deref-2.result.now ≡ row.class = search rules in
     IfOk-weaker c.denial.result _ _ (λ why p. (p.0, asked_of_deposit h a.day a.caller.now a.number row some why (p.1 ∙ (λ i. denial h a.day a.caller.now acts.Release (Some (collection i)) (Some (class i)))))) (c.denial.ensures.denied clean h legal still)
 
-pub returns-clause-stays : goal.returns-clause-stays
-returns-clause-stays g c = stays_then (state g.S.Store c.args.tx.now.conn.now) (state g.S.Store c.deposit_row.new.tx.conn.now) (state g.S.Store c.denial.new.tx.conn.now) c.deposit_row.ensures.stays c.in_ok-found.ensures.goes_on c.denial.ensures.stays
-
-pub returns-clause-goes_on : goal.returns-clause-goes_on
-returns-clause-goes_on g c =
-    let s0 = state g.S.Store c.args.tx.now.conn.now in
-    let s1 = state g.S.Store c.deposit_row.new.tx.conn.now in
-    let s2 = state g.S.Store c.denial.new.tx.conn.now in
-    on_after s0 s1 s2 c.denial.ensures.stays c.denial.result (goes_then s0 s1 s2) c.in_ok-found.ensures.goes_on c.denial.ensures.goes_on
-
 pub returns-clause-rows : goal.returns-clause-rows
 returns-clause-rows g c clean office =
     let a = c.args in
     let old = state g.S.Store a.tx.now.conn.now in
     let mid = state g.S.Store c.deposit_row.new.tx.conn.now in
-    let early : HasCleanDisk mid = clean_before mid (state g.S.Store c.denial.new.tx.conn.now) c.denial.ensures.stays clean in
+    let early : HasCleanDisk mid = clean_before mid (state g.S.Store c.denial.new.tx.conn.now) c.denial.ensures.inside.stays clean in
     let same : mid.now ≡ old.now = c.in_ok-found.ensures.same early office in
     let row = c.in_ok-deposit.deposit in
     let there = there_is c.in_ok-found.found Store row c.in_ok-deposit.ensures ∙ c.in_ok-found.ensures.found early office in
@@ -58,6 +48,18 @@ pub returns-clause-same : goal.returns-clause-same
 returns-clause-same g c clean office =
     let old = state g.S.Store c.args.tx.now.conn.now in
     let mid = state g.S.Store c.deposit_row.new.tx.conn.now in
-    let early : HasCleanDisk mid = clean_before mid (state g.S.Store c.denial.new.tx.conn.now) c.denial.ensures.stays clean in
+    let early : HasCleanDisk mid = clean_before mid (state g.S.Store c.denial.new.tx.conn.now) c.denial.ensures.inside.stays clean in
     let same : mid.now ≡ old.now = c.in_ok-found.ensures.same early office in
     on_ok_weaker c.denial.result (λ e. e ∙ same) (c.denial.ensures.same clean (office_still old.now mid.now same office))
+
+pub returns-clause-inside : goal.returns-clause-inside
+returns-clause-inside g c = record {
+  same_reference = search rules;
+  stays = stays_then (state g.S.Store c.args.tx.now.conn.now) (state g.S.Store c.deposit_row.new.tx.conn.now) (state g.S.Store c.denial.new.tx.conn.now) c.deposit_row.ensures.inside.stays c.in_ok-found.ensures.inside.goes_on c.denial.ensures.inside.stays;
+  goes_on = (
+      let s0 = state g.S.Store c.args.tx.now.conn.now in
+      let s1 = state g.S.Store c.deposit_row.new.tx.conn.now in
+      let s2 = state g.S.Store c.denial.new.tx.conn.now in
+      on_after s0 s1 s2 c.denial.ensures.inside.stays c.denial.result (goes_then s0 s1 s2) c.in_ok-found.ensures.inside.goes_on c.denial.ensures.inside.goes_on);
+  failure = search rules;
+}

@@ -26,7 +26,7 @@ returns-in-Deposit-clause-rows g c clean office =
 pub returns-in-Collection-clause-rows : goal.returns-in-Collection-clause-rows
 returns-in-Collection-clause-rows g c clean office =
     let t = tables_of (state g.S.Store c.args.tx.now.conn.now).now in
-    subst (λ (named : HoldTarget). OnOk c.end_collection.result (CountsFewer t (held_deposit named))) (sym c.in-Collection.is) (IfOk-weaker c.end_collection.result _ _ (λ _ _. tt) (c.end_collection.ensures.goes_on clean))
+    subst (λ (named : HoldTarget). OnOk c.end_collection.result (CountsFewer t (held_deposit named))) (sym c.in-Collection.is) (IfOk-weaker c.end_collection.result _ _ (λ _ _. tt) (c.end_collection.ensures.inside.goes_on clean))
 
 pub returns-in-Class-clause-ended : goal.returns-in-Class-clause-ended
 returns-in-Class-clause-ended g c clean h legal pictured was =
@@ -36,4 +36,4 @@ returns-in-Class-clause-ended g c clean h legal pictured was =
 pub returns-in-Class-clause-rows : goal.returns-in-Class-clause-rows
 returns-in-Class-clause-rows g c clean office =
     let t = tables_of (state g.S.Store c.args.tx.now.conn.now).now in
-    subst (λ (named : HoldTarget). OnOk c.end_class.result (CountsFewer t (held_deposit named))) (sym c.in-Class.is) (IfOk-weaker c.end_class.result _ _ (λ _ _. tt) (c.end_class.ensures.goes_on clean))
+    subst (λ (named : HoldTarget). OnOk c.end_class.result (CountsFewer t (held_deposit named))) (sym c.in-Class.is) (IfOk-weaker c.end_class.result _ _ (λ _ _. tt) (c.end_class.ensures.inside.goes_on clean))

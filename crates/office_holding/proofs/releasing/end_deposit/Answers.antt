@@ -20,7 +20,7 @@ returns-clause-ended g c clean h legal pictured was =
     let old = state g.S.Store a.tx.now.conn.now in
     let mid = state g.S.Store c.end_hold.new.tx.conn.now in
     let new = state g.S.Store c.count_over_deposit.new.tx.conn.now in
-    let early : HasCleanDisk mid = clean_before mid new c.count_over_deposit.ensures.stays clean in
+    let early : HasCleanDisk mid = clean_before mid new c.count_over_deposit.ensures.inside.stays clean in
     let small : SFits w32 c.number.result = search rules in
     let fits : SFits w64 c.number.result = search rules in
     let ended : Becomes mid.now (with_released (pos a.number) (epoch_day a.day) (tables_of old.now)) =
@@ -29,21 +29,23 @@ returns-clause-ended g c clean h legal pictured was =
     on_both c.count_over_deposit.result (released_deposit h a.day a.number was.live was.found was.there old.now mid.now pictured ended a.deposit was.named new.now)
     (c.count_over_deposit.ensures.counted clean ended.office) (c.count_over_deposit.ensures.once clean ended.office kept)
 
-pub returns-clause-stays : goal.returns-clause-stays
-returns-clause-stays g c = stays_then (state g.S.Store c.args.tx.now.conn.now) (state g.S.Store c.end_hold.new.tx.conn.now) (state g.S.Store c.count_over_deposit.new.tx.conn.now) c.end_hold.ensures.stays c.in_ok-end_hold.ensures.goes_on c.count_over_deposit.ensures.stays
-
-pub returns-clause-goes_on : goal.returns-clause-goes_on
-returns-clause-goes_on g c =
-    let s0 = state g.S.Store c.args.tx.now.conn.now in
-    let s1 = state g.S.Store c.end_hold.new.tx.conn.now in
-    let s2 = state g.S.Store c.count_over_deposit.new.tx.conn.now in
-    on_after s0 s1 s2 c.count_over_deposit.ensures.stays c.count_over_deposit.result (goes_then s0 s1 s2) c.in_ok-end_hold.ensures.goes_on c.count_over_deposit.ensures.goes_on
-
 pub returns-clause-rows : goal.returns-clause-rows
 returns-clause-rows g c clean office =
     let a = c.args in
     let old = state g.S.Store a.tx.now.conn.now in
     let mid = state g.S.Store c.end_hold.new.tx.conn.now in
-    let early : HasCleanDisk mid = clean_before mid (state g.S.Store c.count_over_deposit.new.tx.conn.now) c.count_over_deposit.ensures.stays clean in
+    let early : HasCleanDisk mid = clean_before mid (state g.S.Store c.count_over_deposit.new.tx.conn.now) c.count_over_deposit.ensures.inside.stays clean in
     let ended = c.in_ok-end_hold.ensures.becomes early office in
     on_ok_weaker c.count_over_deposit.result (countable_after_end (tables_of old.now) mid.now (pos a.deposit) (negsuc 0) _ _ ended) (c.count_over_deposit.ensures.rows clean ended.office)
+
+pub returns-clause-inside : goal.returns-clause-inside
+returns-clause-inside g c = record {
+  same_reference = search rules;
+  stays = stays_then (state g.S.Store c.args.tx.now.conn.now) (state g.S.Store c.end_hold.new.tx.conn.now) (state g.S.Store c.count_over_deposit.new.tx.conn.now) c.end_hold.ensures.inside.stays c.in_ok-end_hold.ensures.inside.goes_on c.count_over_deposit.ensures.inside.stays;
+  goes_on = (
+      let s0 = state g.S.Store c.args.tx.now.conn.now in
+      let s1 = state g.S.Store c.end_hold.new.tx.conn.now in
+      let s2 = state g.S.Store c.count_over_deposit.new.tx.conn.now in
+      on_after s0 s1 s2 c.count_over_deposit.ensures.inside.stays c.count_over_deposit.result (goes_then s0 s1 s2) c.in_ok-end_hold.ensures.inside.goes_on c.count_over_deposit.ensures.inside.goes_on);
+  failure = search rules;
+}

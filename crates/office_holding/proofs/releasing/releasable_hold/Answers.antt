@@ -31,7 +31,7 @@ returns-clause-asked g c clean h legal pictured =
     let a = c.args in
     let old = state g.S.Store a.tx.now.conn.now in
     let mid = state g.S.Store c.hold_row.new.tx.conn.now in
-    let early : HasCleanDisk mid = clean_before mid (state g.S.Store c.release_denial.new.tx.conn.now) c.release_denial.ensures.stays clean in
+    let early : HasCleanDisk mid = clean_before mid (state g.S.Store c.release_denial.new.tx.conn.now) c.release_denial.ensures.inside.stays clean in
     let read = hold_read h old.now pictured a.number c.in_ok-hold.field-0 (c.in_ok-hold.ensures.found early pictured.office) in
     let still = pictured_still h old.now pictured mid.now (c.in_ok-hold.ensures.same early pictured.office) in
     let row = c.in-Some.hold in
@@ -42,17 +42,6 @@ returns-clause-asked g c clean h legal pictured =
     let collection : shown.held_collection target ≡ row.collection = search rules in
     let class : shown.held_class target ≡ row.class = search rules in
     IfOk-weaker c.unless_refused.result _ _ (λ found first. (denied.0, release_asked h a.number row some a.day a.caller.now target c.in_ok-denied.denied found deposit collection class denied.1 first)) c.unless_refused.ensures.first
-
-pub returns-in_err-denied-clause-stays : goal.returns-in_err-denied-clause-stays
-returns-in_err-denied-clause-stays g c = stays_then (state g.S.Store c.args.tx.now.conn.now) (state g.S.Store c.hold_row.new.tx.conn.now) (state g.S.Store c.release_denial.new.tx.conn.now) c.hold_row.ensures.stays c.in_ok-hold.ensures.goes_on c.release_denial.ensures.stays
-
-pub returns-clause-stays : goal.returns-clause-stays
-returns-clause-stays g c = stays_then (state g.S.Store c.args.tx.now.conn.now) (state g.S.Store c.hold_row.new.tx.conn.now) (state g.S.Store c.release_denial.new.tx.conn.now) c.hold_row.ensures.stays c.in_ok-hold.ensures.goes_on c.release_denial.ensures.stays
-
-pub returns-clause-goes_on : goal.returns-clause-goes_on
-returns-clause-goes_on g c clean =
-    let goes = goes_twice (state g.S.Store c.args.tx.now.conn.now) (state g.S.Store c.hold_row.new.tx.conn.now) (state g.S.Store c.release_denial.new.tx.conn.now) c.release_denial.ensures.stays c.in_ok-hold.ensures.goes_on c.in_ok-denied.ensures.goes_on clean in
-    on_ok c.unless_refused.result (λ _ _. goes) c.unless_refused.ensures.first
 
 pub returns-in_default-clause-rows : goal.returns-in_default-clause-rows
 returns-in_default-clause-rows g c clean office =
@@ -66,7 +55,7 @@ returns-clause-rows g c clean office =
     let a = c.args in
     let old = state g.S.Store a.tx.now.conn.now in
     let mid = state g.S.Store c.hold_row.new.tx.conn.now in
-    let early : HasCleanDisk mid = clean_before mid (state g.S.Store c.release_denial.new.tx.conn.now) c.release_denial.ensures.stays clean in
+    let early : HasCleanDisk mid = clean_before mid (state g.S.Store c.release_denial.new.tx.conn.now) c.release_denial.ensures.inside.stays clean in
     let same : mid.now ≡ old.now = c.in_ok-hold.ensures.same early office in
     let row = c.in-Some.hold in
     let there = sym c.in-Some.is ∙ c.in_ok-hold.ensures.found early office in
@@ -80,5 +69,23 @@ returns-clause-rows g c clean office =
 
 pub returns-clause-same : goal.returns-clause-same
 returns-clause-same g c clean office =
-    let same = same_twice (state g.S.Store c.args.tx.now.conn.now) (state g.S.Store c.hold_row.new.tx.conn.now) (state g.S.Store c.release_denial.new.tx.conn.now) c.release_denial.ensures.stays c.in_ok-hold.ensures.same c.in_ok-denied.ensures.same clean office in
+    let same = same_twice (state g.S.Store c.args.tx.now.conn.now) (state g.S.Store c.hold_row.new.tx.conn.now) (state g.S.Store c.release_denial.new.tx.conn.now) c.release_denial.ensures.inside.stays c.in_ok-hold.ensures.same c.in_ok-denied.ensures.same clean office in
     on_ok c.unless_refused.result (λ _ _. same) c.unless_refused.ensures.first
+
+pub returns-in_err-denied-clause-inside : goal.returns-in_err-denied-clause-inside
+returns-in_err-denied-clause-inside g c = record {
+  same_reference = search rules;
+  stays = stays_then (state g.S.Store c.args.tx.now.conn.now) (state g.S.Store c.hold_row.new.tx.conn.now) (state g.S.Store c.release_denial.new.tx.conn.now) c.hold_row.ensures.inside.stays c.in_ok-hold.ensures.inside.goes_on c.release_denial.ensures.inside.stays;
+  goes_on = search rules;
+  failure = search rules;
+}
+
+pub returns-clause-inside : goal.returns-clause-inside
+returns-clause-inside g c = record {
+  same_reference = search rules;
+  stays = stays_then (state g.S.Store c.args.tx.now.conn.now) (state g.S.Store c.hold_row.new.tx.conn.now) (state g.S.Store c.release_denial.new.tx.conn.now) c.hold_row.ensures.inside.stays c.in_ok-hold.ensures.inside.goes_on c.release_denial.ensures.inside.stays;
+  goes_on = λ clean. (
+      let goes = goes_twice (state g.S.Store c.args.tx.now.conn.now) (state g.S.Store c.hold_row.new.tx.conn.now) (state g.S.Store c.release_denial.new.tx.conn.now) c.release_denial.ensures.inside.stays c.in_ok-hold.ensures.inside.goes_on c.in_ok-denied.ensures.inside.goes_on clean in
+      on_ok c.unless_refused.result (λ _ _. goes) c.unless_refused.ensures.first);
+  failure = search rules;
+}

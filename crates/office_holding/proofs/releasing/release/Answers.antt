@@ -28,7 +28,7 @@ returns-in_ok-end-in-Ok-clause-decides g c clean h legal pictured =
     let a = c.args in
     let mid = state g.S.Store c.releasable_hold.new.tx.conn.now in
     let new = state g.S.Store c.end.new.tx.conn.now in
-    let early : HasCleanDisk mid = clean_before mid new c.end.ensures.stays clean in
+    let early : HasCleanDisk mid = clean_before mid new c.end.ensures.inside.stays clean in
     let asked = c.in_ok-row.ensures.asked early h legal pictured in
     let row = c.in-Ok.row in
     let found = subst (IsReleaseAsked h a.day a.caller.now a.hold) c.in-Ok.is asked.1 in
@@ -38,15 +38,6 @@ returns-in_ok-end-in-Ok-clause-decides g c clean h legal pictured =
     let class : shown.held_class target ≡ row.class = search rules in
     let live = live_on h a.hold row found.1 (releasable h a.day a.caller.now a.hold (sym found.0)) target deposit collection class in
     allowed_serves h a.day a.caller.now (requests.Release a.hold) new.now (answers.HoldReleased a.hold a.day) found.0 refl (c.in_ok-end-in-Ok.ensures.ended clean h legal asked.0 live)
-
-pub returns-in_err-end-in-Ok-clause-stays : goal.returns-in_err-end-in-Ok-clause-stays
-returns-in_err-end-in-Ok-clause-stays g c = stays_then (state g.S.Store c.args.tx.now.conn.now) (state g.S.Store c.releasable_hold.new.tx.conn.now) (state g.S.Store c.end.new.tx.conn.now) c.releasable_hold.ensures.stays c.in_ok-row.ensures.goes_on c.end.ensures.stays
-
-pub returns-in_ok-end-in-Ok-clause-stays : goal.returns-in_ok-end-in-Ok-clause-stays
-returns-in_ok-end-in-Ok-clause-stays g c = stays_then (state g.S.Store c.args.tx.now.conn.now) (state g.S.Store c.releasable_hold.new.tx.conn.now) (state g.S.Store c.end.new.tx.conn.now) c.releasable_hold.ensures.stays c.in_ok-row.ensures.goes_on c.end.ensures.stays
-
-pub returns-in_ok-end-in-Ok-clause-goes_on : goal.returns-in_ok-end-in-Ok-clause-goes_on
-returns-in_ok-end-in-Ok-clause-goes_on g c = goes_twice (state g.S.Store c.args.tx.now.conn.now) (state g.S.Store c.releasable_hold.new.tx.conn.now) (state g.S.Store c.end.new.tx.conn.now) c.end.ensures.stays c.in_ok-row.ensures.goes_on c.in_ok-end-in-Ok.ensures.goes_on
 
 pub returns-in-Err-clause-rows : goal.returns-in-Err-clause-rows
 returns-in-Err-clause-rows g c clean office =
@@ -59,7 +50,7 @@ returns-in_ok-end-in-Ok-clause-rows g c clean office =
     let a = c.args in
     let old = state g.S.Store a.tx.now.conn.now in
     let mid = state g.S.Store c.releasable_hold.new.tx.conn.now in
-    let early : HasCleanDisk mid = clean_before mid (state g.S.Store c.end.new.tx.conn.now) c.end.ensures.stays clean in
+    let early : HasCleanDisk mid = clean_before mid (state g.S.Store c.end.new.tx.conn.now) c.end.ensures.inside.stays clean in
     let same : mid.now ≡ old.now = c.in_ok-row.ensures.same early office in
     let row = c.in-Ok.row in
     let target = c.in_ok-target-in-Ok.target in
@@ -69,3 +60,19 @@ returns-in_ok-end-in-Ok-clause-rows g c clean office =
       counts = subst (CountsFewer (tables_of old.now)) deposit (told_before old.now mid.now same (λ t. CountsFewer t (shown.held_deposit target)) (c.in_ok-end-in-Ok.ensures.rows clean (office_still old.now mid.now same office)));
       is = refl;
     }
+
+pub returns-in_err-end-in-Ok-clause-inside : goal.returns-in_err-end-in-Ok-clause-inside
+returns-in_err-end-in-Ok-clause-inside g c = record {
+  same_reference = search rules;
+  stays = stays_then (state g.S.Store c.args.tx.now.conn.now) (state g.S.Store c.releasable_hold.new.tx.conn.now) (state g.S.Store c.end.new.tx.conn.now) c.releasable_hold.ensures.inside.stays c.in_ok-row.ensures.inside.goes_on c.end.ensures.inside.stays;
+  goes_on = search rules;
+  failure = search rules;
+}
+
+pub returns-in_ok-end-in-Ok-clause-inside : goal.returns-in_ok-end-in-Ok-clause-inside
+returns-in_ok-end-in-Ok-clause-inside g c = record {
+  same_reference = search rules;
+  stays = stays_then (state g.S.Store c.args.tx.now.conn.now) (state g.S.Store c.releasable_hold.new.tx.conn.now) (state g.S.Store c.end.new.tx.conn.now) c.releasable_hold.ensures.inside.stays c.in_ok-row.ensures.inside.goes_on c.end.ensures.inside.stays;
+  goes_on = goes_twice (state g.S.Store c.args.tx.now.conn.now) (state g.S.Store c.releasable_hold.new.tx.conn.now) (state g.S.Store c.end.new.tx.conn.now) c.end.ensures.inside.stays c.in_ok-row.ensures.inside.goes_on c.in_ok-end-in-Ok.ensures.inside.goes_on;
+  failure = search rules;
+}

@@ -1,4 +1,4 @@
-use Rattle.std.proofs.Common.{◌≡◌, ℕ, List, Some, Ok, Err, refl, sym, ap, subst, ◌∙◌}
+use Rattle.std.proofs.Common.{◌≡◌, ℕ, List, Some, Ok, Err, refl, sym, ap, subst, ◌∙◌, rules}
 use Rattle.sqlite.specs.State.{HasCleanDisk}
 use Rattle.sqlite.specs.Held.{state}
 use Rattle.office_core.specs.FirstOf.{first_some}
@@ -37,7 +37,7 @@ returns-clause-decides g c clean h legal pictured =
     let a = c.args in
     let mid = state g.S.Store c.new_bag.new.tx.conn.now in
     let new = state g.S.Store c.keep.new.tx.conn.now in
-    let early : HasCleanDisk mid = clean_before mid new c.keep.ensures.stays clean in
+    let early : HasCleanDisk mid = clean_before mid new c.keep.ensures.inside.stays clean in
     let collection = c.as_str-collection.ensures.text in
     let class = c.as_str-class.ensures.text in
     let accession = c.as_str-accession.ensures.text in
@@ -49,15 +49,6 @@ returns-clause-decides g c clean h legal pictured =
     (sym next.free ∙ (λ i. first_some (refusals h a.day a.caller.now (requests.Deposit (collection i) (class i) (accession i) a.closed a.bag))))
     (ap answers.Deposited next.number)
     (subst (λ (x : History). Pictures x new.now) (λ i. with_changes h (deposit_change a.day (collection i) (class i) (accession i) a.closed (sym next.bag i))) kept)
-
-pub returns-in_err-keep-clause-stays : goal.returns-in_err-keep-clause-stays
-returns-in_err-keep-clause-stays g c = stays_then (state g.S.Store c.args.tx.now.conn.now) (state g.S.Store c.new_bag.new.tx.conn.now) (state g.S.Store c.keep.new.tx.conn.now) c.new_bag.ensures.stays c.in_ok-new.ensures.goes_on c.keep.ensures.stays
-
-pub returns-clause-stays : goal.returns-clause-stays
-returns-clause-stays g c = stays_then (state g.S.Store c.args.tx.now.conn.now) (state g.S.Store c.new_bag.new.tx.conn.now) (state g.S.Store c.keep.new.tx.conn.now) c.new_bag.ensures.stays c.in_ok-new.ensures.goes_on c.keep.ensures.stays
-
-pub returns-clause-goes_on : goal.returns-clause-goes_on
-returns-clause-goes_on g c = goes_twice (state g.S.Store c.args.tx.now.conn.now) (state g.S.Store c.new_bag.new.tx.conn.now) (state g.S.Store c.keep.new.tx.conn.now) c.keep.ensures.stays c.in_ok-new.ensures.goes_on c.in_ok-keep.ensures.goes_on
 
 pub returns-in-Err-clause-rows : goal.returns-in-Err-clause-rows
 returns-in-Err-clause-rows g c clean office =
@@ -82,7 +73,7 @@ returns-clause-rows g c clean office =
     let old = state g.S.Store a.tx.now.conn.now in
     let mid = state g.S.Store c.new_bag.new.tx.conn.now in
     let new = state g.S.Store c.keep.new.tx.conn.now in
-    let early : HasCleanDisk mid = clean_before mid new c.keep.ensures.stays clean in
+    let early : HasCleanDisk mid = clean_before mid new c.keep.ensures.inside.stays clean in
     let same : mid.now ≡ old.now = c.in_ok-new.ensures.same early office in
     let collection = c.as_str-collection.ensures.text in
     let class = c.as_str-class.ensures.text in
@@ -100,3 +91,19 @@ returns-clause-rows g c clean office =
           (subst (λ name. AreReleasedOnDays (tables_of old.now) c.in-Ok.new.number name c.as_str-class.result.now) collection released);
       answer = refl;
     }
+
+pub returns-in_err-keep-clause-inside : goal.returns-in_err-keep-clause-inside
+returns-in_err-keep-clause-inside g c = record {
+  same_reference = search rules;
+  stays = stays_then (state g.S.Store c.args.tx.now.conn.now) (state g.S.Store c.new_bag.new.tx.conn.now) (state g.S.Store c.keep.new.tx.conn.now) c.new_bag.ensures.inside.stays c.in_ok-new.ensures.inside.goes_on c.keep.ensures.inside.stays;
+  goes_on = search rules;
+  failure = search rules;
+}
+
+pub returns-clause-inside : goal.returns-clause-inside
+returns-clause-inside g c = record {
+  same_reference = search rules;
+  stays = stays_then (state g.S.Store c.args.tx.now.conn.now) (state g.S.Store c.new_bag.new.tx.conn.now) (state g.S.Store c.keep.new.tx.conn.now) c.new_bag.ensures.inside.stays c.in_ok-new.ensures.inside.goes_on c.keep.ensures.inside.stays;
+  goes_on = goes_twice (state g.S.Store c.args.tx.now.conn.now) (state g.S.Store c.new_bag.new.tx.conn.now) (state g.S.Store c.keep.new.tx.conn.now) c.keep.ensures.inside.stays c.in_ok-new.ensures.inside.goes_on c.in_ok-keep.ensures.inside.goes_on;
+  failure = search rules;
+}

@@ -26,25 +26,15 @@ pub returns-clause-asked : goal.returns-clause-asked
 returns-clause-asked g c clean h legal pictured =
     let a = c.args in
     let mid = state g.S.Store c.refusal_before_the_bag.new.tx.conn.now in
-    let early : HasCleanDisk mid = clean_before mid (state g.S.Store c.numbered_bag.new.tx.conn.now) c.numbered_bag.ensures.stays clean in
+    let early : HasCleanDisk mid = clean_before mid (state g.S.Store c.numbered_bag.new.tx.conn.now) c.numbered_bag.ensures.inside.stays clean in
     let first = c.in_ok-why.ensures.refusal early h legal pictured in
     let free : None ≡ first_some (refusals_before_the_bag h a.day a.caller.now a.collection.now a.class.now a.accession.now a.closed) = search (rules, first.1) in
     IfOk-weaker c.numbered_bag.result _ _ (λ asked p. (p.0, asked_later h a.text.now (refusals_before_the_bag h a.day a.caller.now a.collection.now a.class.now a.accession.now a.closed) (bad_bag a.text.now ∷ full_of_deposits h ∷ []) asked free p.1))
     (c.numbered_bag.ensures.numbered clean h legal first.0)
 
-pub returns-clause-stays : goal.returns-clause-stays
-returns-clause-stays g c = stays_then (state g.S.Store c.args.tx.now.conn.now) (state g.S.Store c.refusal_before_the_bag.new.tx.conn.now) (state g.S.Store c.numbered_bag.new.tx.conn.now) c.refusal_before_the_bag.ensures.stays c.in_ok-why.ensures.goes_on c.numbered_bag.ensures.stays
-
-pub returns-clause-goes_on : goal.returns-clause-goes_on
-returns-clause-goes_on g c =
-    let s0 = state g.S.Store c.args.tx.now.conn.now in
-    let s1 = state g.S.Store c.refusal_before_the_bag.new.tx.conn.now in
-    let s2 = state g.S.Store c.numbered_bag.new.tx.conn.now in
-    on_after s0 s1 s2 c.numbered_bag.ensures.stays c.numbered_bag.result (goes_then s0 s1 s2) c.in_ok-why.ensures.goes_on c.numbered_bag.ensures.goes_on
-
 pub returns-clause-same : goal.returns-clause-same
 returns-clause-same g c =
-    same_after (state g.S.Store c.args.tx.now.conn.now) (state g.S.Store c.refusal_before_the_bag.new.tx.conn.now) (state g.S.Store c.numbered_bag.new.tx.conn.now) c.numbered_bag.ensures.stays c.in_ok-why.ensures.same c.numbered_bag.result c.numbered_bag.ensures.same
+    same_after (state g.S.Store c.args.tx.now.conn.now) (state g.S.Store c.refusal_before_the_bag.new.tx.conn.now) (state g.S.Store c.numbered_bag.new.tx.conn.now) c.numbered_bag.ensures.inside.stays c.in_ok-why.ensures.same c.numbered_bag.result c.numbered_bag.ensures.same
 
 pub returns-in-Some-clause-rows : goal.returns-in-Some-clause-rows
 returns-in-Some-clause-rows g c clean office =
@@ -63,9 +53,21 @@ returns-clause-rows g c clean office =
     let old = state g.S.Store a.tx.now.conn.now in
     let mid = state g.S.Store c.refusal_before_the_bag.new.tx.conn.now in
     let new = state g.S.Store c.numbered_bag.new.tx.conn.now in
-    let early : HasCleanDisk mid = clean_before mid new c.numbered_bag.ensures.stays clean in
+    let early : HasCleanDisk mid = clean_before mid new c.numbered_bag.ensures.inside.stays clean in
     let none : c.in_ok-why.field-0 ≡ None = search rules in
     let asked : DepositAsked = record { day = a.day; caller = a.caller.now; collection = a.collection.now; class = a.class.now; accession = a.accession.now; closed = a.closed } in
     let before = subst (IsRefusalBeforeTheBag (tables_of old.now) asked) none (c.in_ok-why.ensures.rows early office) in
     IfOk-weaker c.numbered_bag.result _ _ (λ asked told. record { before = None; is_before = before; first = told })
-    (told_after old mid new c.numbered_bag.ensures.stays c.in_ok-why.ensures.same c.numbered_bag.result (λ t asked. IsRefusedOr (bad_bag a.text.now) (IsNextDepositIn t) (number_of asked)) c.numbered_bag.ensures.rows clean office)
+    (told_after old mid new c.numbered_bag.ensures.inside.stays c.in_ok-why.ensures.same c.numbered_bag.result (λ t asked. IsRefusedOr (bad_bag a.text.now) (IsNextDepositIn t) (number_of asked)) c.numbered_bag.ensures.rows clean office)
+
+pub returns-clause-inside : goal.returns-clause-inside
+returns-clause-inside g c = record {
+  same_reference = search rules;
+  stays = stays_then (state g.S.Store c.args.tx.now.conn.now) (state g.S.Store c.refusal_before_the_bag.new.tx.conn.now) (state g.S.Store c.numbered_bag.new.tx.conn.now) c.refusal_before_the_bag.ensures.inside.stays c.in_ok-why.ensures.inside.goes_on c.numbered_bag.ensures.inside.stays;
+  goes_on = (
+      let s0 = state g.S.Store c.args.tx.now.conn.now in
+      let s1 = state g.S.Store c.refusal_before_the_bag.new.tx.conn.now in
+      let s2 = state g.S.Store c.numbered_bag.new.tx.conn.now in
+      on_after s0 s1 s2 c.numbered_bag.ensures.inside.stays c.numbered_bag.result (goes_then s0 s1 s2) c.in_ok-why.ensures.inside.goes_on c.numbered_bag.ensures.inside.goes_on);
+  failure = search rules;
+}

@@ -1,4 +1,4 @@
-use Rattle.std.proofs.Common.{◌≡◌, length, pos, option_map, unwrap_or, refl}
+use Rattle.std.proofs.Common.{◌≡◌, length, pos, option_map, unwrap_or, refl, rules}
 use Rattle.sqlite.specs.State.{HasCleanDisk}
 use Rattle.sqlite.specs.Held.{state}
 use Rattle.office_history.specs.Histories.{deposits}
@@ -16,7 +16,7 @@ returns-clause-next g c clean h legal pictured =
     let old = state g.S.Store c.args.tx.now.conn.now in
     let mid = state g.S.Store c.limits.new.tx.conn.now in
     let new = state g.S.Store c.last_deposit.new.tx.conn.now in
-    let early : HasCleanDisk mid = clean_before mid new c.last_deposit.ensures.stays clean in
+    let early : HasCleanDisk mid = clean_before mid new c.last_deposit.ensures.inside.stays clean in
     let still = pictured_still h old.now pictured mid.now (c.in_ok-limits.ensures.same early pictured.office) in
     let most = c.in_ok-limits.limits in
     let limit = (limits_told h old.now pictured most.max_deposits most.max_holds (c.in_ok-limits.ensures.found early pictured.office)).0 in
@@ -26,23 +26,14 @@ returns-clause-next g c clean h legal pictured =
       number_told (unwrap_or last 0) most.max_deposits (length (deposits h)) h.max_deposits count limit c.number_after.result c.number_after.ensures,
     )
 
-pub returns-in_err-last-clause-stays : goal.returns-in_err-last-clause-stays
-returns-in_err-last-clause-stays g c = stays_then (state g.S.Store c.args.tx.now.conn.now) (state g.S.Store c.limits.new.tx.conn.now) (state g.S.Store c.last_deposit.new.tx.conn.now) c.limits.ensures.stays c.in_ok-limits.ensures.goes_on c.last_deposit.ensures.stays
-
-pub returns-clause-stays : goal.returns-clause-stays
-returns-clause-stays g c = stays_then (state g.S.Store c.args.tx.now.conn.now) (state g.S.Store c.limits.new.tx.conn.now) (state g.S.Store c.last_deposit.new.tx.conn.now) c.limits.ensures.stays c.in_ok-limits.ensures.goes_on c.last_deposit.ensures.stays
-
-pub returns-clause-goes_on : goal.returns-clause-goes_on
-returns-clause-goes_on g c = goes_twice (state g.S.Store c.args.tx.now.conn.now) (state g.S.Store c.limits.new.tx.conn.now) (state g.S.Store c.last_deposit.new.tx.conn.now) c.last_deposit.ensures.stays c.in_ok-limits.ensures.goes_on c.in_ok-last.ensures.goes_on
-
 pub returns-clause-same : goal.returns-clause-same
-returns-clause-same g c = same_twice (state g.S.Store c.args.tx.now.conn.now) (state g.S.Store c.limits.new.tx.conn.now) (state g.S.Store c.last_deposit.new.tx.conn.now) c.last_deposit.ensures.stays c.in_ok-limits.ensures.same c.in_ok-last.ensures.same
+returns-clause-same g c = same_twice (state g.S.Store c.args.tx.now.conn.now) (state g.S.Store c.limits.new.tx.conn.now) (state g.S.Store c.last_deposit.new.tx.conn.now) c.last_deposit.ensures.inside.stays c.in_ok-limits.ensures.same c.in_ok-last.ensures.same
 
 pub returns-clause-rows : goal.returns-clause-rows
 returns-clause-rows g c clean office =
     let old = state g.S.Store c.args.tx.now.conn.now in
     let mid = state g.S.Store c.limits.new.tx.conn.now in
-    let early : HasCleanDisk mid = clean_before mid (state g.S.Store c.last_deposit.new.tx.conn.now) c.last_deposit.ensures.stays clean in
+    let early : HasCleanDisk mid = clean_before mid (state g.S.Store c.last_deposit.new.tx.conn.now) c.last_deposit.ensures.inside.stays clean in
     let same : mid.now ≡ old.now = c.in_ok-limits.ensures.same early office in
     let last = told_before old.now mid.now same (λ t. option_map pos c.in_ok-last.last ≡ last_number (λ (d : DepositRow). d.number) t.deposits) (c.in_ok-last.ensures.found clean (office_still old.now mid.now same office)) in
     record {
@@ -54,3 +45,19 @@ returns-clause-rows g c clean office =
       is_last = last;
       comes_to = c.number_after.ensures;
     }
+
+pub returns-in_err-last-clause-inside : goal.returns-in_err-last-clause-inside
+returns-in_err-last-clause-inside g c = record {
+  same_reference = search rules;
+  stays = stays_then (state g.S.Store c.args.tx.now.conn.now) (state g.S.Store c.limits.new.tx.conn.now) (state g.S.Store c.last_deposit.new.tx.conn.now) c.limits.ensures.inside.stays c.in_ok-limits.ensures.inside.goes_on c.last_deposit.ensures.inside.stays;
+  goes_on = search rules;
+  failure = search rules;
+}
+
+pub returns-clause-inside : goal.returns-clause-inside
+returns-clause-inside g c = record {
+  same_reference = search rules;
+  stays = stays_then (state g.S.Store c.args.tx.now.conn.now) (state g.S.Store c.limits.new.tx.conn.now) (state g.S.Store c.last_deposit.new.tx.conn.now) c.limits.ensures.inside.stays c.in_ok-limits.ensures.inside.goes_on c.last_deposit.ensures.inside.stays;
+  goes_on = goes_twice (state g.S.Store c.args.tx.now.conn.now) (state g.S.Store c.limits.new.tx.conn.now) (state g.S.Store c.last_deposit.new.tx.conn.now) c.last_deposit.ensures.inside.stays c.in_ok-limits.ensures.inside.goes_on c.in_ok-last.ensures.inside.goes_on;
+  failure = search rules;
+}

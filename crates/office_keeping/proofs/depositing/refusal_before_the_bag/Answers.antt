@@ -22,7 +22,7 @@ pub returns-clause-refusal : goal.returns-clause-refusal
 returns-clause-refusal g c clean h legal pictured =
     let a = c.args in
     let mid = state g.S.Store c.place_refusal.new.tx.conn.now in
-    let early : HasCleanDisk mid = clean_before mid (state g.S.Store c.taken_refusal.new.tx.conn.now) c.taken_refusal.ensures.stays clean in
+    let early : HasCleanDisk mid = clean_before mid (state g.S.Store c.taken_refusal.new.tx.conn.now) c.taken_refusal.ensures.inside.stays clean in
     let place = c.in_ok-why.ensures.refusal early h legal pictured in
     let asked = c.in_ok-why-2.ensures.taken clean h legal place.0 in
     let free : first_some (place_refusals h a.day a.caller.now a.collection.now a.class.now) ≡ None = search (rules, place.1) in
@@ -33,26 +33,11 @@ returns-clause-refusal g c clean h legal pictured =
           ∙ sym (first_behind (place_refusals h a.day a.caller.now a.collection.now a.class.now) (taken_refusal h a.accession.now ∷ closed_ahead_refusal a.day a.closed ∷ []) free),
     )
 
-pub returns-in_err-why-2-clause-stays : goal.returns-in_err-why-2-clause-stays
-returns-in_err-why-2-clause-stays g c = stays_then (state g.S.Store c.args.tx.now.conn.now) (state g.S.Store c.place_refusal.new.tx.conn.now) (state g.S.Store c.taken_refusal.new.tx.conn.now) c.place_refusal.ensures.stays c.in_ok-why.ensures.goes_on c.taken_refusal.ensures.stays
-
-pub returns-in-Some-2-clause-stays : goal.returns-in-Some-2-clause-stays
-returns-in-Some-2-clause-stays g c = stays_then (state g.S.Store c.args.tx.now.conn.now) (state g.S.Store c.place_refusal.new.tx.conn.now) (state g.S.Store c.taken_refusal.new.tx.conn.now) c.place_refusal.ensures.stays c.in_ok-why.ensures.goes_on c.taken_refusal.ensures.stays
-
-pub returns-in-Some-2-clause-goes_on : goal.returns-in-Some-2-clause-goes_on
-returns-in-Some-2-clause-goes_on g c = goes_twice (state g.S.Store c.args.tx.now.conn.now) (state g.S.Store c.place_refusal.new.tx.conn.now) (state g.S.Store c.taken_refusal.new.tx.conn.now) c.taken_refusal.ensures.stays c.in_ok-why.ensures.goes_on c.in_ok-why-2.ensures.goes_on
-
-pub returns-clause-stays : goal.returns-clause-stays
-returns-clause-stays g c = stays_then (state g.S.Store c.args.tx.now.conn.now) (state g.S.Store c.place_refusal.new.tx.conn.now) (state g.S.Store c.taken_refusal.new.tx.conn.now) c.place_refusal.ensures.stays c.in_ok-why.ensures.goes_on c.taken_refusal.ensures.stays
-
-pub returns-clause-goes_on : goal.returns-clause-goes_on
-returns-clause-goes_on g c = goes_twice (state g.S.Store c.args.tx.now.conn.now) (state g.S.Store c.place_refusal.new.tx.conn.now) (state g.S.Store c.taken_refusal.new.tx.conn.now) c.taken_refusal.ensures.stays c.in_ok-why.ensures.goes_on c.in_ok-why-2.ensures.goes_on
-
 pub returns-in-Some-2-clause-same : goal.returns-in-Some-2-clause-same
-returns-in-Some-2-clause-same g c = same_twice (state g.S.Store c.args.tx.now.conn.now) (state g.S.Store c.place_refusal.new.tx.conn.now) (state g.S.Store c.taken_refusal.new.tx.conn.now) c.taken_refusal.ensures.stays c.in_ok-why.ensures.same c.in_ok-why-2.ensures.same
+returns-in-Some-2-clause-same g c = same_twice (state g.S.Store c.args.tx.now.conn.now) (state g.S.Store c.place_refusal.new.tx.conn.now) (state g.S.Store c.taken_refusal.new.tx.conn.now) c.taken_refusal.ensures.inside.stays c.in_ok-why.ensures.same c.in_ok-why-2.ensures.same
 
 pub returns-clause-same : goal.returns-clause-same
-returns-clause-same g c = same_twice (state g.S.Store c.args.tx.now.conn.now) (state g.S.Store c.place_refusal.new.tx.conn.now) (state g.S.Store c.taken_refusal.new.tx.conn.now) c.taken_refusal.ensures.stays c.in_ok-why.ensures.same c.in_ok-why-2.ensures.same
+returns-clause-same g c = same_twice (state g.S.Store c.args.tx.now.conn.now) (state g.S.Store c.place_refusal.new.tx.conn.now) (state g.S.Store c.taken_refusal.new.tx.conn.now) c.taken_refusal.ensures.inside.stays c.in_ok-why.ensures.same c.in_ok-why-2.ensures.same
 
 pub returns-in-Some-clause-rows : goal.returns-in-Some-clause-rows
 returns-in-Some-clause-rows g c clean office =
@@ -65,7 +50,7 @@ returns-in-Some-2-clause-rows g c clean office =
     let a = c.args in
     let old = state g.S.Store a.tx.now.conn.now in
     let mid = state g.S.Store c.place_refusal.new.tx.conn.now in
-    let early : HasCleanDisk mid = clean_before mid (state g.S.Store c.taken_refusal.new.tx.conn.now) c.taken_refusal.ensures.stays clean in
+    let early : HasCleanDisk mid = clean_before mid (state g.S.Store c.taken_refusal.new.tx.conn.now) c.taken_refusal.ensures.inside.stays clean in
     let same : mid.now ≡ old.now = c.in_ok-why.ensures.same early office in
     let none : c.in_ok-why.field-0 ≡ None = search rules in
     let taken = told_before old.now mid.now same (λ t. IsTakenIn t a.accession.now c.in_ok-why-2.field-0) (c.in_ok-why-2.ensures.rows clean (office_still old.now mid.now same office)) in
@@ -80,7 +65,7 @@ returns-clause-rows g c clean office =
     let a = c.args in
     let old = state g.S.Store a.tx.now.conn.now in
     let mid = state g.S.Store c.place_refusal.new.tx.conn.now in
-    let early : HasCleanDisk mid = clean_before mid (state g.S.Store c.taken_refusal.new.tx.conn.now) c.taken_refusal.ensures.stays clean in
+    let early : HasCleanDisk mid = clean_before mid (state g.S.Store c.taken_refusal.new.tx.conn.now) c.taken_refusal.ensures.inside.stays clean in
     let same : mid.now ≡ old.now = c.in_ok-why.ensures.same early office in
     let none : c.in_ok-why.field-0 ≡ None = search rules in
     let untaken : c.in_ok-why-2.field-0 ≡ None = search rules in
@@ -90,3 +75,27 @@ returns-clause-rows g c clean office =
       of_place = subst (IsPlaceRefusalIn (tables_of old.now) a.day a.caller.now a.collection.now a.class.now) none (c.in_ok-why.ensures.rows early office);
       first = record { taken = None; is_taken = subst (IsTakenIn (tables_of old.now) a.accession.now) untaken taken; first = c.closed_ahead.ensures };
     }
+
+pub returns-in_err-why-2-clause-inside : goal.returns-in_err-why-2-clause-inside
+returns-in_err-why-2-clause-inside g c = record {
+  same_reference = search rules;
+  stays = stays_then (state g.S.Store c.args.tx.now.conn.now) (state g.S.Store c.place_refusal.new.tx.conn.now) (state g.S.Store c.taken_refusal.new.tx.conn.now) c.place_refusal.ensures.inside.stays c.in_ok-why.ensures.inside.goes_on c.taken_refusal.ensures.inside.stays;
+  goes_on = search rules;
+  failure = search rules;
+}
+
+pub returns-in-Some-2-clause-inside : goal.returns-in-Some-2-clause-inside
+returns-in-Some-2-clause-inside g c = record {
+  same_reference = search rules;
+  stays = stays_then (state g.S.Store c.args.tx.now.conn.now) (state g.S.Store c.place_refusal.new.tx.conn.now) (state g.S.Store c.taken_refusal.new.tx.conn.now) c.place_refusal.ensures.inside.stays c.in_ok-why.ensures.inside.goes_on c.taken_refusal.ensures.inside.stays;
+  goes_on = goes_twice (state g.S.Store c.args.tx.now.conn.now) (state g.S.Store c.place_refusal.new.tx.conn.now) (state g.S.Store c.taken_refusal.new.tx.conn.now) c.taken_refusal.ensures.inside.stays c.in_ok-why.ensures.inside.goes_on c.in_ok-why-2.ensures.inside.goes_on;
+  failure = search rules;
+}
+
+pub returns-clause-inside : goal.returns-clause-inside
+returns-clause-inside g c = record {
+  same_reference = search rules;
+  stays = stays_then (state g.S.Store c.args.tx.now.conn.now) (state g.S.Store c.place_refusal.new.tx.conn.now) (state g.S.Store c.taken_refusal.new.tx.conn.now) c.place_refusal.ensures.inside.stays c.in_ok-why.ensures.inside.goes_on c.taken_refusal.ensures.inside.stays;
+  goes_on = goes_twice (state g.S.Store c.args.tx.now.conn.now) (state g.S.Store c.place_refusal.new.tx.conn.now) (state g.S.Store c.taken_refusal.new.tx.conn.now) c.taken_refusal.ensures.inside.stays c.in_ok-why.ensures.inside.goes_on c.in_ok-why-2.ensures.inside.goes_on;
+  failure = search rules;
+}

@@ -35,8 +35,8 @@ returns-clause-refusal g c clean h legal pictured =
     let old = state g.S.Store a.tx.now.conn.now in
     let s1 = state g.S.Store c.deposit_row.new.tx.conn.now in
     let s2 = state g.S.Store c.read.new.tx.conn.now in
-    let clean2 : HasCleanDisk s2 = clean_before s2 (state g.S.Store c.disposal_facts.new.tx.conn.now) c.disposal_facts.ensures.stays clean in
-    let clean1 : HasCleanDisk s1 = clean_before s1 s2 c.read.ensures.stays clean2 in
+    let clean2 : HasCleanDisk s2 = clean_before s2 (state g.S.Store c.disposal_facts.new.tx.conn.now) c.disposal_facts.ensures.inside.stays clean in
+    let clean1 : HasCleanDisk s1 = clean_before s1 s2 c.read.ensures.inside.stays clean2 in
     let read = deposit_read h old.now pictured a.number c.in_ok-deposit.field-0 (c.in_ok-deposit.ensures.found clean1 pictured.office) in
     let still = pictured_still h old.now pictured s1.now (c.in_ok-deposit.ensures.same clean1 pictured.office) in
     let row = c.in-Some.deposit in
@@ -47,30 +47,6 @@ returns-clause-refusal g c clean h legal pictured =
     let facts = known.1 a.day a.caller.now asked.1 a.number found.0 found.1 found.2 in
     let told : c.refusal_of.result ≡ refusal_of (verdict_of c.in_ok-facts.facts a.day) = search rules in
     (known.0, told ∙ ap (λ f. refusal_of (verdict_of f a.day)) facts ∙ sym (c.verdicts_decide.ensures.disposal h a.day a.caller.now a.number found.0 found.1))
-
-pub returns-in_err-asker-clause-stays : goal.returns-in_err-asker-clause-stays
-returns-in_err-asker-clause-stays g c = stays_then (state g.S.Store c.args.tx.now.conn.now) (state g.S.Store c.deposit_row.new.tx.conn.now) (state g.S.Store c.read.new.tx.conn.now) c.deposit_row.ensures.stays c.in_ok-deposit.ensures.goes_on c.read.ensures.stays
-
-pub returns-in_err-facts-clause-stays : goal.returns-in_err-facts-clause-stays
-returns-in_err-facts-clause-stays g c =
-    let s0 = state g.S.Store c.args.tx.now.conn.now in
-    let s1 = state g.S.Store c.deposit_row.new.tx.conn.now in
-    let s2 = state g.S.Store c.read.new.tx.conn.now in
-    stays_thrice s0 s1 s2 (state g.S.Store c.disposal_facts.new.tx.conn.now) c.deposit_row.ensures.stays c.in_ok-deposit.ensures.goes_on c.read.ensures.stays c.in_ok-asker.ensures.goes_on c.disposal_facts.ensures.stays
-
-pub returns-clause-stays : goal.returns-clause-stays
-returns-clause-stays g c =
-    let s0 = state g.S.Store c.args.tx.now.conn.now in
-    let s1 = state g.S.Store c.deposit_row.new.tx.conn.now in
-    let s2 = state g.S.Store c.read.new.tx.conn.now in
-    stays_thrice s0 s1 s2 (state g.S.Store c.disposal_facts.new.tx.conn.now) c.deposit_row.ensures.stays c.in_ok-deposit.ensures.goes_on c.read.ensures.stays c.in_ok-asker.ensures.goes_on c.disposal_facts.ensures.stays
-
-pub returns-clause-goes_on : goal.returns-clause-goes_on
-returns-clause-goes_on g c =
-    let s0 = state g.S.Store c.args.tx.now.conn.now in
-    let s1 = state g.S.Store c.deposit_row.new.tx.conn.now in
-    let s2 = state g.S.Store c.read.new.tx.conn.now in
-    goes_twice s0 s2 (state g.S.Store c.disposal_facts.new.tx.conn.now) c.disposal_facts.ensures.stays (goes_twice s0 s1 s2 c.read.ensures.stays c.in_ok-deposit.ensures.goes_on c.in_ok-asker.ensures.goes_on) c.in_ok-facts.ensures.goes_on
 
 pub returns-in_default-clause-rows : goal.returns-in_default-clause-rows
 returns-in_default-clause-rows g c clean office =
@@ -85,8 +61,8 @@ returns-clause-rows g c clean office =
     let old = state g.S.Store a.tx.now.conn.now in
     let s1 = state g.S.Store c.deposit_row.new.tx.conn.now in
     let s2 = state g.S.Store c.read.new.tx.conn.now in
-    let clean2 : HasCleanDisk s2 = clean_before s2 (state g.S.Store c.disposal_facts.new.tx.conn.now) c.disposal_facts.ensures.stays clean in
-    let clean1 : HasCleanDisk s1 = clean_before s1 s2 c.read.ensures.stays clean2 in
+    let clean2 : HasCleanDisk s2 = clean_before s2 (state g.S.Store c.disposal_facts.new.tx.conn.now) c.disposal_facts.ensures.inside.stays clean in
+    let clean1 : HasCleanDisk s1 = clean_before s1 s2 c.read.ensures.inside.stays clean2 in
     let same1 : s1.now ≡ old.now = c.in_ok-deposit.ensures.same clean1 office in
     let office1 = office_still old.now s1.now same1 office in
     let same2 : s2.now ≡ s1.now = c.in_ok-asker.ensures.same clean2 office1 in
@@ -97,3 +73,39 @@ returns-clause-rows g c clean office =
     let told : c.refusal_of.result ≡ refusal_of (verdict_of c.in_ok-facts.facts a.day) = search rules in
     let verdict : IsVerdictIn (tables_of old.now) a.day a.caller.now a.number row c.refusal_of.result = record { facts = c.in_ok-facts.facts; are = told_before old.now s2.now (same2 ∙ same1) (λ t. AreFactsIn t a.day a.caller.now a.number row c.in_ok-facts.facts) facts; comes_to = told } in
     subst (λ o. IsDisposalRefusalOf (tables_of old.now) a.day a.caller.now a.number o c.refusal_of.result) found verdict
+
+pub returns-in_err-asker-clause-inside : goal.returns-in_err-asker-clause-inside
+returns-in_err-asker-clause-inside g c = record {
+  same_reference = search rules;
+  stays = stays_then (state g.S.Store c.args.tx.now.conn.now) (state g.S.Store c.deposit_row.new.tx.conn.now) (state g.S.Store c.read.new.tx.conn.now) c.deposit_row.ensures.inside.stays c.in_ok-deposit.ensures.inside.goes_on c.read.ensures.inside.stays;
+  goes_on = search rules;
+  failure = search rules;
+}
+
+pub returns-in_err-facts-clause-inside : goal.returns-in_err-facts-clause-inside
+returns-in_err-facts-clause-inside g c = record {
+  same_reference = search rules;
+  stays = (
+      let s0 = state g.S.Store c.args.tx.now.conn.now in
+      let s1 = state g.S.Store c.deposit_row.new.tx.conn.now in
+      let s2 = state g.S.Store c.read.new.tx.conn.now in
+      stays_thrice s0 s1 s2 (state g.S.Store c.disposal_facts.new.tx.conn.now) c.deposit_row.ensures.inside.stays c.in_ok-deposit.ensures.inside.goes_on c.read.ensures.inside.stays c.in_ok-asker.ensures.inside.goes_on c.disposal_facts.ensures.inside.stays);
+  goes_on = search rules;
+  failure = search rules;
+}
+
+pub returns-clause-inside : goal.returns-clause-inside
+returns-clause-inside g c = record {
+  same_reference = search rules;
+  stays = (
+      let s0 = state g.S.Store c.args.tx.now.conn.now in
+      let s1 = state g.S.Store c.deposit_row.new.tx.conn.now in
+      let s2 = state g.S.Store c.read.new.tx.conn.now in
+      stays_thrice s0 s1 s2 (state g.S.Store c.disposal_facts.new.tx.conn.now) c.deposit_row.ensures.inside.stays c.in_ok-deposit.ensures.inside.goes_on c.read.ensures.inside.stays c.in_ok-asker.ensures.inside.goes_on c.disposal_facts.ensures.inside.stays);
+  goes_on = (
+      let s0 = state g.S.Store c.args.tx.now.conn.now in
+      let s1 = state g.S.Store c.deposit_row.new.tx.conn.now in
+      let s2 = state g.S.Store c.read.new.tx.conn.now in
+      goes_twice s0 s2 (state g.S.Store c.disposal_facts.new.tx.conn.now) c.disposal_facts.ensures.inside.stays (goes_twice s0 s1 s2 c.read.ensures.inside.stays c.in_ok-deposit.ensures.inside.goes_on c.in_ok-asker.ensures.inside.goes_on) c.in_ok-facts.ensures.inside.goes_on);
+  failure = search rules;
+}

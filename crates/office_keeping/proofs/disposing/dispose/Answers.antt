@@ -24,20 +24,11 @@ returns-clause-decides g c clean h legal pictured =
     let a = c.args in
     let mid = state g.S.Store c.disposal_refusal.new.tx.conn.now in
     let new = state g.S.Store c.destroy.new.tx.conn.now in
-    let early : HasCleanDisk mid = clean_before mid new c.destroy.ensures.stays clean in
+    let early : HasCleanDisk mid = clean_before mid new c.destroy.ensures.inside.stays clean in
     let asked = c.in_ok-why.ensures.refusal early h legal pictured in
     let none : None ≡ refusal h a.day a.caller.now (requests.Dispose a.number) = search (rules, asked.1) in
     let kept = (disposable h a.day a.caller.now a.number (sym none)).kept in
     allowed_serves h a.day a.caller.now (requests.Dispose a.number) new.now (answers.Destroyed a.number a.day) none refl (c.in_ok-destroy.ensures.destroyed clean h legal asked.0 kept)
-
-pub returns-in_err-destroy-clause-stays : goal.returns-in_err-destroy-clause-stays
-returns-in_err-destroy-clause-stays g c = stays_then (state g.S.Store c.args.tx.now.conn.now) (state g.S.Store c.disposal_refusal.new.tx.conn.now) (state g.S.Store c.destroy.new.tx.conn.now) c.disposal_refusal.ensures.stays c.in_ok-why.ensures.goes_on c.destroy.ensures.stays
-
-pub returns-clause-stays : goal.returns-clause-stays
-returns-clause-stays g c = stays_then (state g.S.Store c.args.tx.now.conn.now) (state g.S.Store c.disposal_refusal.new.tx.conn.now) (state g.S.Store c.destroy.new.tx.conn.now) c.disposal_refusal.ensures.stays c.in_ok-why.ensures.goes_on c.destroy.ensures.stays
-
-pub returns-clause-goes_on : goal.returns-clause-goes_on
-returns-clause-goes_on g c = goes_twice (state g.S.Store c.args.tx.now.conn.now) (state g.S.Store c.disposal_refusal.new.tx.conn.now) (state g.S.Store c.destroy.new.tx.conn.now) c.destroy.ensures.stays c.in_ok-why.ensures.goes_on c.in_ok-destroy.ensures.goes_on
 
 pub returns-in-Some-clause-rows : goal.returns-in-Some-clause-rows
 returns-in-Some-clause-rows g c clean office =
@@ -50,6 +41,22 @@ returns-clause-rows g c clean office =
     let a = c.args in
     let t = tables_of (state g.S.Store a.tx.now.conn.now).now in
     let mid = state g.S.Store c.disposal_refusal.new.tx.conn.now in
-    let early : HasCleanDisk mid = clean_before mid (state g.S.Store c.destroy.new.tx.conn.now) c.destroy.ensures.stays clean in
+    let early : HasCleanDisk mid = clean_before mid (state g.S.Store c.destroy.new.tx.conn.now) c.destroy.ensures.inside.stays clean in
     let none : c.in_ok-why.field-0 ≡ None = search rules in
     record { refused = None; refusal = subst (IsDisposalRefusalIn t a.day a.caller.now a.number) none (c.in_ok-why.ensures.rows early office); answer = refl }
+
+pub returns-in_err-destroy-clause-inside : goal.returns-in_err-destroy-clause-inside
+returns-in_err-destroy-clause-inside g c = record {
+  same_reference = search rules;
+  stays = stays_then (state g.S.Store c.args.tx.now.conn.now) (state g.S.Store c.disposal_refusal.new.tx.conn.now) (state g.S.Store c.destroy.new.tx.conn.now) c.disposal_refusal.ensures.inside.stays c.in_ok-why.ensures.inside.goes_on c.destroy.ensures.inside.stays;
+  goes_on = search rules;
+  failure = search rules;
+}
+
+pub returns-clause-inside : goal.returns-clause-inside
+returns-clause-inside g c = record {
+  same_reference = search rules;
+  stays = stays_then (state g.S.Store c.args.tx.now.conn.now) (state g.S.Store c.disposal_refusal.new.tx.conn.now) (state g.S.Store c.destroy.new.tx.conn.now) c.disposal_refusal.ensures.inside.stays c.in_ok-why.ensures.inside.goes_on c.destroy.ensures.inside.stays;
+  goes_on = goes_twice (state g.S.Store c.args.tx.now.conn.now) (state g.S.Store c.disposal_refusal.new.tx.conn.now) (state g.S.Store c.destroy.new.tx.conn.now) c.destroy.ensures.inside.stays c.in_ok-why.ensures.inside.goes_on c.in_ok-destroy.ensures.inside.goes_on;
+  failure = search rules;
+}

@@ -16,7 +16,7 @@ pub returns-clause-due : goal.returns-clause-due
 returns-clause-due g c clean h legal pictured =
     let mid = state g.S.Store c.due_day.new.tx.conn.now in
     let new = state g.S.Store c.live_count.new.tx.conn.now in
-    let early : HasCleanDisk mid = clean_before mid new c.live_count.ensures.stays clean in
+    let early : HasCleanDisk mid = clean_before mid new c.live_count.ensures.inside.stays clean in
     let first = c.in_ok-due.ensures.due early h legal pictured in
     let second = c.in_ok-holds.ensures.count clean h legal first.0 in
     (second.0, λ deposit class_is closed_is. c.number.ensures ∙ ap due_number (first.1 deposit class_is closed_is))
@@ -25,25 +25,16 @@ pub returns-clause-holds : goal.returns-clause-holds
 returns-clause-holds g c clean h legal pictured =
     let mid = state g.S.Store c.due_day.new.tx.conn.now in
     let new = state g.S.Store c.live_count.new.tx.conn.now in
-    let early : HasCleanDisk mid = clean_before mid new c.live_count.ensures.stays clean in
+    let early : HasCleanDisk mid = clean_before mid new c.live_count.ensures.inside.stays clean in
     let first = c.in_ok-due.ensures.due early h legal pictured in
     let second = c.in_ok-holds.ensures.count clean h legal first.0 in
     let fits : SFits w64 c.in_ok-holds.holds = search rules in
     (second.0, λ deposit is within. to_z-of_z w64 c.in_ok-holds.holds fits ∙ second.1 deposit is within)
 
-pub returns-in_err-holds-clause-stays : goal.returns-in_err-holds-clause-stays
-returns-in_err-holds-clause-stays g c = stays_then (state g.S.Store c.args.tx.now.conn.now) (state g.S.Store c.due_day.new.tx.conn.now) (state g.S.Store c.live_count.new.tx.conn.now) c.due_day.ensures.stays c.in_ok-due.ensures.goes_on c.live_count.ensures.stays
-
-pub returns-clause-stays : goal.returns-clause-stays
-returns-clause-stays g c = stays_then (state g.S.Store c.args.tx.now.conn.now) (state g.S.Store c.due_day.new.tx.conn.now) (state g.S.Store c.live_count.new.tx.conn.now) c.due_day.ensures.stays c.in_ok-due.ensures.goes_on c.live_count.ensures.stays
-
-pub returns-clause-goes_on : goal.returns-clause-goes_on
-returns-clause-goes_on g c = goes_twice (state g.S.Store c.args.tx.now.conn.now) (state g.S.Store c.due_day.new.tx.conn.now) (state g.S.Store c.live_count.new.tx.conn.now) c.live_count.ensures.stays c.in_ok-due.ensures.goes_on c.in_ok-holds.ensures.goes_on
-
 pub returns-clause-rows : goal.returns-clause-rows
 returns-clause-rows g c clean office =
     let mid = state g.S.Store c.due_day.new.tx.conn.now in
-    let early : HasCleanDisk mid = clean_before mid (state g.S.Store c.live_count.new.tx.conn.now) c.live_count.ensures.stays clean in
+    let early : HasCleanDisk mid = clean_before mid (state g.S.Store c.live_count.new.tx.conn.now) c.live_count.ensures.inside.stays clean in
     (c.in_ok-due.due, c.in_ok-due.ensures.rows early office, c.number.ensures)
 
 pub returns-clause-counted : goal.returns-clause-counted
@@ -51,7 +42,7 @@ returns-clause-counted g c clean office =
     let a = c.args in
     let old = state g.S.Store a.tx.now.conn.now in
     let mid = state g.S.Store c.due_day.new.tx.conn.now in
-    let early : HasCleanDisk mid = clean_before mid (state g.S.Store c.live_count.new.tx.conn.now) c.live_count.ensures.stays clean in
+    let early : HasCleanDisk mid = clean_before mid (state g.S.Store c.live_count.new.tx.conn.now) c.live_count.ensures.inside.stays clean in
     let same : mid.now ≡ old.now = c.in_ok-due.ensures.same early office in
     let fits : SFits w64 c.in_ok-holds.holds = search rules in
     let counted = c.in_ok-holds.ensures.rows clean (office_still old.now mid.now same office) in
@@ -62,7 +53,23 @@ returns-clause-released g c clean office =
     let a = c.args in
     let old = state g.S.Store a.tx.now.conn.now in
     let mid = state g.S.Store c.due_day.new.tx.conn.now in
-    let early : HasCleanDisk mid = clean_before mid (state g.S.Store c.live_count.new.tx.conn.now) c.live_count.ensures.stays clean in
+    let early : HasCleanDisk mid = clean_before mid (state g.S.Store c.live_count.new.tx.conn.now) c.live_count.ensures.inside.stays clean in
     let same : mid.now ≡ old.now = c.in_ok-due.ensures.same early office in
     let counted = c.in_ok-holds.ensures.rows clean (office_still old.now mid.now same office) in
     told_before old.now mid.now same (λ t. AreReleasedOnDays t a.number a.collection.now a.class.now) counted.1
+
+pub returns-in_err-holds-clause-inside : goal.returns-in_err-holds-clause-inside
+returns-in_err-holds-clause-inside g c = record {
+  same_reference = search rules;
+  stays = stays_then (state g.S.Store c.args.tx.now.conn.now) (state g.S.Store c.due_day.new.tx.conn.now) (state g.S.Store c.live_count.new.tx.conn.now) c.due_day.ensures.inside.stays c.in_ok-due.ensures.inside.goes_on c.live_count.ensures.inside.stays;
+  goes_on = search rules;
+  failure = search rules;
+}
+
+pub returns-clause-inside : goal.returns-clause-inside
+returns-clause-inside g c = record {
+  same_reference = search rules;
+  stays = stays_then (state g.S.Store c.args.tx.now.conn.now) (state g.S.Store c.due_day.new.tx.conn.now) (state g.S.Store c.live_count.new.tx.conn.now) c.due_day.ensures.inside.stays c.in_ok-due.ensures.inside.goes_on c.live_count.ensures.inside.stays;
+  goes_on = goes_twice (state g.S.Store c.args.tx.now.conn.now) (state g.S.Store c.due_day.new.tx.conn.now) (state g.S.Store c.live_count.new.tx.conn.now) c.live_count.ensures.inside.stays c.in_ok-due.ensures.inside.goes_on c.in_ok-holds.ensures.inside.goes_on;
+  failure = search rules;
+}

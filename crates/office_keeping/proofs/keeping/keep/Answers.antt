@@ -18,8 +18,8 @@ returns-clause-kept g c clean h legal pictured next =
     let old = state g.S.Store c.beside_row.new.tx.conn.now in
     let mid = state g.S.Store c.put_row.new.tx.conn.now in
     let new = state g.S.Store c.add_files.new.tx.conn.now in
-    let clean2 : HasCleanDisk mid = clean_before mid new c.add_files.ensures.stays clean in
-    let clean1 : HasCleanDisk old = clean_before old mid c.put_row.ensures.stays clean2 in
+    let clean2 : HasCleanDisk mid = clean_before mid new c.add_files.ensures.inside.stays clean in
+    let clean1 : HasCleanDisk old = clean_before old mid c.put_row.ensures.inside.stays clean2 in
     let d : Deposit = record { collection = a.collection.now; class = a.class.now; accession = a.accession.now; closed = a.closed; bag = a.bag.now } in
     let beside = c.in_ok-beside.beside in
     let due = c.in_ok-beside.ensures.due clean1 h legal pictured in
@@ -31,46 +31,62 @@ returns-clause-kept g c clean h legal pictured next =
     (subst (λ fs. OnOk c.add_files.result (Becomes new.now (with_files (pos a.number) fs (tables_of mid.now)))) c.files.ensures.whole (c.add_files.ensures.becomes clean added.office))
     (c.add_files.ensures.once clean added.office (c.in_ok-put_row.ensures.once clean2 still.office still.once))
 
-pub returns-in_err-row_count-clause-stays : goal.returns-in_err-row_count-clause-stays
-returns-in_err-row_count-clause-stays g c = c.beside_row.ensures.stays
-
-pub returns-in_err-row_count-2-clause-stays : goal.returns-in_err-row_count-2-clause-stays
-returns-in_err-row_count-2-clause-stays g c = c.beside_row.ensures.stays
-
-pub returns-in_err-put_row-clause-stays : goal.returns-in_err-put_row-clause-stays
-returns-in_err-put_row-clause-stays g c =
-    stays_then (state g.S.Store c.args.tx.now.conn.now) (state g.S.Store c.beside_row.new.tx.conn.now) (state g.S.Store c.put_row.new.tx.conn.now) c.beside_row.ensures.stays c.in_ok-beside.ensures.goes_on c.put_row.ensures.stays
-
-pub returns-clause-stays : goal.returns-clause-stays
-returns-clause-stays g c =
-    let s0 = state g.S.Store c.args.tx.now.conn.now in
-    let s1 = state g.S.Store c.beside_row.new.tx.conn.now in
-    let s2 = state g.S.Store c.put_row.new.tx.conn.now in
-    stays_thrice s0 s1 s2 (state g.S.Store c.add_files.new.tx.conn.now) c.beside_row.ensures.stays c.in_ok-beside.ensures.goes_on c.put_row.ensures.stays c.in_ok-put_row.ensures.goes_on c.add_files.ensures.stays
-
-pub returns-clause-goes_on : goal.returns-clause-goes_on
-returns-clause-goes_on g c clean =
-    let s0 = state g.S.Store c.args.tx.now.conn.now in
-    let s1 = state g.S.Store c.beside_row.new.tx.conn.now in
-    let s2 = state g.S.Store c.put_row.new.tx.conn.now in
-    let s3 = state g.S.Store c.add_files.new.tx.conn.now in
-    let early : HasCleanDisk s2 = clean_before s2 s3 c.add_files.ensures.stays clean in
-    let before : GoesOn s0 s2 = goes_twice s0 s1 s2 c.put_row.ensures.stays c.in_ok-beside.ensures.goes_on c.in_ok-put_row.ensures.goes_on early in
-    on_ok_weaker c.add_files.result (goes_still s0 s2 s3 before) (c.add_files.ensures.goes_on clean)
-
 pub returns-clause-rows : goal.returns-clause-rows
 returns-clause-rows g c clean office =
     let first = state g.S.Store c.beside_row.new.tx.conn.now in
     let mid = state g.S.Store c.put_row.new.tx.conn.now in
     let new = state g.S.Store c.add_files.new.tx.conn.now in
-    let early : HasCleanDisk first = clean_before first mid c.put_row.ensures.stays (clean_before mid new c.add_files.ensures.stays clean) in
+    let early : HasCleanDisk first = clean_before first mid c.put_row.ensures.inside.stays (clean_before mid new c.add_files.ensures.inside.stays clean) in
     let beside = c.in_ok-beside.ensures.rows early office in
-    on_ok_weaker c.add_files.result (λ _. (beside.0, beside.1)) (c.add_files.ensures.goes_on clean)
+    on_ok_weaker c.add_files.result (λ _. (beside.0, beside.1)) (c.add_files.ensures.inside.goes_on clean)
 
 pub returns-clause-released : goal.returns-clause-released
 returns-clause-released g c clean office =
     let first = state g.S.Store c.beside_row.new.tx.conn.now in
     let mid = state g.S.Store c.put_row.new.tx.conn.now in
     let new = state g.S.Store c.add_files.new.tx.conn.now in
-    let early : HasCleanDisk first = clean_before first mid c.put_row.ensures.stays (clean_before mid new c.add_files.ensures.stays clean) in
-    on_ok_weaker c.add_files.result (λ _. c.in_ok-beside.ensures.released early office) (c.add_files.ensures.goes_on clean)
+    let early : HasCleanDisk first = clean_before first mid c.put_row.ensures.inside.stays (clean_before mid new c.add_files.ensures.inside.stays clean) in
+    on_ok_weaker c.add_files.result (λ _. c.in_ok-beside.ensures.released early office) (c.add_files.ensures.inside.goes_on clean)
+
+pub returns-in_err-row_count-clause-inside : goal.returns-in_err-row_count-clause-inside
+returns-in_err-row_count-clause-inside g c = record {
+  same_reference = search rules;
+  stays = c.beside_row.ensures.inside.stays;
+  goes_on = search rules;
+  failure = search rules;
+}
+
+pub returns-in_err-row_count-2-clause-inside : goal.returns-in_err-row_count-2-clause-inside
+returns-in_err-row_count-2-clause-inside g c = record {
+  same_reference = search rules;
+  stays = c.beside_row.ensures.inside.stays;
+  goes_on = search rules;
+  failure = search rules;
+}
+
+pub returns-in_err-put_row-clause-inside : goal.returns-in_err-put_row-clause-inside
+returns-in_err-put_row-clause-inside g c = record {
+  same_reference = search rules;
+  stays = stays_then (state g.S.Store c.args.tx.now.conn.now) (state g.S.Store c.beside_row.new.tx.conn.now) (state g.S.Store c.put_row.new.tx.conn.now) c.beside_row.ensures.inside.stays c.in_ok-beside.ensures.inside.goes_on c.put_row.ensures.inside.stays;
+  goes_on = search rules;
+  failure = search rules;
+}
+
+pub returns-clause-inside : goal.returns-clause-inside
+returns-clause-inside g c = record {
+  same_reference = search rules;
+  stays = (
+      let s0 = state g.S.Store c.args.tx.now.conn.now in
+      let s1 = state g.S.Store c.beside_row.new.tx.conn.now in
+      let s2 = state g.S.Store c.put_row.new.tx.conn.now in
+      stays_thrice s0 s1 s2 (state g.S.Store c.add_files.new.tx.conn.now) c.beside_row.ensures.inside.stays c.in_ok-beside.ensures.inside.goes_on c.put_row.ensures.inside.stays c.in_ok-put_row.ensures.inside.goes_on c.add_files.ensures.inside.stays);
+  goes_on = λ clean. (
+      let s0 = state g.S.Store c.args.tx.now.conn.now in
+      let s1 = state g.S.Store c.beside_row.new.tx.conn.now in
+      let s2 = state g.S.Store c.put_row.new.tx.conn.now in
+      let s3 = state g.S.Store c.add_files.new.tx.conn.now in
+      let early : HasCleanDisk s2 = clean_before s2 s3 c.add_files.ensures.inside.stays clean in
+      let before : GoesOn s0 s2 = goes_twice s0 s1 s2 c.put_row.ensures.inside.stays c.in_ok-beside.ensures.inside.goes_on c.in_ok-put_row.ensures.inside.goes_on early in
+      on_ok_weaker c.add_files.result (goes_still s0 s2 s3 before) (c.add_files.ensures.inside.goes_on clean));
+  failure = search rules;
+}

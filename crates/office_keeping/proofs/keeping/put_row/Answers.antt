@@ -17,8 +17,8 @@ returns-clause-becomes g c clean office =
     let first = state g.S.Store c.put_deposit.new.tx.conn.now in
     let second = state g.S.Store c.set_due.new.tx.conn.now in
     let new = state g.S.Store c.set_holds.new.tx.conn.now in
-    let clean2 : HasCleanDisk second = clean_before second new c.set_holds.ensures.stays clean in
-    let clean1 : HasCleanDisk first = clean_before first second c.set_due.ensures.stays clean2 in
+    let clean2 : HasCleanDisk second = clean_before second new c.set_holds.ensures.inside.stays clean in
+    let clean1 : HasCleanDisk first = clean_before first second c.set_due.ensures.inside.stays clean2 in
     let put = c.in_ok-put_deposit.ensures.becomes clean1 office in
     let due = c.in_ok-set_due.ensures.becomes clean2 put.office in
     let fits : SFits w64 a.beside.holds = search rules in
@@ -30,27 +30,33 @@ returns-clause-once g c clean office kept =
     let first = state g.S.Store c.put_deposit.new.tx.conn.now in
     let second = state g.S.Store c.set_due.new.tx.conn.now in
     let new = state g.S.Store c.set_holds.new.tx.conn.now in
-    let clean2 : HasCleanDisk second = clean_before second new c.set_holds.ensures.stays clean in
-    let clean1 : HasCleanDisk first = clean_before first second c.set_due.ensures.stays clean2 in
+    let clean2 : HasCleanDisk second = clean_before second new c.set_holds.ensures.inside.stays clean in
+    let clean1 : HasCleanDisk first = clean_before first second c.set_due.ensures.inside.stays clean2 in
     let put = c.in_ok-put_deposit.ensures.becomes clean1 office in
     let due = c.in_ok-set_due.ensures.becomes clean2 put.office in
     c.set_holds.ensures.once clean due.office (c.in_ok-set_due.ensures.once clean2 put.office (c.in_ok-put_deposit.ensures.once clean1 office kept))
 
-pub returns-in_err-set_due-clause-stays : goal.returns-in_err-set_due-clause-stays
-returns-in_err-set_due-clause-stays g c =
-    stays_then (state g.S.Store c.args.tx.now.conn.now) (state g.S.Store c.put_deposit.new.tx.conn.now) (state g.S.Store c.set_due.new.tx.conn.now) c.put_deposit.ensures.stays c.in_ok-put_deposit.ensures.goes_on c.set_due.ensures.stays
+pub returns-in_err-set_due-clause-inside : goal.returns-in_err-set_due-clause-inside
+returns-in_err-set_due-clause-inside g c = record {
+  same_reference = search rules;
+  stays = stays_then (state g.S.Store c.args.tx.now.conn.now) (state g.S.Store c.put_deposit.new.tx.conn.now) (state g.S.Store c.set_due.new.tx.conn.now) c.put_deposit.ensures.inside.stays c.in_ok-put_deposit.ensures.inside.goes_on c.set_due.ensures.inside.stays;
+  goes_on = search rules;
+  failure = search rules;
+}
 
-pub returns-clause-stays : goal.returns-clause-stays
-returns-clause-stays g c =
-    let s0 = state g.S.Store c.args.tx.now.conn.now in
-    let s1 = state g.S.Store c.put_deposit.new.tx.conn.now in
-    let s2 = state g.S.Store c.set_due.new.tx.conn.now in
-    stays_thrice s0 s1 s2 (state g.S.Store c.set_holds.new.tx.conn.now) c.put_deposit.ensures.stays c.in_ok-put_deposit.ensures.goes_on c.set_due.ensures.stays c.in_ok-set_due.ensures.goes_on c.set_holds.ensures.stays
-
-pub returns-clause-goes_on : goal.returns-clause-goes_on
-returns-clause-goes_on g c =
-    let s0 = state g.S.Store c.args.tx.now.conn.now in
-    let s1 = state g.S.Store c.put_deposit.new.tx.conn.now in
-    let s2 = state g.S.Store c.set_due.new.tx.conn.now in
-    let s3 = state g.S.Store c.set_holds.new.tx.conn.now in
-    on_after s0 s2 s3 c.set_holds.ensures.stays c.set_holds.result (goes_then s0 s2 s3) (goes_twice s0 s1 s2 c.set_due.ensures.stays c.in_ok-put_deposit.ensures.goes_on c.in_ok-set_due.ensures.goes_on) c.set_holds.ensures.goes_on
+pub returns-clause-inside : goal.returns-clause-inside
+returns-clause-inside g c = record {
+  same_reference = search rules;
+  stays = (
+      let s0 = state g.S.Store c.args.tx.now.conn.now in
+      let s1 = state g.S.Store c.put_deposit.new.tx.conn.now in
+      let s2 = state g.S.Store c.set_due.new.tx.conn.now in
+      stays_thrice s0 s1 s2 (state g.S.Store c.set_holds.new.tx.conn.now) c.put_deposit.ensures.inside.stays c.in_ok-put_deposit.ensures.inside.goes_on c.set_due.ensures.inside.stays c.in_ok-set_due.ensures.inside.goes_on c.set_holds.ensures.inside.stays);
+  goes_on = (
+      let s0 = state g.S.Store c.args.tx.now.conn.now in
+      let s1 = state g.S.Store c.put_deposit.new.tx.conn.now in
+      let s2 = state g.S.Store c.set_due.new.tx.conn.now in
+      let s3 = state g.S.Store c.set_holds.new.tx.conn.now in
+      on_after s0 s2 s3 c.set_holds.ensures.inside.stays c.set_holds.result (goes_then s0 s2 s3) (goes_twice s0 s1 s2 c.set_due.ensures.inside.stays c.in_ok-put_deposit.ensures.inside.goes_on c.in_ok-set_due.ensures.inside.goes_on) c.set_holds.ensures.inside.goes_on);
+  failure = search rules;
+}

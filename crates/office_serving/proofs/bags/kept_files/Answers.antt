@@ -13,7 +13,7 @@ returns-in-Ok-clause-asked g c clean h legal pictured =
     let a = c.args in
     let mid = state g.S.Store c.kept_deposit.new.tx.conn.now in
     let new = state g.S.Store c.files_of.new.tx.conn.now in
-    let asked = rw c.in-Ok.is at c.in_ok-kept_deposit.ensures.asked (clean_before mid new c.files_of.ensures.stays clean) h legal pictured in
+    let asked = rw c.in-Ok.is at c.in_ok-kept_deposit.ensures.asked (clean_before mid new c.files_of.ensures.inside.stays clean) h legal pictured in
     let it = asked.1 in
     let read = c.in_ok-files_of-in-Ok.ensures in
     let bag = (c.sound_bags.ensures h legal a.number it.found it.there).bag in (
@@ -33,12 +33,12 @@ pub returns-in-Ok-clause-stored : goal.returns-in-Ok-clause-stored
 returns-in-Ok-clause-stored g c clean office =
     let mid = state g.S.Store c.kept_deposit.new.tx.conn.now in
     let new = state g.S.Store c.files_of.new.tx.conn.now in
-    let same = c.in_ok-kept_deposit.ensures.same (clean_before mid new c.files_of.ensures.stays clean) office in
+    let same = c.in_ok-kept_deposit.ensures.same (clean_before mid new c.files_of.ensures.inside.stays clean) office in
     c.in_ok-files_of-in-Ok.ensures.found clean (subst IsOffice (sym same) office) ∙ ap (λ db. files_by_path (pos c.args.number) (tables_of db)) same
 
 pub returns-in-Ok-clause-rows : goal.returns-in-Ok-clause-rows
 returns-in-Ok-clause-rows g c clean office =
-    let early = clean_before (state g.S.Store c.kept_deposit.new.tx.conn.now) (state g.S.Store c.files_of.new.tx.conn.now) c.files_of.ensures.stays clean in
+    let early = clean_before (state g.S.Store c.kept_deposit.new.tx.conn.now) (state g.S.Store c.files_of.new.tx.conn.now) c.files_of.ensures.inside.stays clean in
     (_, rw c.in-Ok.is at c.in_ok-kept_deposit.ensures.rows early office)
 
 pub returns-clause-rows : goal.returns-clause-rows
@@ -46,4 +46,4 @@ returns-clause-rows g c clean office = rw c.in-Err.is at c.in_ok-kept_deposit.en
 
 pub returns-in-Ok-clause-same : goal.returns-in-Ok-clause-same
 returns-in-Ok-clause-same g c =
-    same_twice (state g.S.Store c.args.tx.now.conn.now) (state g.S.Store c.kept_deposit.new.tx.conn.now) (state g.S.Store c.files_of.new.tx.conn.now) c.files_of.ensures.stays c.in_ok-kept_deposit.ensures.same c.in_ok-files_of-in-Ok.ensures.same
+    same_twice (state g.S.Store c.args.tx.now.conn.now) (state g.S.Store c.kept_deposit.new.tx.conn.now) (state g.S.Store c.files_of.new.tx.conn.now) c.files_of.ensures.inside.stays c.in_ok-kept_deposit.ensures.same c.in_ok-files_of-in-Ok.ensures.same

@@ -31,11 +31,11 @@ loop-place-preserved g c =
     let number : pos c.place.inside.number ≡ item.number = search rules in
     let collection : c.deref.result.now ≡ item.collection = search rules in
     let class : c.deref-in-loop-place.result.now ≡ item.class = search rules in
-    let early = λ (clean : HasCleanDisk new). let e : HasCleanDisk now = clean_before now new c.allows.ensures.stays clean in e in
+    let early = λ (clean : HasCleanDisk new). let e : HasCleanDisk now = clean_before now new c.allows.ensures.inside.stays clean in e in
     record {
       same_reference = search rules;
-      stays = stays_on old now new inv.stays inv.goes_on c.allows.ensures.stays;
-      goes_on = λ clean. stands_on old now new (inv.goes_on (early clean)) (c.in_ok-allowed.ensures.goes_on clean);
+      stays = stays_on old now new inv.stays inv.goes_on c.allows.ensures.inside.stays;
+      goes_on = λ clean. stands_on old now new (inv.goes_on (early clean)) (c.in_ok-allowed.ensures.inside.goes_on clean);
       told = λ clean h legal pictured.
           let there = inv.told (early clean) h legal pictured in
           let found = c.in_ok-allowed.ensures.allowed clean h legal there.0 in (

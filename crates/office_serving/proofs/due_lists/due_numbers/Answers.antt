@@ -24,8 +24,8 @@ returns-clause-due g c clean h legal pictured =
     let s1 = state g.S.Store c.read.new.tx.conn.now in
     let s2 = state g.S.Store c.due_rows.new.tx.conn.now in
     let s3 = state g.S.Store c.allowed_among.new.tx.conn.now in
-    let clean2 : HasCleanDisk s2 = clean_before s2 s3 c.allowed_among.ensures.stays clean in
-    let clean1 : HasCleanDisk s1 = clean_before s1 s2 c.due_rows.ensures.stays clean2 in
+    let clean2 : HasCleanDisk s2 = clean_before s2 s3 c.allowed_among.ensures.inside.stays clean in
+    let clean1 : HasCleanDisk s1 = clean_before s1 s2 c.due_rows.ensures.inside.stays clean2 in
     let asked = c.in_ok-asker.ensures.asker clean1 h legal pictured in
     let still = pictured_still h s1.now asked.0 s2.now (c.in_ok-places.ensures.same clean2 asked.0.office) in
     let small : SFits w32 c.number.result = search rules in
@@ -46,8 +46,8 @@ returns-clause-rows g c clean office =
     let s1 = state g.S.Store c.read.new.tx.conn.now in
     let s2 = state g.S.Store c.due_rows.new.tx.conn.now in
     let s3 = state g.S.Store c.allowed_among.new.tx.conn.now in
-    let clean2 : HasCleanDisk s2 = clean_before s2 s3 c.allowed_among.ensures.stays clean in
-    let clean1 : HasCleanDisk s1 = clean_before s1 s2 c.due_rows.ensures.stays clean2 in
+    let clean2 : HasCleanDisk s2 = clean_before s2 s3 c.allowed_among.ensures.inside.stays clean in
+    let clean1 : HasCleanDisk s1 = clean_before s1 s2 c.due_rows.ensures.inside.stays clean2 in
     let first = c.in_ok-asker.ensures.same clean1 office in
     let still = office_still s0.now s1.now first office in
     let same : s2.now ≡ s0.now = c.in_ok-places.ensures.same clean2 still ∙ first in
@@ -66,20 +66,26 @@ returns-clause-same g c clean office =
     let s0 = state g.S.Store c.args.tx.now.conn.now in
     let s1 = state g.S.Store c.read.new.tx.conn.now in
     let s2 = state g.S.Store c.due_rows.new.tx.conn.now in
-    let same = same_twice s0 s1 s2 c.due_rows.ensures.stays c.in_ok-asker.ensures.same c.in_ok-places.ensures.same (clean_before s2 (state g.S.Store c.allowed_among.new.tx.conn.now) c.allowed_among.ensures.stays clean) office in
+    let same = same_twice s0 s1 s2 c.due_rows.ensures.inside.stays c.in_ok-asker.ensures.same c.in_ok-places.ensures.same (clean_before s2 (state g.S.Store c.allowed_among.new.tx.conn.now) c.allowed_among.ensures.inside.stays clean) office in
     on_ok_weaker c.allowed_among.result (λ still. still ∙ same) (c.allowed_among.ensures.same clean (office_still s0.now s2.now same office))
 
-pub returns-in_err-places-clause-stays : goal.returns-in_err-places-clause-stays
-returns-in_err-places-clause-stays g c = stays_then (state g.S.Store c.args.tx.now.conn.now) (state g.S.Store c.read.new.tx.conn.now) (state g.S.Store c.due_rows.new.tx.conn.now) c.read.ensures.stays c.in_ok-asker.ensures.goes_on c.due_rows.ensures.stays
+pub returns-in_err-places-clause-inside : goal.returns-in_err-places-clause-inside
+returns-in_err-places-clause-inside g c = record {
+  same_reference = search rules;
+  stays = stays_then (state g.S.Store c.args.tx.now.conn.now) (state g.S.Store c.read.new.tx.conn.now) (state g.S.Store c.due_rows.new.tx.conn.now) c.read.ensures.inside.stays c.in_ok-asker.ensures.inside.goes_on c.due_rows.ensures.inside.stays;
+  goes_on = search rules;
+  failure = search rules;
+}
 
-pub returns-clause-stays : goal.returns-clause-stays
-returns-clause-stays g c =
-    stays_thrice (state g.S.Store c.args.tx.now.conn.now) (state g.S.Store c.read.new.tx.conn.now) (state g.S.Store c.due_rows.new.tx.conn.now) (state g.S.Store c.allowed_among.new.tx.conn.now) c.read.ensures.stays c.in_ok-asker.ensures.goes_on c.due_rows.ensures.stays c.in_ok-places.ensures.goes_on c.allowed_among.ensures.stays
-
-pub returns-clause-goes_on : goal.returns-clause-goes_on
-returns-clause-goes_on g c =
-    let s0 = state g.S.Store c.args.tx.now.conn.now in
-    let s1 = state g.S.Store c.read.new.tx.conn.now in
-    let s2 = state g.S.Store c.due_rows.new.tx.conn.now in
-    let s3 = state g.S.Store c.allowed_among.new.tx.conn.now in
-    on_after s0 s2 s3 c.allowed_among.ensures.stays c.allowed_among.result (goes_still s0 s2 s3) (goes_twice s0 s1 s2 c.due_rows.ensures.stays c.in_ok-asker.ensures.goes_on c.in_ok-places.ensures.goes_on) c.allowed_among.ensures.goes_on
+pub returns-clause-inside : goal.returns-clause-inside
+returns-clause-inside g c = record {
+  same_reference = search rules;
+  stays = stays_thrice (state g.S.Store c.args.tx.now.conn.now) (state g.S.Store c.read.new.tx.conn.now) (state g.S.Store c.due_rows.new.tx.conn.now) (state g.S.Store c.allowed_among.new.tx.conn.now) c.read.ensures.inside.stays c.in_ok-asker.ensures.inside.goes_on c.due_rows.ensures.inside.stays c.in_ok-places.ensures.inside.goes_on c.allowed_among.ensures.inside.stays;
+  goes_on = (
+      let s0 = state g.S.Store c.args.tx.now.conn.now in
+      let s1 = state g.S.Store c.read.new.tx.conn.now in
+      let s2 = state g.S.Store c.due_rows.new.tx.conn.now in
+      let s3 = state g.S.Store c.allowed_among.new.tx.conn.now in
+      on_after s0 s2 s3 c.allowed_among.ensures.inside.stays c.allowed_among.result (goes_still s0 s2 s3) (goes_twice s0 s1 s2 c.due_rows.ensures.inside.stays c.in_ok-asker.ensures.inside.goes_on c.in_ok-places.ensures.inside.goes_on) c.allowed_among.ensures.inside.goes_on);
+  failure = search rules;
+}

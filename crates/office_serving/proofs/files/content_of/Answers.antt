@@ -1,4 +1,4 @@
-use Rattle.std.proofs.Common.{Result, Ok, Err, List, ℕ, Bool, Option, None, OnOk, IfOk, ap, sym, ◌∙◌, pos, option_copied, option_map, if◌then◌else◌}
+use Rattle.std.proofs.Common.{Result, Ok, Err, List, ℕ, Bool, Option, None, OnOk, IfOk, ap, sym, ◌∙◌, pos, option_copied, option_map, if◌then◌else◌, rules}
 use Rattle.std.proofs.lemmas.Result.{IfOk-weaker, on_ok_weaker}
 use Rattle.sqlite.specs.Held.{state}
 use Rattle.sql_meaning.proofs.Inside.{stands_then}
@@ -36,14 +36,6 @@ returns-in-None-clause-content g c clean h legal pictured =
     let bad = unspelled (is_good a.path.now) a.path.now (ap option_copied (sym c.in-None.is) ∙ c.bag_path.ensures) in
     (pictured, λ found there kept. no_file_there found.1.bag (c.sound_bags.ensures h legal a.number found there).bag.each a.path.now bad)
 
-pub returns-in-Some-clause-goes_on : goal.returns-in-Some-clause-goes_on
-returns-in-Some-clause-goes_on g c clean =
-    let old = state g.S.Store c.args.tx.now.conn.now in
-    on_ok_weaker c.file_of.result (stands_then old old (state g.S.Store c.file_of.new.tx.conn.now) (stands_still old)) (c.file_of.ensures.goes_on clean)
-
-pub returns-in-None-clause-stays : goal.returns-in-None-clause-stays
-returns-in-None-clause-stays g c = stays_still (state g.S.Store c.args.tx.now.conn.now)
-
 pub returns-in-Some-clause-rows : goal.returns-in-Some-clause-rows
 returns-in-Some-clause-rows g c clean office =
     let a = c.args in
@@ -61,3 +53,21 @@ returns-in-None-clause-rows g c clean office =
     let files = (tables_of (state g.S.Store a.tx.now.conn.now).now).files in
     let bad = unspelled (is_good a.path.now) a.path.now (ap option_copied (sym c.in-None.is) ∙ c.bag_path.ensures) in
     ap (λ (b : Bool). if b then option_map (λ (f : FileRow). f.content) (file_at (pos a.number) a.path.now files) else None) (sym bad)
+
+pub returns-in-Some-clause-inside : goal.returns-in-Some-clause-inside
+returns-in-Some-clause-inside g c = record {
+  same_reference = search rules;
+  stays = search rules;
+  goes_on = λ clean. (
+      let old = state g.S.Store c.args.tx.now.conn.now in
+      on_ok_weaker c.file_of.result (stands_then old old (state g.S.Store c.file_of.new.tx.conn.now) (stands_still old)) (c.file_of.ensures.inside.goes_on clean));
+  failure = search rules;
+}
+
+pub returns-in-None-clause-inside : goal.returns-in-None-clause-inside
+returns-in-None-clause-inside g c = record {
+  same_reference = search rules;
+  stays = stays_still (state g.S.Store c.args.tx.now.conn.now);
+  goes_on = search rules;
+  failure = search rules;
+}

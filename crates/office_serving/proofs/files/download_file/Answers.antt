@@ -14,7 +14,7 @@ returns-in-Ok-clause-decides g c clean h legal pictured =
     let a = c.args in
     let mid = state g.S.Store c.kept_deposit.new.tx.conn.now in
     let new = state g.S.Store c.content_of.new.tx.conn.now in
-    let asked = rw c.in-Ok.is at c.in_ok-kept_deposit.ensures.asked (clean_before mid new c.content_of.ensures.stays clean) h legal pictured in
+    let asked = rw c.in-Ok.is at c.in_ok-kept_deposit.ensures.asked (clean_before mid new c.content_of.ensures.inside.stays clean) h legal pictured in
     let it = asked.1 in
     let read = c.in_ok-content_of-in-Ok.ensures.content clean h legal asked.0 in
     rw c.file_answer.ensures (file_told h a.day a.caller.now a.number a.path new.now _ it _ (read.1 it.found it.there (is_kept a.day a.caller.now acts.Download it)) read.0)
@@ -29,7 +29,7 @@ returns-in-Ok-clause-rows g c clean office =
     let a = c.args in
     let old = state g.S.Store a.tx.now.conn.now in
     let mid = state g.S.Store c.kept_deposit.new.tx.conn.now in
-    let early = clean_before mid (state g.S.Store c.content_of.new.tx.conn.now) c.content_of.ensures.stays clean in
+    let early = clean_before mid (state g.S.Store c.content_of.new.tx.conn.now) c.content_of.ensures.inside.stays clean in
     let same = c.in_ok-kept_deposit.ensures.same early office in
     let read = c.in_ok-content_of-in-Ok.ensures.rows clean (office_still old.now mid.now same office) in
     record {
@@ -43,4 +43,4 @@ returns-clause-rows g c clean office = record { asked = Err _; is_asked = rw c.i
 
 pub returns-in-Ok-clause-same : goal.returns-in-Ok-clause-same
 returns-in-Ok-clause-same g c =
-    same_twice (state g.S.Store c.args.tx.now.conn.now) (state g.S.Store c.kept_deposit.new.tx.conn.now) (state g.S.Store c.content_of.new.tx.conn.now) c.content_of.ensures.stays c.in_ok-kept_deposit.ensures.same c.in_ok-content_of-in-Ok.ensures.same
+    same_twice (state g.S.Store c.args.tx.now.conn.now) (state g.S.Store c.kept_deposit.new.tx.conn.now) (state g.S.Store c.content_of.new.tx.conn.now) c.content_of.ensures.inside.stays c.in_ok-kept_deposit.ensures.same c.in_ok-content_of-in-Ok.ensures.same

@@ -18,7 +18,7 @@ returns-in_ok-told_holds-in-Ok-clause-decides g c clean h legal pictured =
     let a = c.args in
     let mid = state g.S.Store c.kept_deposit.new.tx.conn.now in
     let new = state g.S.Store c.told_holds.new.tx.conn.now in
-    let asked = rw c.in-Ok.is at c.in_ok-row.ensures.asked (clean_before mid new c.told_holds.ensures.stays clean) h legal pictured in
+    let asked = rw c.in-Ok.is at c.in_ok-row.ensures.asked (clean_before mid new c.told_holds.ensures.inside.stays clean) h legal pictured in
     let it = asked.1 in
     let told = c.in_ok-told_holds-in-Ok.ensures.told clean h legal asked.0 in
     let collection : c.deref.result.now ≡ c.in-Ok.row.collection = search rules in
@@ -32,21 +32,12 @@ returns-in-Err-clause-decides g c clean h legal pictured =
     let asked = rw c.in-Err.is at c.in_ok-row.ensures.asked clean h legal pictured in
     refused_serves _ _ _ _ _ _ asked.1 asked.0
 
-pub returns-in_err-told_holds-in-Ok-clause-stays : goal.returns-in_err-told_holds-in-Ok-clause-stays
-returns-in_err-told_holds-in-Ok-clause-stays g c = stays_then (state g.S.Store c.args.tx.now.conn.now) (state g.S.Store c.kept_deposit.new.tx.conn.now) (state g.S.Store c.told_holds.new.tx.conn.now) c.kept_deposit.ensures.stays c.in_ok-row.ensures.goes_on c.told_holds.ensures.stays
-
-pub returns-in_ok-told_holds-in-Ok-clause-stays : goal.returns-in_ok-told_holds-in-Ok-clause-stays
-returns-in_ok-told_holds-in-Ok-clause-stays g c = stays_then (state g.S.Store c.args.tx.now.conn.now) (state g.S.Store c.kept_deposit.new.tx.conn.now) (state g.S.Store c.told_holds.new.tx.conn.now) c.kept_deposit.ensures.stays c.in_ok-row.ensures.goes_on c.told_holds.ensures.stays
-
-pub returns-in_ok-told_holds-in-Ok-clause-goes_on : goal.returns-in_ok-told_holds-in-Ok-clause-goes_on
-returns-in_ok-told_holds-in-Ok-clause-goes_on g c = goes_twice (state g.S.Store c.args.tx.now.conn.now) (state g.S.Store c.kept_deposit.new.tx.conn.now) (state g.S.Store c.told_holds.new.tx.conn.now) c.told_holds.ensures.stays c.in_ok-row.ensures.goes_on c.in_ok-told_holds-in-Ok.ensures.goes_on
-
 pub returns-in_ok-told_holds-in-Ok-clause-rows : goal.returns-in_ok-told_holds-in-Ok-clause-rows
 returns-in_ok-told_holds-in-Ok-clause-rows g c clean office =
     let a = c.args in
     let old = state g.S.Store a.tx.now.conn.now in
     let mid = state g.S.Store c.kept_deposit.new.tx.conn.now in
-    let early = clean_before mid (state g.S.Store c.told_holds.new.tx.conn.now) c.told_holds.ensures.stays clean in
+    let early = clean_before mid (state g.S.Store c.told_holds.new.tx.conn.now) c.told_holds.ensures.inside.stays clean in
     let same = c.in_ok-row.ensures.same early office in
     let row = c.in-Ok.row in
     let told = c.in_ok-told_holds-in-Ok.field-0.items in
@@ -69,4 +60,20 @@ returns-in-Err-clause-rows g c clean office = record { asked = Err _; is_asked =
 
 pub returns-in_ok-told_holds-in-Ok-clause-same : goal.returns-in_ok-told_holds-in-Ok-clause-same
 returns-in_ok-told_holds-in-Ok-clause-same g c =
-    same_twice (state g.S.Store c.args.tx.now.conn.now) (state g.S.Store c.kept_deposit.new.tx.conn.now) (state g.S.Store c.told_holds.new.tx.conn.now) c.told_holds.ensures.stays c.in_ok-row.ensures.same c.in_ok-told_holds-in-Ok.ensures.same
+    same_twice (state g.S.Store c.args.tx.now.conn.now) (state g.S.Store c.kept_deposit.new.tx.conn.now) (state g.S.Store c.told_holds.new.tx.conn.now) c.told_holds.ensures.inside.stays c.in_ok-row.ensures.same c.in_ok-told_holds-in-Ok.ensures.same
+
+pub returns-in_err-told_holds-in-Ok-clause-inside : goal.returns-in_err-told_holds-in-Ok-clause-inside
+returns-in_err-told_holds-in-Ok-clause-inside g c = record {
+  same_reference = search rules;
+  stays = stays_then (state g.S.Store c.args.tx.now.conn.now) (state g.S.Store c.kept_deposit.new.tx.conn.now) (state g.S.Store c.told_holds.new.tx.conn.now) c.kept_deposit.ensures.inside.stays c.in_ok-row.ensures.inside.goes_on c.told_holds.ensures.inside.stays;
+  goes_on = search rules;
+  failure = search rules;
+}
+
+pub returns-in_ok-told_holds-in-Ok-clause-inside : goal.returns-in_ok-told_holds-in-Ok-clause-inside
+returns-in_ok-told_holds-in-Ok-clause-inside g c = record {
+  same_reference = search rules;
+  stays = stays_then (state g.S.Store c.args.tx.now.conn.now) (state g.S.Store c.kept_deposit.new.tx.conn.now) (state g.S.Store c.told_holds.new.tx.conn.now) c.kept_deposit.ensures.inside.stays c.in_ok-row.ensures.inside.goes_on c.told_holds.ensures.inside.stays;
+  goes_on = goes_twice (state g.S.Store c.args.tx.now.conn.now) (state g.S.Store c.kept_deposit.new.tx.conn.now) (state g.S.Store c.told_holds.new.tx.conn.now) c.told_holds.ensures.inside.stays c.in_ok-row.ensures.inside.goes_on c.in_ok-told_holds-in-Ok.ensures.inside.goes_on;
+  failure = search rules;
+}

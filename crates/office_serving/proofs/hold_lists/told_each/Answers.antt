@@ -18,11 +18,11 @@ loop-number-preserved g c =
     let now = state g.S.Store c.loop-number.tx.conn.now in
     let new = state g.S.Store c.told_hold.new.tx.conn.now in
     let inv = c.loop-number.invariant in
-    let early = λ (clean : HasCleanDisk new). let e : HasCleanDisk now = clean_before now new c.told_hold.ensures.stays clean in e in
+    let early = λ (clean : HasCleanDisk new). let e : HasCleanDisk now = clean_before now new c.told_hold.ensures.inside.stays clean in e in
     record {
       same_reference = search rules;
-      stays = stays_on old now new inv.stays inv.goes_on c.told_hold.ensures.stays;
-      goes_on = λ clean. stands_then old now new (inv.goes_on (early clean)) (c.in_ok-told_hold.ensures.goes_on clean);
+      stays = stays_on old now new inv.stays inv.goes_on c.told_hold.ensures.inside.stays;
+      goes_on = λ clean. stands_then old now new (inv.goes_on (early clean)) (c.in_ok-told_hold.ensures.inside.goes_on clean);
       told = λ clean h legal pictured.
           let there = inv.told (early clean) h legal pictured in
           let found = c.in_ok-told_hold.ensures.told clean h legal there.0 in
@@ -37,12 +37,6 @@ loop-number-preserved g c =
           subst (AreHoldsOf (tables_of old.now) _) (sym c.in_ok-push.ensures.items) more;
     }
 
-pub returns-in_err-told_hold-clause-stays : goal.returns-in_err-told_hold-clause-stays
-returns-in_err-told_hold-clause-stays g c = stays_on (state g.S.Store c.args.tx.now.conn.now) (state g.S.Store c.loop-number.tx.conn.now) (state g.S.Store c.told_hold.new.tx.conn.now) c.loop-number.invariant.stays c.loop-number.invariant.goes_on c.told_hold.ensures.stays
-
-pub returns-in_err-push-clause-stays : goal.returns-in_err-push-clause-stays
-returns-in_err-push-clause-stays g c = stays_on (state g.S.Store c.args.tx.now.conn.now) (state g.S.Store c.loop-number.tx.conn.now) (state g.S.Store c.told_hold.new.tx.conn.now) c.loop-number.invariant.stays c.loop-number.invariant.goes_on c.told_hold.ensures.stays
-
 pub loop-number-init : goal.loop-number-init
 loop-number-init g c = record {
   same_reference = refl;
@@ -51,4 +45,20 @@ loop-number-init g c = record {
   told = λ clean h legal pictured. (pictured, c.new-told.ensures.items);
   same = λ _ _. refl;
   rows = λ clean office. subst (AreHoldsOf _ []) (sym c.new-told.ensures.items) (record { one_each = refl; each = tt });
+}
+
+pub returns-in_err-told_hold-clause-inside : goal.returns-in_err-told_hold-clause-inside
+returns-in_err-told_hold-clause-inside g c = record {
+  same_reference = search rules;
+  stays = stays_on (state g.S.Store c.args.tx.now.conn.now) (state g.S.Store c.loop-number.tx.conn.now) (state g.S.Store c.told_hold.new.tx.conn.now) c.loop-number.invariant.stays c.loop-number.invariant.goes_on c.told_hold.ensures.inside.stays;
+  goes_on = search rules;
+  failure = search rules;
+}
+
+pub returns-in_err-push-clause-inside : goal.returns-in_err-push-clause-inside
+returns-in_err-push-clause-inside g c = record {
+  same_reference = search rules;
+  stays = stays_on (state g.S.Store c.args.tx.now.conn.now) (state g.S.Store c.loop-number.tx.conn.now) (state g.S.Store c.told_hold.new.tx.conn.now) c.loop-number.invariant.stays c.loop-number.invariant.goes_on c.told_hold.ensures.inside.stays;
+  goes_on = search rules;
+  failure = search rules;
 }

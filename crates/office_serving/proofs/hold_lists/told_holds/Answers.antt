@@ -1,4 +1,4 @@
-use Rattle.std.proofs.Common.{ap, subst, ◌∙◌, map, pos}
+use Rattle.std.proofs.Common.{ap, subst, ◌∙◌, map, pos, rules}
 use Rattle.std.specs.List.{filter_map}
 use Rattle.std.proofs.lemmas.Result.{IfOk-weaker, on_ok_weaker}
 use Rattle.sqlite.specs.State.{HasCleanDisk}
@@ -15,7 +15,7 @@ use Rattle.office_serving.proofs.hold_lists.told_holds.Goals as goal
 pub returns-clause-told : goal.returns-clause-told
 returns-clause-told g c clean h legal pictured =
     let mid = state g.S.Store c.holds_over.new.tx.conn.now in
-    let early : HasCleanDisk mid = clean_before mid (state g.S.Store c.told_each.new.tx.conn.now) c.told_each.ensures.stays clean in
+    let early : HasCleanDisk mid = clean_before mid (state g.S.Store c.told_each.new.tx.conn.now) c.told_each.ensures.inside.stays clean in
     let live = c.in_ok-numbers.ensures.live early h legal pictured in
     IfOk-weaker c.told_each.result _ _ (λ told says. (
       says.0,
@@ -28,7 +28,7 @@ returns-clause-rows g c clean office =
     let a = c.args in
     let old = state g.S.Store a.tx.now.conn.now in
     let mid = state g.S.Store c.holds_over.new.tx.conn.now in
-    let early : HasCleanDisk mid = clean_before mid (state g.S.Store c.told_each.new.tx.conn.now) c.told_each.ensures.stays clean in
+    let early : HasCleanDisk mid = clean_before mid (state g.S.Store c.told_each.new.tx.conn.now) c.told_each.ensures.inside.stays clean in
     let same = c.in_ok-numbers.ensures.same early office in
     let over = c.in_ok-numbers.ensures.rows early office in
     let numbers = ap (map pos) c.deref.ensures.value ∙ over.0 in
@@ -38,19 +38,21 @@ returns-clause-rows g c clean office =
     })
     (c.told_each.ensures.rows clean (office_still old.now mid.now same office))
 
-pub returns-clause-stays : goal.returns-clause-stays
-returns-clause-stays g c = stays_then (state g.S.Store c.args.tx.now.conn.now) (state g.S.Store c.holds_over.new.tx.conn.now) (state g.S.Store c.told_each.new.tx.conn.now) c.holds_over.ensures.stays c.in_ok-numbers.ensures.goes_on c.told_each.ensures.stays
-
-pub returns-clause-goes_on : goal.returns-clause-goes_on
-returns-clause-goes_on g c =
-    let s0 = state g.S.Store c.args.tx.now.conn.now in
-    let s1 = state g.S.Store c.holds_over.new.tx.conn.now in
-    let s2 = state g.S.Store c.told_each.new.tx.conn.now in
-    on_after s0 s1 s2 c.told_each.ensures.stays c.told_each.result (goes_still s0 s1 s2) c.in_ok-numbers.ensures.goes_on c.told_each.ensures.goes_on
-
 pub returns-clause-same : goal.returns-clause-same
 returns-clause-same g c clean office =
     let old = state g.S.Store c.args.tx.now.conn.now in
     let mid = state g.S.Store c.holds_over.new.tx.conn.now in
-    let same = c.in_ok-numbers.ensures.same (clean_before mid (state g.S.Store c.told_each.new.tx.conn.now) c.told_each.ensures.stays clean) office in
+    let same = c.in_ok-numbers.ensures.same (clean_before mid (state g.S.Store c.told_each.new.tx.conn.now) c.told_each.ensures.inside.stays clean) office in
     on_ok_weaker c.told_each.result (λ unchanged. unchanged ∙ same) (c.told_each.ensures.same clean (office_still old.now mid.now same office))
+
+pub returns-clause-inside : goal.returns-clause-inside
+returns-clause-inside g c = record {
+  same_reference = search rules;
+  stays = stays_then (state g.S.Store c.args.tx.now.conn.now) (state g.S.Store c.holds_over.new.tx.conn.now) (state g.S.Store c.told_each.new.tx.conn.now) c.holds_over.ensures.inside.stays c.in_ok-numbers.ensures.inside.goes_on c.told_each.ensures.inside.stays;
+  goes_on = (
+      let s0 = state g.S.Store c.args.tx.now.conn.now in
+      let s1 = state g.S.Store c.holds_over.new.tx.conn.now in
+      let s2 = state g.S.Store c.told_each.new.tx.conn.now in
+      on_after s0 s1 s2 c.told_each.ensures.inside.stays c.told_each.result (goes_still s0 s1 s2) c.in_ok-numbers.ensures.inside.goes_on c.told_each.ensures.inside.goes_on);
+  failure = search rules;
+}

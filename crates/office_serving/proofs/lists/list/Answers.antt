@@ -23,8 +23,8 @@ returns-clause-decides g c clean h legal pictured =
     let s1 = state g.S.Store c.read.new.tx.conn.now in
     let s2 = state g.S.Store c.deposits_and_dues.new.tx.conn.now in
     let s3 = state g.S.Store c.shown_among.new.tx.conn.now in
-    let clean2 : HasCleanDisk s2 = clean_before s2 s3 c.shown_among.ensures.stays clean in
-    let clean1 : HasCleanDisk s1 = clean_before s1 s2 c.deposits_and_dues.ensures.stays clean2 in
+    let clean2 : HasCleanDisk s2 = clean_before s2 s3 c.shown_among.ensures.inside.stays clean in
+    let clean1 : HasCleanDisk s1 = clean_before s1 s2 c.deposits_and_dues.ensures.inside.stays clean2 in
     let asked = c.in_ok-asker.ensures.asker clean1 h legal pictured in
     let still = pictured_still h s1.now asked.0 s2.now (c.in_ok-rows.ensures.same clean2 asked.0.office) in
     let rows_are = c.deref.ensures.value ∙ c.in_ok-rows.ensures.found clean2 asked.0.office ∙ in_picture h s1.now asked.0 (λ t. beside t.deposits t.dues) in
@@ -41,8 +41,8 @@ returns-clause-rows g c clean office =
     let s3 = state g.S.Store c.shown_among.new.tx.conn.now in
     let collection = option_copied a.collection in
     let class = option_copied a.class in
-    let clean2 : HasCleanDisk s2 = clean_before s2 s3 c.shown_among.ensures.stays clean in
-    let clean1 : HasCleanDisk s1 = clean_before s1 s2 c.deposits_and_dues.ensures.stays clean2 in
+    let clean2 : HasCleanDisk s2 = clean_before s2 s3 c.shown_among.ensures.inside.stays clean in
+    let clean1 : HasCleanDisk s1 = clean_before s1 s2 c.deposits_and_dues.ensures.inside.stays clean2 in
     let first = c.in_ok-asker.ensures.same clean1 office in
     let still = office_still s0.now s1.now first office in
     let same : s2.now ≡ s0.now = c.in_ok-rows.ensures.same clean2 still ∙ first in
@@ -58,22 +58,34 @@ returns-clause-same g c =
     let s1 = state g.S.Store c.read.new.tx.conn.now in
     let s2 = state g.S.Store c.deposits_and_dues.new.tx.conn.now in
     let s3 = state g.S.Store c.shown_among.new.tx.conn.now in
-    same_thrice s0 s1 s2 s3 c.deposits_and_dues.ensures.stays c.shown_among.ensures.stays c.in_ok-asker.ensures.same c.in_ok-rows.ensures.same c.in_ok-told.ensures.same
+    same_thrice s0 s1 s2 s3 c.deposits_and_dues.ensures.inside.stays c.shown_among.ensures.inside.stays c.in_ok-asker.ensures.same c.in_ok-rows.ensures.same c.in_ok-told.ensures.same
 
-pub returns-in_err-rows-clause-stays : goal.returns-in_err-rows-clause-stays
-returns-in_err-rows-clause-stays g c = stays_then (state g.S.Store c.args.tx.now.conn.now) (state g.S.Store c.read.new.tx.conn.now) (state g.S.Store c.deposits_and_dues.new.tx.conn.now) c.read.ensures.stays c.in_ok-asker.ensures.goes_on c.deposits_and_dues.ensures.stays
+pub returns-in_err-rows-clause-inside : goal.returns-in_err-rows-clause-inside
+returns-in_err-rows-clause-inside g c = record {
+  same_reference = search rules;
+  stays = stays_then (state g.S.Store c.args.tx.now.conn.now) (state g.S.Store c.read.new.tx.conn.now) (state g.S.Store c.deposits_and_dues.new.tx.conn.now) c.read.ensures.inside.stays c.in_ok-asker.ensures.inside.goes_on c.deposits_and_dues.ensures.inside.stays;
+  goes_on = search rules;
+  failure = search rules;
+}
 
-pub returns-in_err-told-clause-stays : goal.returns-in_err-told-clause-stays
-returns-in_err-told-clause-stays g c = stays_thrice (state g.S.Store c.args.tx.now.conn.now) (state g.S.Store c.read.new.tx.conn.now) (state g.S.Store c.deposits_and_dues.new.tx.conn.now) (state g.S.Store c.shown_among.new.tx.conn.now) c.read.ensures.stays c.in_ok-asker.ensures.goes_on c.deposits_and_dues.ensures.stays c.in_ok-rows.ensures.goes_on c.shown_among.ensures.stays
+pub returns-in_err-told-clause-inside : goal.returns-in_err-told-clause-inside
+returns-in_err-told-clause-inside g c = record {
+  same_reference = search rules;
+  stays = stays_thrice (state g.S.Store c.args.tx.now.conn.now) (state g.S.Store c.read.new.tx.conn.now) (state g.S.Store c.deposits_and_dues.new.tx.conn.now) (state g.S.Store c.shown_among.new.tx.conn.now) c.read.ensures.inside.stays c.in_ok-asker.ensures.inside.goes_on c.deposits_and_dues.ensures.inside.stays c.in_ok-rows.ensures.inside.goes_on c.shown_among.ensures.inside.stays;
+  goes_on = search rules;
+  failure = search rules;
+}
 
-pub returns-clause-stays : goal.returns-clause-stays
-returns-clause-stays g c = stays_thrice (state g.S.Store c.args.tx.now.conn.now) (state g.S.Store c.read.new.tx.conn.now) (state g.S.Store c.deposits_and_dues.new.tx.conn.now) (state g.S.Store c.shown_among.new.tx.conn.now) c.read.ensures.stays c.in_ok-asker.ensures.goes_on c.deposits_and_dues.ensures.stays c.in_ok-rows.ensures.goes_on c.shown_among.ensures.stays
-
-pub returns-clause-goes_on : goal.returns-clause-goes_on
-returns-clause-goes_on g c clean =
-    let s0 = state g.S.Store c.args.tx.now.conn.now in
-    let s1 = state g.S.Store c.read.new.tx.conn.now in
-    let s2 = state g.S.Store c.deposits_and_dues.new.tx.conn.now in
-    let s3 = state g.S.Store c.shown_among.new.tx.conn.now in
-    let p = goes_twice s0 s1 s2 c.deposits_and_dues.ensures.stays c.in_ok-asker.ensures.goes_on c.in_ok-rows.ensures.goes_on (clean_before s2 s3 c.shown_among.ensures.stays clean) in
-    goes_still s0 s2 s3 p (c.in_ok-told.ensures.goes_on clean)
+pub returns-clause-inside : goal.returns-clause-inside
+returns-clause-inside g c = record {
+  same_reference = search rules;
+  stays = stays_thrice (state g.S.Store c.args.tx.now.conn.now) (state g.S.Store c.read.new.tx.conn.now) (state g.S.Store c.deposits_and_dues.new.tx.conn.now) (state g.S.Store c.shown_among.new.tx.conn.now) c.read.ensures.inside.stays c.in_ok-asker.ensures.inside.goes_on c.deposits_and_dues.ensures.inside.stays c.in_ok-rows.ensures.inside.goes_on c.shown_among.ensures.inside.stays;
+  goes_on = λ clean. (
+      let s0 = state g.S.Store c.args.tx.now.conn.now in
+      let s1 = state g.S.Store c.read.new.tx.conn.now in
+      let s2 = state g.S.Store c.deposits_and_dues.new.tx.conn.now in
+      let s3 = state g.S.Store c.shown_among.new.tx.conn.now in
+      let p = goes_twice s0 s1 s2 c.deposits_and_dues.ensures.inside.stays c.in_ok-asker.ensures.inside.goes_on c.in_ok-rows.ensures.inside.goes_on (clean_before s2 s3 c.shown_among.ensures.inside.stays clean) in
+      goes_still s0 s2 s3 p (c.in_ok-told.ensures.inside.goes_on clean));
+  failure = search rules;
+}

@@ -26,11 +26,11 @@ loop-row-preserved g c =
     let place = c.loop-row.row-index in
     let row = c.row-item.result in
     let item : row ≡ get_or a.rows.now place row = search rules in
-    let early = λ (clean : HasCleanDisk new). let e : HasCleanDisk now = clean_before now new c.shown_record.ensures.stays clean in e in
+    let early = λ (clean : HasCleanDisk new). let e : HasCleanDisk now = clean_before now new c.shown_record.ensures.inside.stays clean in e in
     record {
       same_reference = search rules;
-      stays = stays_on old now new inv.stays inv.goes_on c.shown_record.ensures.stays;
-      goes_on = λ clean. stands_on old now new (inv.goes_on (early clean)) (c.in_ok-record.ensures.goes_on clean);
+      stays = stays_on old now new inv.stays inv.goes_on c.shown_record.ensures.inside.stays;
+      goes_on = λ clean. stands_on old now new (inv.goes_on (early clean)) (c.in_ok-record.ensures.inside.goes_on clean);
       told = λ clean h legal pictured.
           let there = inv.told (early clean) h legal pictured in
           let found = c.in_ok-record.ensures.shown clean h legal there.0 in (
@@ -80,12 +80,6 @@ returns-clause-rows g c clean office day caller is =
     let finished : c.loop-row.row-index ≡ length a.rows.now = omega (arith, c.loop-row-test.false, c.loop-row.auto.row-index-end) in
     tells_all (IsToldIn t day caller (option_copied a.collection) (option_copied a.class)) a.rows.now c.loop-row.row-index finished c.loop-row.told.items (c.loop-row.invariant.by_rows clean office day caller is).1
 
-pub returns-in_err-record-clause-stays : goal.returns-in_err-record-clause-stays
-returns-in_err-record-clause-stays g c = stays_on (state g.S.Store c.args.tx.now.conn.now) (state g.S.Store c.loop-row.tx.conn.now) (state g.S.Store c.shown_record.new.tx.conn.now) c.loop-row.invariant.stays c.loop-row.invariant.goes_on c.shown_record.ensures.stays
-
-pub returns-in_err-push-clause-stays : goal.returns-in_err-push-clause-stays
-returns-in_err-push-clause-stays g c = stays_on (state g.S.Store c.args.tx.now.conn.now) (state g.S.Store c.loop-row.tx.conn.now) (state g.S.Store c.shown_record.new.tx.conn.now) c.loop-row.invariant.stays c.loop-row.invariant.goes_on c.shown_record.ensures.stays
-
 pub loop-row-init : goal.loop-row-init
 loop-row-init g c = record {
   same_reference = refl;
@@ -98,3 +92,19 @@ loop-row-init g c = record {
 
 pub returns-clause-same : goal.returns-clause-same
 returns-clause-same g c = c.loop-row.invariant.same
+
+pub returns-in_err-record-clause-inside : goal.returns-in_err-record-clause-inside
+returns-in_err-record-clause-inside g c = record {
+  same_reference = search rules;
+  stays = stays_on (state g.S.Store c.args.tx.now.conn.now) (state g.S.Store c.loop-row.tx.conn.now) (state g.S.Store c.shown_record.new.tx.conn.now) c.loop-row.invariant.stays c.loop-row.invariant.goes_on c.shown_record.ensures.inside.stays;
+  goes_on = search rules;
+  failure = search rules;
+}
+
+pub returns-in_err-push-clause-inside : goal.returns-in_err-push-clause-inside
+returns-in_err-push-clause-inside g c = record {
+  same_reference = search rules;
+  stays = stays_on (state g.S.Store c.args.tx.now.conn.now) (state g.S.Store c.loop-row.tx.conn.now) (state g.S.Store c.shown_record.new.tx.conn.now) c.loop-row.invariant.stays c.loop-row.invariant.goes_on c.shown_record.ensures.inside.stays;
+  goes_on = search rules;
+  failure = search rules;
+}

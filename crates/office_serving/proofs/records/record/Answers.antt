@@ -1,4 +1,4 @@
-use Rattle.std.proofs.Common.{ℕ, Ok, Err, pos, refl, ap, sym, ◌≡◌}
+use Rattle.std.proofs.Common.{ℕ, Ok, Err, pos, refl, ap, sym, ◌≡◌, rules}
 use Rattle.sqlite.specs.Held.{state}
 use Rattle.office_core.specs.declared.action.Action.TheVariants as acts
 use Rattle.office_core.specs.declared.answer.Answer.TheVariants as answers
@@ -19,7 +19,7 @@ returns-in_ok-record_of-in-Ok-clause-decides g c clean h legal pictured =
     let a = c.args in
     let mid = state g.S.Store c.kept_deposit.new.tx.conn.now in
     let new = state g.S.Store c.record_of.new.tx.conn.now in
-    let asked = rw c.in-Ok.is at c.in_ok-row.ensures.asked (clean_before mid new c.record_of.ensures.stays clean) h legal pictured in
+    let asked = rw c.in-Ok.is at c.in_ok-row.ensures.asked (clean_before mid new c.record_of.ensures.inside.stays clean) h legal pictured in
     let it = asked.1 in
     let told = c.in_ok-record_of-in-Ok.ensures.told clean h legal asked.0 in
     told_serves a.day a.caller.now acts.Record it refl (λ found. answers.Record (record_of h a.number found)) refl refl (ap answers.Record (told.1 a.number it.found it.there it.row_is)) told.0
@@ -29,22 +29,13 @@ returns-in-Err-clause-decides g c clean h legal pictured =
     let asked = rw c.in-Err.is at c.in_ok-row.ensures.asked clean h legal pictured in
     refused_serves _ _ _ _ _ _ asked.1 asked.0
 
-pub returns-in_err-record_of-in-Ok-clause-stays : goal.returns-in_err-record_of-in-Ok-clause-stays
-returns-in_err-record_of-in-Ok-clause-stays g c = stays_then (state g.S.Store c.args.tx.now.conn.now) (state g.S.Store c.kept_deposit.new.tx.conn.now) (state g.S.Store c.record_of.new.tx.conn.now) c.kept_deposit.ensures.stays c.in_ok-row.ensures.goes_on c.record_of.ensures.stays
-
-pub returns-in_ok-record_of-in-Ok-clause-stays : goal.returns-in_ok-record_of-in-Ok-clause-stays
-returns-in_ok-record_of-in-Ok-clause-stays g c = stays_then (state g.S.Store c.args.tx.now.conn.now) (state g.S.Store c.kept_deposit.new.tx.conn.now) (state g.S.Store c.record_of.new.tx.conn.now) c.kept_deposit.ensures.stays c.in_ok-row.ensures.goes_on c.record_of.ensures.stays
-
-pub returns-in_ok-record_of-in-Ok-clause-goes_on : goal.returns-in_ok-record_of-in-Ok-clause-goes_on
-returns-in_ok-record_of-in-Ok-clause-goes_on g c = goes_twice (state g.S.Store c.args.tx.now.conn.now) (state g.S.Store c.kept_deposit.new.tx.conn.now) (state g.S.Store c.record_of.new.tx.conn.now) c.record_of.ensures.stays c.in_ok-row.ensures.goes_on c.in_ok-record_of-in-Ok.ensures.goes_on
-
 pub returns-in_ok-record_of-in-Ok-clause-rows : goal.returns-in_ok-record_of-in-Ok-clause-rows
 returns-in_ok-record_of-in-Ok-clause-rows g c clean office =
     let a = c.args in
     let old = state g.S.Store a.tx.now.conn.now in
     let mid = state g.S.Store c.kept_deposit.new.tx.conn.now in
     let new = state g.S.Store c.record_of.new.tx.conn.now in
-    let early = clean_before mid new c.record_of.ensures.stays clean in
+    let early = clean_before mid new c.record_of.ensures.inside.stays clean in
     let asked : IsAskedIn (tables_of old.now) a.day a.caller.now acts.Record a.number (Ok c.in-Ok.row) = rw c.in-Ok.is at c.in_ok-row.ensures.rows early office in
     let same = c.in_ok-row.ensures.same early office in
     let told = told_before old.now mid.now same (λ t. (n : ℕ) → pos n ≡ c.in-Ok.row.number → IsRecordBy t n c.in-Ok.row c.in_ok-record_of-in-Ok.field-0) (c.in_ok-record_of-in-Ok.ensures.rows clean (office_still old.now mid.now same office)) in
@@ -58,4 +49,20 @@ returns-in-Err-clause-rows g c clean office =
 
 pub returns-in_ok-record_of-in-Ok-clause-same : goal.returns-in_ok-record_of-in-Ok-clause-same
 returns-in_ok-record_of-in-Ok-clause-same g c =
-    same_twice (state g.S.Store c.args.tx.now.conn.now) (state g.S.Store c.kept_deposit.new.tx.conn.now) (state g.S.Store c.record_of.new.tx.conn.now) c.record_of.ensures.stays c.in_ok-row.ensures.same c.in_ok-record_of-in-Ok.ensures.same
+    same_twice (state g.S.Store c.args.tx.now.conn.now) (state g.S.Store c.kept_deposit.new.tx.conn.now) (state g.S.Store c.record_of.new.tx.conn.now) c.record_of.ensures.inside.stays c.in_ok-row.ensures.same c.in_ok-record_of-in-Ok.ensures.same
+
+pub returns-in_err-record_of-in-Ok-clause-inside : goal.returns-in_err-record_of-in-Ok-clause-inside
+returns-in_err-record_of-in-Ok-clause-inside g c = record {
+  same_reference = search rules;
+  stays = stays_then (state g.S.Store c.args.tx.now.conn.now) (state g.S.Store c.kept_deposit.new.tx.conn.now) (state g.S.Store c.record_of.new.tx.conn.now) c.kept_deposit.ensures.inside.stays c.in_ok-row.ensures.inside.goes_on c.record_of.ensures.inside.stays;
+  goes_on = search rules;
+  failure = search rules;
+}
+
+pub returns-in_ok-record_of-in-Ok-clause-inside : goal.returns-in_ok-record_of-in-Ok-clause-inside
+returns-in_ok-record_of-in-Ok-clause-inside g c = record {
+  same_reference = search rules;
+  stays = stays_then (state g.S.Store c.args.tx.now.conn.now) (state g.S.Store c.kept_deposit.new.tx.conn.now) (state g.S.Store c.record_of.new.tx.conn.now) c.kept_deposit.ensures.inside.stays c.in_ok-row.ensures.inside.goes_on c.record_of.ensures.inside.stays;
+  goes_on = goes_twice (state g.S.Store c.args.tx.now.conn.now) (state g.S.Store c.kept_deposit.new.tx.conn.now) (state g.S.Store c.record_of.new.tx.conn.now) c.record_of.ensures.inside.stays c.in_ok-row.ensures.inside.goes_on c.in_ok-record_of-in-Ok.ensures.inside.goes_on;
+  failure = search rules;
+}

@@ -10,7 +10,7 @@ pub returns-in_ok-add_class-clause-becomes : goal.returns-in_ok-add_class-clause
 returns-in_ok-add_class-clause-becomes g c clean office =
     let mid = (state g.S.Store c.revise_class.new.tx.conn.now).now in
     let years = to_z-of_z w64 c.args.years c.ranges.years in
-    let low = c.add_class.ensures.stays.survives.clean in
+    let low = c.add_class.ensures.inside.stays.survives.clean in
     let early : HasCleanDisk (state g.S.Store c.revise_class.new.tx.conn.now) = omega (arith, clean, low) in
     let first = rw years at (c.in_ok-revise_class.ensures.becomes early office) in
     let counted = c.in_ok-revise_class.ensures.counted early office in

@@ -14,13 +14,13 @@ loop-text-preserved g c =
     let now = state g.S.Store c.loop-text.tx.conn.now in
     let new = state g.S.Store c.change.new.tx.conn.now in
     let inv = c.loop-text.invariant in
-    let early = λ (clean : HasCleanDisk new). let e : HasCleanDisk now = omega (arith, clean, c.change.ensures.stays.survives.clean) in e in
+    let early = λ (clean : HasCleanDisk new). let e : HasCleanDisk now = omega (arith, clean, c.change.ensures.inside.stays.survives.clean) in e in
     let texts : List (Bor (List ℕ)) = c.args.texts.now in
     let words = λ (all : List (Bor (List ℕ))). map (λ (t : Bor (List ℕ)). t.now) all in
     record {
       same_reference = search rules;
-      stays = stays_on old now new inv.stays inv.goes_on c.change.ensures.stays;
-      goes_on = λ clean. stands_then old now new (inv.goes_on (early clean)) (c.in_ok-change.ensures.goes_on clean);
+      stays = stays_on old now new inv.stays inv.goes_on c.change.ensures.inside.stays;
+      goes_on = λ clean. stands_then old now new (inv.goes_on (early clean)) (c.in_ok-change.ensures.inside.goes_on clean);
       made = λ clean before after builds blank.
           let there = inv.made (early clean) before after builds blank in
           let one : words (drop c.loop-text.text-index texts) ≡ words (get_or texts c.loop-text.text-index _ ∷ drop (c.loop-text.text-index + 1) texts) = at_drop_more words texts c.loop-text.text-index _ (search rules) in

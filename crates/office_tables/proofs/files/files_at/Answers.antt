@@ -16,13 +16,13 @@ loop-row-preserved g c =
     let now = state g.S.Store c.loop-row.tx.conn.now in
     let new = state g.S.Store c.file_at.new.tx.conn.now in
     let inv = c.loop-row.invariant in
-    let early = λ (clean : HasCleanDisk new). let e : HasCleanDisk now = omega (arith, clean, c.file_at.ensures.stays.survives.clean) in e in
+    let early = λ (clean : HasCleanDisk new). let e : HasCleanDisk now = omega (arith, clean, c.file_at.ensures.inside.stays.survives.clean) in e in
     let find : Row → Option FileRow = λ row. file_at (pos c.args.number) (shown_path row) (tables_of old.now).files in
     let x : FileRow = c.in_ok-file_at.field-0 in
     record {
       same_reference = search rules;
-      stays = stays_on old now new inv.stays inv.goes_on c.file_at.ensures.stays;
-      goes_on = λ clean. stands_then old now new (inv.goes_on (early clean)) (c.in_ok-file_at.ensures.goes_on clean);
+      stays = stays_on old now new inv.stays inv.goes_on c.file_at.ensures.inside.stays;
+      goes_on = λ clean. stands_then old now new (inv.goes_on (early clean)) (c.in_ok-file_at.ensures.inside.goes_on clean);
       found = λ clean office.
           let there = inv.found (early clean) office in
           let still : IsOffice now.now = subst IsOffice (sym there.0) office in

@@ -13,7 +13,7 @@ pub returns-clause-found : goal.returns-clause-found
 returns-clause-found g c clean office =
     let old = state g.S.Store c.args.tx.now.conn.now in
     let mid = state g.S.Store c.rows_of_paths.new.tx.conn.now in
-    let clean_mid : HasCleanDisk mid = omega (arith, clean, c.files_at.ensures.stays.survives.clean) in
+    let clean_mid : HasCleanDisk mid = omega (arith, clean, c.files_at.ensures.inside.stays.survives.clean) in
     let paths = c.in_ok-rows.ensures.found clean_mid office in
     let found = rw c.deref.ensures.value at (c.files_at.ensures.found clean (subst IsOffice (sym paths.0) office)) in
     let n = pos c.args.number in

@@ -16,15 +16,15 @@ loop-row-preserved g c =
     let now = state g.S.Store c.loop-row.tx.conn.now in
     let new = state g.S.Store c.drop_unused.new.tx.conn.now in
     let inv = c.loop-row.invariant in
-    let early = λ (clean : HasCleanDisk new). let e : HasCleanDisk now = omega (arith, clean, c.drop_unused.ensures.stays.survives.clean) in e in
+    let early = λ (clean : HasCleanDisk new). let e : HasCleanDisk now = omega (arith, clean, c.drop_unused.ensures.inside.stays.survives.clean) in e in
     let rows : List Row = c.args.rows.now in
     let i = c.loop-row.row-index in
     let ids = λ (all : List Row). map (λ (row : Row). int_at row 0) all in
     let rest = ids (drop (i + 1) rows) in
     record {
       same_reference = search rules;
-      stays = stays_on old now new inv.stays inv.goes_on c.drop_unused.ensures.stays;
-      goes_on = λ clean. stands_then old now new (inv.goes_on (early clean)) (c.in_ok-drop_unused.ensures.goes_on clean);
+      stays = stays_on old now new inv.stays inv.goes_on c.drop_unused.ensures.inside.stays;
+      goes_on = λ clean. stands_then old now new (inv.goes_on (early clean)) (c.in_ok-drop_unused.ensures.inside.goes_on clean);
       tidied = λ clean office.
           let there = inv.tidied (early clean) office in
           let one : ids (drop i rows) ≡ ids (get_or rows i _ ∷ drop (i + 1) rows) = at_drop_more ids rows i _ (search rules) in

@@ -13,12 +13,12 @@ loop-caller-preserved g c =
     let now = state g.S.Store c.loop-caller.tx.conn.now in
     let new = state g.S.Store c.add_caller.new.tx.conn.now in
     let inv = c.loop-caller.invariant in
-    let early = λ (clean : HasCleanDisk new). let e : HasCleanDisk now = omega (arith, clean, c.add_caller.ensures.stays.survives.clean) in e in
+    let early = λ (clean : HasCleanDisk new). let e : HasCleanDisk now = omega (arith, clean, c.add_caller.ensures.inside.stays.survives.clean) in e in
     let x : CallerRow = c.caller-item.result in
     record {
       same_reference = search rules;
-      stays = stays_on old now new inv.stays inv.goes_on c.add_caller.ensures.stays;
-      goes_on = λ clean. stands_then old now new (inv.goes_on (early clean)) (c.in_ok-add_caller.ensures.goes_on clean);
+      stays = stays_on old now new inv.stays inv.goes_on c.add_caller.ensures.inside.stays;
+      goes_on = λ clean. stands_then old now new (inv.goes_on (early clean)) (c.in_ok-add_caller.ensures.inside.goes_on clean);
       becomes = λ clean office.
           let there = inv.becomes (early clean) office in
           let named = rw (c.deref.ensures, c.deref-in-loop-caller.ensures) at (c.in_ok-add_caller.ensures.becomes clean there.0) in
