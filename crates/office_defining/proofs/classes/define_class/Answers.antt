@@ -58,19 +58,3 @@ returns-clause-rows g c clean office =
     let told = told_before old.now mid.now same (λ t. AreClosedOnDays (class_closings c.as_str-2.result.now t)) (c.in_ok-put_years.ensures.rows clean (office_still old.now mid.now same office)) in
     let closed = subst (λ (n : List ℕ). AreClosedOnDays (class_closings n (tables_of old.now))) c.as_str-2.ensures.text told in
     subst (λ (n : List ℕ). IsClassDefinedIn (tables_of old.now) a.day a.caller.now a.name.now a.years (answers.Class n a.years)) (sym c.in_ok-defined.ensures) (class_allowed (tables_of old.now) a.day a.caller.now a.name.now a.years c.in_ok-why.field-0 none denied closed)
-
-pub returns-in_err-put_years-clause-inside : goal.returns-in_err-put_years-clause-inside
-returns-in_err-put_years-clause-inside g c = record {
-  same_reference = search rules;
-  stays = stays_then (state g.S.Store c.args.tx.now.conn.now) (state g.S.Store c.denial.new.tx.conn.now) (state g.S.Store c.put_years.new.tx.conn.now) c.denial.ensures.inside.stays c.in_ok-why.ensures.inside.goes_on c.put_years.ensures.inside.stays;
-  goes_on = search rules;
-  failure = search rules;
-}
-
-pub returns-clause-inside : goal.returns-clause-inside
-returns-clause-inside g c = record {
-  same_reference = search rules;
-  stays = stays_then (state g.S.Store c.args.tx.now.conn.now) (state g.S.Store c.denial.new.tx.conn.now) (state g.S.Store c.put_years.new.tx.conn.now) c.denial.ensures.inside.stays c.in_ok-why.ensures.inside.goes_on c.put_years.ensures.inside.stays;
-  goes_on = goes_twice (state g.S.Store c.args.tx.now.conn.now) (state g.S.Store c.denial.new.tx.conn.now) (state g.S.Store c.put_years.new.tx.conn.now) c.put_years.ensures.inside.stays c.in_ok-why.ensures.inside.goes_on c.in_ok-put_years.ensures.inside.goes_on;
-  failure = search rules;
-}

@@ -37,16 +37,3 @@ returns-clause-rows g c clean office =
     let early : HasCleanDisk mid = clean_before mid new c.set_days_of_class.ensures.inside.stays clean in
     let put = c.in_ok-put_class.ensures.becomes early office in
     on_ok_weaker c.set_days_of_class.result (closed_before a.name.now _ old.now mid.now put) (c.set_days_of_class.ensures.rows clean put.office)
-
-pub returns-clause-inside : goal.returns-clause-inside
-returns-clause-inside g c = record {
-  same_reference = search rules;
-  stays = stays_then (state g.S.Store c.args.tx.now.conn.now) (state g.S.Store c.put_class.new.tx.conn.now) (state g.S.Store c.set_days_of_class.new.tx.conn.now) c.put_class.ensures.inside.stays c.in_ok-put_class.ensures.inside.goes_on c.set_days_of_class.ensures.inside.stays;
-  goes_on = λ clean. (
-      let old = state g.S.Store c.args.tx.now.conn.now in
-      let mid = state g.S.Store c.put_class.new.tx.conn.now in
-      let new = state g.S.Store c.set_days_of_class.new.tx.conn.now in
-      let early : HasCleanDisk mid = clean_before mid new c.set_days_of_class.ensures.inside.stays clean in
-      on_ok_weaker c.set_days_of_class.result (goes_then old mid new (c.in_ok-put_class.ensures.inside.goes_on early)) (c.set_days_of_class.ensures.inside.goes_on clean));
-  failure = search rules;
-}

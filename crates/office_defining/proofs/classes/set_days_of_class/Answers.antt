@@ -31,16 +31,3 @@ returns-clause-rows g c clean office =
     let early : HasCleanDisk mid = clean_before mid new c.set_due_days.ensures.inside.stays clean in
     let found : c.deref.result.now ≡ class_closings a.class.now (tables_of old.now) = search (rules, c.in_ok-rows.ensures.found early office) in
     on_ok_weaker c.set_due_days.result (subst AreClosedOnDays found) c.set_due_days.ensures.closed
-
-pub returns-clause-inside : goal.returns-clause-inside
-returns-clause-inside g c = record {
-  same_reference = search rules;
-  stays = stays_then (state g.S.Store c.args.tx.now.conn.now) (state g.S.Store c.rows_of_class.new.tx.conn.now) (state g.S.Store c.set_due_days.new.tx.conn.now) c.rows_of_class.ensures.inside.stays c.in_ok-rows.ensures.inside.goes_on c.set_due_days.ensures.inside.stays;
-  goes_on = λ clean. (
-      let old = state g.S.Store c.args.tx.now.conn.now in
-      let mid = state g.S.Store c.rows_of_class.new.tx.conn.now in
-      let new = state g.S.Store c.set_due_days.new.tx.conn.now in
-      let early : HasCleanDisk mid = clean_before mid new c.set_due_days.ensures.inside.stays clean in
-      on_ok_weaker c.set_due_days.result (goes_still old mid new (c.in_ok-rows.ensures.inside.goes_on early)) (c.set_due_days.ensures.inside.goes_on clean));
-  failure = search rules;
-}

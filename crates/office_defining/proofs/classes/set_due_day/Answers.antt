@@ -28,11 +28,3 @@ returns-clause-closed g c =
     let there : c.row.inside.closed ≡ c.args.row.now.closed = search rules in
     let range : IsDayNumber c.row.inside.closed = rw (to_z-of_z w64 c.row.inside.closed fits) at c.in_ok-closed.ensures.range in
     so_anyway c.set_due.result (subst IsDayNumber there range)
-
-pub returns-in_err-closed-clause-inside : goal.returns-in_err-closed-clause-inside
-returns-in_err-closed-clause-inside g c = record {
-  same_reference = search rules;
-  stays = stays_still (state g.S.Store c.args.tx.now.conn.now);
-  goes_on = search rules;
-  failure = search rules;
-}

@@ -52,11 +52,3 @@ returns-clause-set g c deposits are clean office =
 
 pub returns-clause-closed : goal.returns-clause-closed
 returns-clause-closed g c = subst AreClosedOnDays (take_all c.loop-row.row-index c.args.rows.now c.loop-row-test.false) c.loop-row.invariant.closed
-
-pub returns-in_err-set_due_day-clause-inside : goal.returns-in_err-set_due_day-clause-inside
-returns-in_err-set_due_day-clause-inside g c = record {
-  same_reference = search rules;
-  stays = stays_on (state g.S.Store c.args.tx.now.conn.now) (state g.S.Store c.loop-row.tx.conn.now) (state g.S.Store c.set_due_day.new.tx.conn.now) c.loop-row.invariant.stays c.loop-row.invariant.goes_on c.set_due_day.ensures.inside.stays;
-  goes_on = search rules;
-  failure = search rules;
-}

@@ -54,19 +54,3 @@ returns-clause-rows g c clean office =
     let none : c.in_ok-why.field-0 ≡ None = search rules in
     let denied = subst (λ (n : List ℕ). IsDenialIn (tables_of old.now) a.day a.caller.now acts.Collection (Some n) None c.in_ok-why.field-0) c.as_str.ensures.text (c.in_ok-why.ensures.rows early office) in
     subst (λ (n : List ℕ). IsCollectionDefinedIn (tables_of old.now) a.day a.caller.now a.name.now (answers.Collection n)) (sym c.in_ok-defined.ensures) (collection_allowed (tables_of old.now) a.day a.caller.now a.name.now c.in_ok-why.field-0 none denied)
-
-pub returns-in_err-put_collection-clause-inside : goal.returns-in_err-put_collection-clause-inside
-returns-in_err-put_collection-clause-inside g c = record {
-  same_reference = search rules;
-  stays = stays_then (state g.S.Store c.args.tx.now.conn.now) (state g.S.Store c.denial.new.tx.conn.now) (state g.S.Store c.put_collection.new.tx.conn.now) c.denial.ensures.inside.stays c.in_ok-why.ensures.inside.goes_on c.put_collection.ensures.inside.stays;
-  goes_on = search rules;
-  failure = search rules;
-}
-
-pub returns-clause-inside : goal.returns-clause-inside
-returns-clause-inside g c = record {
-  same_reference = search rules;
-  stays = stays_then (state g.S.Store c.args.tx.now.conn.now) (state g.S.Store c.denial.new.tx.conn.now) (state g.S.Store c.put_collection.new.tx.conn.now) c.denial.ensures.inside.stays c.in_ok-why.ensures.inside.goes_on c.put_collection.ensures.inside.stays;
-  goes_on = goes_twice (state g.S.Store c.args.tx.now.conn.now) (state g.S.Store c.denial.new.tx.conn.now) (state g.S.Store c.put_collection.new.tx.conn.now) c.put_collection.ensures.inside.stays c.in_ok-why.ensures.inside.goes_on c.in_ok-put_collection.ensures.inside.goes_on;
-  failure = search rules;
-}

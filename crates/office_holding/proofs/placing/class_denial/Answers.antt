@@ -62,15 +62,3 @@ returns-clause-rows g c clean office =
     let there = some ∙ class_read (tables_of old.now) a.class.now c.in_ok-class_of.field-0 (c.in_ok-class_of.ensures.found early office) in
     IfOk-weaker c.denial.result _ _ (λ why is. class_asked_there (tables_of old.now) a.day a.caller.now a.class.now there why (told_before old.now mid.now same (λ t. IsDenialIn t a.day a.caller.now acts.Hold None (Some a.class.now) why) is))
     (c.denial.ensures.rows clean (office_still old.now mid.now same office))
-
-pub returns-clause-inside : goal.returns-clause-inside
-returns-clause-inside g c = record {
-  same_reference = search rules;
-  stays = stays_then (state g.S.Store c.args.tx.now.conn.now) (state g.S.Store c.class_of.new.tx.conn.now) (state g.S.Store c.denial.new.tx.conn.now) c.class_of.ensures.inside.stays c.in_ok-class_of.ensures.inside.goes_on c.denial.ensures.inside.stays;
-  goes_on = (
-      let s0 = state g.S.Store c.args.tx.now.conn.now in
-      let s1 = state g.S.Store c.class_of.new.tx.conn.now in
-      let s2 = state g.S.Store c.denial.new.tx.conn.now in
-      on_after s0 s1 s2 c.denial.ensures.inside.stays c.denial.result (goes_then s0 s1 s2) c.in_ok-class_of.ensures.inside.goes_on c.denial.ensures.inside.goes_on);
-  failure = search rules;
-}

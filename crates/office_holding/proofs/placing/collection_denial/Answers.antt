@@ -61,15 +61,3 @@ returns-clause-rows g c clean office =
     let there = some ∙ c.in_ok-has_collection.ensures.found early office in
     IfOk-weaker c.denial.result _ _ (λ why is. asked_there (tables_of old.now) a.day a.caller.now a.collection.now there why (told_before old.now mid.now same (λ t. IsDenialIn t a.day a.caller.now acts.Hold (Some a.collection.now) None why) is))
     (c.denial.ensures.rows clean (office_still old.now mid.now same office))
-
-pub returns-clause-inside : goal.returns-clause-inside
-returns-clause-inside g c = record {
-  same_reference = search rules;
-  stays = stays_then (state g.S.Store c.args.tx.now.conn.now) (state g.S.Store c.has_collection.new.tx.conn.now) (state g.S.Store c.denial.new.tx.conn.now) c.has_collection.ensures.inside.stays c.in_ok-has_collection.ensures.inside.goes_on c.denial.ensures.inside.stays;
-  goes_on = (
-      let s0 = state g.S.Store c.args.tx.now.conn.now in
-      let s1 = state g.S.Store c.has_collection.new.tx.conn.now in
-      let s2 = state g.S.Store c.denial.new.tx.conn.now in
-      on_after s0 s1 s2 c.denial.ensures.inside.stays c.denial.result (goes_then s0 s1 s2) c.in_ok-has_collection.ensures.inside.goes_on c.denial.ensures.inside.goes_on);
-  failure = search rules;
-}

@@ -49,19 +49,3 @@ returns-in-Err-clause-rows g c clean office =
     let t = tables_of (state g.S.Store a.tx.now.conn.now).now in
     let found = subst (IsClassPlaceIn t a.day a.caller.now c.as_str.result.now) c.in-Err.is (c.in_ok-hold.ensures.rows clean office) in
     record { place = Err c.in-Err.why; is_place = subst (λ name. IsClassPlaceIn t a.day a.caller.now name (Err c.in-Err.why)) c.as_str.ensures.text found; is = refl }
-
-pub returns-in_err-place_on_class-in-Ok-clause-inside : goal.returns-in_err-place_on_class-in-Ok-clause-inside
-returns-in_err-place_on_class-in-Ok-clause-inside g c = record {
-  same_reference = search rules;
-  stays = stays_then (state g.S.Store c.args.tx.now.conn.now) (state g.S.Store c.place_for_class.new.tx.conn.now) (state g.S.Store c.place_on_class.new.tx.conn.now) c.place_for_class.ensures.inside.stays c.in_ok-hold.ensures.inside.goes_on c.place_on_class.ensures.inside.stays;
-  goes_on = search rules;
-  failure = search rules;
-}
-
-pub returns-in_ok-place_on_class-in-Ok-clause-inside : goal.returns-in_ok-place_on_class-in-Ok-clause-inside
-returns-in_ok-place_on_class-in-Ok-clause-inside g c = record {
-  same_reference = search rules;
-  stays = stays_then (state g.S.Store c.args.tx.now.conn.now) (state g.S.Store c.place_for_class.new.tx.conn.now) (state g.S.Store c.place_on_class.new.tx.conn.now) c.place_for_class.ensures.inside.stays c.in_ok-hold.ensures.inside.goes_on c.place_on_class.ensures.inside.stays;
-  goes_on = goes_twice (state g.S.Store c.args.tx.now.conn.now) (state g.S.Store c.place_for_class.new.tx.conn.now) (state g.S.Store c.place_on_class.new.tx.conn.now) c.place_on_class.ensures.inside.stays c.in_ok-hold.ensures.inside.goes_on c.in_ok-place_on_class-in-Ok.ensures.inside.goes_on;
-  failure = search rules;
-}

@@ -43,19 +43,3 @@ returns-clause-rows g c clean office =
 
 pub returns-clause-same : goal.returns-clause-same
 returns-clause-same g c = same_twice (state g.S.Store c.args.tx.now.conn.now) (state g.S.Store c.limits.new.tx.conn.now) (state g.S.Store c.last_hold.new.tx.conn.now) c.last_hold.ensures.inside.stays c.in_ok-limits.ensures.same c.in_ok-last.ensures.same
-
-pub returns-in_err-last-clause-inside : goal.returns-in_err-last-clause-inside
-returns-in_err-last-clause-inside g c = record {
-  same_reference = search rules;
-  stays = stays_then (state g.S.Store c.args.tx.now.conn.now) (state g.S.Store c.limits.new.tx.conn.now) (state g.S.Store c.last_hold.new.tx.conn.now) c.limits.ensures.inside.stays c.in_ok-limits.ensures.inside.goes_on c.last_hold.ensures.inside.stays;
-  goes_on = search rules;
-  failure = search rules;
-}
-
-pub returns-clause-inside : goal.returns-clause-inside
-returns-clause-inside g c = record {
-  same_reference = search rules;
-  stays = stays_then (state g.S.Store c.args.tx.now.conn.now) (state g.S.Store c.limits.new.tx.conn.now) (state g.S.Store c.last_hold.new.tx.conn.now) c.limits.ensures.inside.stays c.in_ok-limits.ensures.inside.goes_on c.last_hold.ensures.inside.stays;
-  goes_on = goes_twice (state g.S.Store c.args.tx.now.conn.now) (state g.S.Store c.limits.new.tx.conn.now) (state g.S.Store c.last_hold.new.tx.conn.now) c.last_hold.ensures.inside.stays c.in_ok-limits.ensures.inside.goes_on c.in_ok-last.ensures.inside.goes_on;
-  failure = search rules;
-}

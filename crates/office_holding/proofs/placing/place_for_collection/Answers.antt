@@ -53,15 +53,3 @@ returns-clause-same g c clean office =
     let early : HasCleanDisk mid = clean_before mid (state g.S.Store c.next_hold.new.tx.conn.now) c.next_hold.ensures.inside.stays clean in
     let same : mid.now ≡ old.now = c.in_ok-why.ensures.same early office in
     on_ok_weaker c.next_hold.result (λ e. e ∙ same) (c.next_hold.ensures.same clean (office_still old.now mid.now same office))
-
-pub returns-clause-inside : goal.returns-clause-inside
-returns-clause-inside g c = record {
-  same_reference = search rules;
-  stays = stays_then (state g.S.Store c.args.tx.now.conn.now) (state g.S.Store c.collection_denial.new.tx.conn.now) (state g.S.Store c.next_hold.new.tx.conn.now) c.collection_denial.ensures.inside.stays c.in_ok-why.ensures.inside.goes_on c.next_hold.ensures.inside.stays;
-  goes_on = (
-      let s0 = state g.S.Store c.args.tx.now.conn.now in
-      let s1 = state g.S.Store c.collection_denial.new.tx.conn.now in
-      let s2 = state g.S.Store c.next_hold.new.tx.conn.now in
-      on_after s0 s1 s2 c.next_hold.ensures.inside.stays c.next_hold.result (goes_then s0 s1 s2) c.in_ok-why.ensures.inside.goes_on c.next_hold.ensures.inside.goes_on);
-  failure = search rules;
-}

@@ -71,21 +71,3 @@ pub returns-clause-same : goal.returns-clause-same
 returns-clause-same g c clean office =
     let same = same_twice (state g.S.Store c.args.tx.now.conn.now) (state g.S.Store c.hold_row.new.tx.conn.now) (state g.S.Store c.release_denial.new.tx.conn.now) c.release_denial.ensures.inside.stays c.in_ok-hold.ensures.same c.in_ok-denied.ensures.same clean office in
     on_ok c.unless_refused.result (λ _ _. same) c.unless_refused.ensures.first
-
-pub returns-in_err-denied-clause-inside : goal.returns-in_err-denied-clause-inside
-returns-in_err-denied-clause-inside g c = record {
-  same_reference = search rules;
-  stays = stays_then (state g.S.Store c.args.tx.now.conn.now) (state g.S.Store c.hold_row.new.tx.conn.now) (state g.S.Store c.release_denial.new.tx.conn.now) c.hold_row.ensures.inside.stays c.in_ok-hold.ensures.inside.goes_on c.release_denial.ensures.inside.stays;
-  goes_on = search rules;
-  failure = search rules;
-}
-
-pub returns-clause-inside : goal.returns-clause-inside
-returns-clause-inside g c = record {
-  same_reference = search rules;
-  stays = stays_then (state g.S.Store c.args.tx.now.conn.now) (state g.S.Store c.hold_row.new.tx.conn.now) (state g.S.Store c.release_denial.new.tx.conn.now) c.hold_row.ensures.inside.stays c.in_ok-hold.ensures.inside.goes_on c.release_denial.ensures.inside.stays;
-  goes_on = λ clean. (
-      let goes = goes_twice (state g.S.Store c.args.tx.now.conn.now) (state g.S.Store c.hold_row.new.tx.conn.now) (state g.S.Store c.release_denial.new.tx.conn.now) c.release_denial.ensures.inside.stays c.in_ok-hold.ensures.inside.goes_on c.in_ok-denied.ensures.inside.goes_on clean in
-      on_ok c.unless_refused.result (λ _ _. goes) c.unless_refused.ensures.first);
-  failure = search rules;
-}

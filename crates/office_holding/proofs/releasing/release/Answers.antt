@@ -60,19 +60,3 @@ returns-in_ok-end-in-Ok-clause-rows g c clean office =
       counts = subst (CountsFewer (tables_of old.now)) deposit (told_before old.now mid.now same (λ t. CountsFewer t (shown.held_deposit target)) (c.in_ok-end-in-Ok.ensures.rows clean (office_still old.now mid.now same office)));
       is = refl;
     }
-
-pub returns-in_err-end-in-Ok-clause-inside : goal.returns-in_err-end-in-Ok-clause-inside
-returns-in_err-end-in-Ok-clause-inside g c = record {
-  same_reference = search rules;
-  stays = stays_then (state g.S.Store c.args.tx.now.conn.now) (state g.S.Store c.releasable_hold.new.tx.conn.now) (state g.S.Store c.end.new.tx.conn.now) c.releasable_hold.ensures.inside.stays c.in_ok-row.ensures.inside.goes_on c.end.ensures.inside.stays;
-  goes_on = search rules;
-  failure = search rules;
-}
-
-pub returns-in_ok-end-in-Ok-clause-inside : goal.returns-in_ok-end-in-Ok-clause-inside
-returns-in_ok-end-in-Ok-clause-inside g c = record {
-  same_reference = search rules;
-  stays = stays_then (state g.S.Store c.args.tx.now.conn.now) (state g.S.Store c.releasable_hold.new.tx.conn.now) (state g.S.Store c.end.new.tx.conn.now) c.releasable_hold.ensures.inside.stays c.in_ok-row.ensures.inside.goes_on c.end.ensures.inside.stays;
-  goes_on = goes_twice (state g.S.Store c.args.tx.now.conn.now) (state g.S.Store c.releasable_hold.new.tx.conn.now) (state g.S.Store c.end.new.tx.conn.now) c.end.ensures.inside.stays c.in_ok-row.ensures.inside.goes_on c.in_ok-end-in-Ok.ensures.inside.goes_on;
-  failure = search rules;
-}
