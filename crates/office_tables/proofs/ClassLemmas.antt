@@ -21,7 +21,6 @@ use Rattle.sqlite_trees.specs.View.{is_int}
 use Rattle.sql_meaning.specs.Columns.{int_at, bytes_at}
 use Rattle.sql_meaning.proofs.Writing.{inserts, updates}
 use Rattle.sql_meaning.proofs.Scanning.{as_program, scan, shown_of}
-use Rattle.sql_meaning.proofs.Reading.{reads_same, reads_one, finds_part}
 use Rattle.sql_meaning.proofs.TextKeys.{has_text, by_text, each_passes, few_named}
 use Rattle.sql_meaning.proofs.Typed.{text_at, int_in, all_both}
 use Rattle.sql_meaning.proofs.Edits.{appended, decoded, counted, cast_null, cast_int, none_revised}
@@ -32,7 +31,9 @@ use Rattle.office_rows.specs.Rows.{Tables, ClassRow, is_class, class_named, with
 use Rattle.office_tables.specs.Tables.{IsOffice, Becomes, tables_of, class_in}
 use Rattle.office_tables.specs.Contents.{KeepsOnce}
 use Rattle.office_tables.proofs.Frames.{idle, becomes, leaves_once}
-use Rattle.office_tables.proofs.ClassTexts.{years_text, years_columns, asks_years, revise_text, revised_columns, revise_means, add_class_text, class_terms, add_class_means}
+use Rattle.office_tables.proofs.ClassTexts.{years_text, revise_text, revised_columns, add_class_text, class_meanings}
+use Rattle.office_tables.proofs.Columns.{all_given}
+use Rattle.office_tables.proofs.RowsRead.{finds_named}
 
 -- a stored class, as the rules of its table leave it
 abbrev pub IsClassRow : Row → Type 0
@@ -57,13 +58,7 @@ module _ (db : Database) (office : IsOffice db) (name : List ℕ) where
 pub finds_years : (old new : State) (name : List ℕ) (rows : List Row) → IsOffice old.now → Shown years_text (Text name ∷ []) old new rows
     → (new.now ≡ old.now) × (option_map (λ (c : ClassRow). c.years) (class_named name (tables_of old.now).classes) ≡ option_map (λ row. int_at row 0) (slice_get rows 0))
 finds_years old new name rows office h =
-    let params : Row = Text name ∷ [] in
-    let db = old.now.trees in
-    let is = reads_one office_schema years_text 4 (by_text 1) years_columns [] asks_years params old new office.whole.schema_is rows h (has_text 1 name)
-    (each_passes 1 name [] (db 4) (named old.now office name)) (few old.now office name) in (
-      reads_same office_schema years_text 4 (by_text 1) years_columns [] asks_years params old new office.whole.schema_is rows h,
-      finds_part (db 4) rows (has_text 1 name) (shown_of params years_columns) class_in (is_class name) (λ r. refl) is (λ (c : ClassRow). c.years) (λ row. int_at row 0) (λ r. refl),
-    )
+    finds_named old new rows office 1 class_meanings.asks_years name (named old.now office name) (few old.now office name) class_in (is_class name) (λ r. refl) (λ (c : ClassRow). c.years) (λ row. int_at row 0) (λ r. refl) h
 
 -- ---- a new class
 
@@ -74,14 +69,14 @@ adds_class old new name years count office h =
     let db = old.now.trees in
     let source : Row = Null ∷ Text name ∷ Int years ∷ [] in
     let edit = edit_of db class_table [] Chosen 0 (source ∷ []) in
-    let done = inserts add_class_text params old new office_schema office.whole.schema_is 3 class_table refl idle class_terms 3 add_class_means refl refl count h in
+    let done = inserts add_class_text params old new office_schema office.whole.schema_is 3 class_table refl idle (all_given 2) 3 class_meanings.add_class_means refl refl count h in
     let cast_is : cast_row class_table source ≡ Null ∷ Text name ∷ Int years ∷ [] = rw (cast_null, cast_int years) refl in
     let end = appended db class_table source (Text name ∷ Int years ∷ []) office.whole.shaped.1.1.1.0 cast_is in
     becomes old new edit count edit.news office (refl, (refl, tt)) done _ (ap (λ rows. record (tables_of old.now) { classes = rows }) (ap (map class_in) end ∙ map-append class_in (db 4) _))
 
 pub adds_class_once : (old new : State) (name : List ℕ) (years : ℤ) (count : ℕ) → IsOffice old.now → Executes add_class_text (Text name ∷ Int years ∷ []) old new (Ok count) → KeepsOnce old.now → KeepsOnce new.now
 adds_class_once old new name years count office h =
-    leaves_once old new _ count _ (inserts add_class_text (Text name ∷ Int years ∷ []) old new office_schema office.whole.schema_is 3 class_table refl idle class_terms 3 add_class_means refl refl count h)
+    leaves_once old new _ count _ (inserts add_class_text (Text name ∷ Int years ∷ []) old new office_schema office.whole.schema_is 3 class_table refl idle (all_given 2) 3 class_meanings.add_class_means refl refl count h)
 
 -- ---- other years
 
@@ -99,7 +94,7 @@ revises_class old new name years count office h =
     let keep = has_text 1 name in
     let set : Row → Row = λ r. rowid r ∷ Text (bytes_at r 1) ∷ Int years ∷ [] in
     let done = revises revise_text (Text name ∷ Int years ∷ []) old new office_schema office.whole.schema_is 3 class_table refl idle shaped (by_text 1) revised_columns
-    keep (each_passes 1 name (Int years ∷ []) (db 4) (named old.now office name)) revise_means set (few old.now office name)
+    keep (each_passes 1 name (Int years ∷ []) (db 4) (named old.now office name)) class_meanings.revise_means set (few old.now office name)
     (λ r there. (refl, cast_set years r (all_has IsClassRow (db 4) r (class_rows old.now office) there) (all_has _ (db 4) r shaped.1 there), refl)) count h in
     let edit = edit_of db class_table (ids_of done.answer) Given 1 done.answer in
     let set_is = decoded class_in keep set (is_class name) (λ c. record c { years = years }) (λ r. refl) (λ r. refl) (db 4) in (
@@ -109,7 +104,7 @@ revises_class old new name years count office h =
 
 pub revises_class_once : (old new : State) (name : List ℕ) (years : ℤ) (count : ℕ) → IsOffice old.now → Executes revise_text (Text name ∷ Int years ∷ []) old new (Ok count) → KeepsOnce old.now → KeepsOnce new.now
 revises_class_once old new name years count office h =
-    leaves_once old new _ count _ (updates revise_text (Text name ∷ Int years ∷ []) old new office_schema office.whole.schema_is 3 class_table refl idle (as_program (scan 4 (by_text 1) revised_columns [])) revise_means count h).2
+    leaves_once old new _ count _ (updates revise_text (Text name ∷ Int years ∷ []) old new office_schema office.whole.schema_is 3 class_table refl idle (as_program (scan 4 (by_text 1) revised_columns [])) class_meanings.revise_means count h).2
 
 -- where the UPDATE counted none, the INSERT is left to do; where it counted one, nothing is
 pub puts_class : (t : Tables) (name : List ℕ) (years : ℤ) (mid : Database) (count : ℕ) → Becomes mid (with_years name years t) → count ≡ (if list_any (is_class name) t.classes then 1 else 0)

@@ -17,8 +17,8 @@ use Rattle.sqlite_rules.specs.Lists.{Has}
 use Rattle.sql_meaning.specs.Columns.{bytes_at}
 use Rattle.sql_meaning.proofs.Writing.{inserts}
 use Rattle.sql_meaning.proofs.Scanning.{shown_of}
-use Rattle.sql_meaning.proofs.Reading.{reads_same, reads_one, finds_any}
-use Rattle.sql_meaning.proofs.TextKeys.{has_text, by_text, each_passes, few_named}
+use Rattle.sql_meaning.proofs.Reading.{finds_any}
+use Rattle.sql_meaning.proofs.TextKeys.{has_text, few_named}
 use Rattle.sql_meaning.proofs.Typed.{text_at, all_both}
 use Rattle.sql_meaning.proofs.Edits.{appended, cast_null}
 use Rattle.sql_meaning.proofs.Whole.{keeps_rule}
@@ -26,7 +26,9 @@ use Rattle.office_tables.specs.Schema.{office_schema, collection_table, needed}
 use Rattle.office_rows.specs.Rows.{has_collection, is_collection, with_new_collection}
 use Rattle.office_tables.specs.Tables.{IsOffice, Becomes, tables_of, collection_in}
 use Rattle.office_tables.proofs.Frames.{idle, becomes}
-use Rattle.office_tables.proofs.ClassTexts.{find_text, name_column, asks_collection, add_collection_text, collection_terms, add_collection_means}
+use Rattle.office_tables.proofs.ClassTexts.{find_text, add_collection_text, class_meanings}
+use Rattle.office_tables.proofs.Columns.{only, all_given}
+use Rattle.office_tables.proofs.RowsRead.{reads_named}
 
 pub collection_rows : (db : Database) → IsOffice db → AllByRecursion (λ r. column r 1 ≡ Text (bytes_at r 1)) (db.trees 6)
 collection_rows db office = all_both (λ r typed present. text_at office_schema db.trees collection_table r typed present 0 (needed (codes "name") kind.Text) refl refl refl refl refl)
@@ -46,13 +48,8 @@ some_there (x ∷ xs) = elim (cases_Bool (length (x ∷ xs) == 0)) [
 pub finds_collection : (old new : State) (name : List ℕ) (rows : List Row) → IsOffice old.now → Shown find_text (Text name ∷ []) old new rows
     → (new.now ≡ old.now) × (has_collection name (tables_of old.now) ≡ not (length rows == 0))
 finds_collection old new name rows office h =
-    let params : Row = Text name ∷ [] in
-    let db = old.now.trees in
-    let is = reads_one office_schema find_text 6 (by_text 1) name_column [] asks_collection params old new office.whole.schema_is rows h (has_text 1 name)
-    (each_passes 1 name [] (db 6) (collection_rows old.now office)) (few old.now office name) in (
-      reads_same office_schema find_text 6 (by_text 1) name_column [] asks_collection params old new office.whole.schema_is rows h,
-      finds_any (db 6) rows (has_text 1 name) (shown_of params name_column) collection_in (is_collection name) (λ r. refl) is ∙ some_there rows,
-    )
+    let read = reads_named old new rows office 1 class_meanings.asks_collection name (collection_rows old.now office) (few old.now office name) h in
+    (read.0, finds_any (old.now.trees 6) rows (has_text 1 name) (shown_of (Text name ∷ []) (only 1)) collection_in (is_collection name) (λ r. refl) read.1 ∙ some_there rows)
 
 pub adds_collection : (old new : State) (name : List ℕ) (count : ℕ) → IsOffice old.now → Executes add_collection_text (Text name ∷ []) old new (Ok count)
     → Becomes new.now (with_new_collection name (tables_of old.now))
@@ -61,7 +58,7 @@ adds_collection old new name count office h =
     let db = old.now.trees in
     let source : Row = Null ∷ Text name ∷ [] in
     let edit = edit_of db collection_table [] Chosen 0 (source ∷ []) in
-    let done = inserts add_collection_text params old new office_schema office.whole.schema_is 4 collection_table refl idle collection_terms 2 add_collection_means refl refl count h in
+    let done = inserts add_collection_text params old new office_schema office.whole.schema_is 4 collection_table refl idle (all_given 1) 2 class_meanings.add_collection_means refl refl count h in
     let cast_is : cast_row collection_table source ≡ Null ∷ Text name ∷ [] = rw cast_null refl in
     let end = appended db collection_table source (Text name ∷ []) office.whole.shaped.1.1.1.1.0 cast_is in
     becomes old new edit count edit.news office (refl, (refl, tt)) done _ (ap (λ rows. record (tables_of old.now) { collections = rows }) (ap (map collection_in) end ∙ map-append collection_in (db 6) _))

@@ -39,7 +39,7 @@ use Rattle.sqlite_trees.specs.declared.store.Shape.TheVariants as shape
 use Rattle.sql_meaning.specs.Columns.{int_at, bytes_at}
 use Rattle.sql_meaning.proofs.Writing.{Changes, inserts}
 use Rattle.sql_meaning.proofs.Scanning.{passes, shown_of, answer_sound, answer_complete}
-use Rattle.sql_meaning.proofs.Reading.{reads_same, reads_one, reads_scan, reads_rising, finds_part}
+use Rattle.sql_meaning.proofs.Reading.{reads_same, reads_scan, reads_rising, finds_part}
 use Rattle.sql_meaning.proofs.Limited.{reads_some}
 use Rattle.sql_meaning.proofs.Keys.{found_by, int_itself, same_int, same_blob}
 use Rattle.sql_meaning.proofs.RowidKeys.{by_number, has_number, each_numbered, few_numbered, one_numbered, rising}
@@ -53,7 +53,9 @@ use Rattle.office_tables.specs.Tables.{IsOffice, tables_of, contents_of, content
 use Rattle.office_tables.specs.Contents.{references_of, StandOnce, IsMarked, AreUsed, KeepsOnce, KeepsFiles, content_after, IsContentAdded, IsContentThere, IsNewContent, IsContentKept, IsFileAdded, IsMarkedPut, AreFilesDropped, AreUsedOr, IsTidied}
 use Rattle.office_tables.proofs.Frames.{idle, becomes, with_edit, contents_after, references_after, file_rows_after}
 use Rattle.office_tables.proofs.LastRow.{reads_last}
-use Rattle.office_tables.proofs.ContentTexts.{bytes_text, bytes_column, asks_bytes, by_likeness, alike_text, id_column, asks_alike, last_text, asks_last, contents_text, size_columns, asks_contents, by_content, users_text, deposit_column, asks_users, add_text, add_terms, add_means, remove_text, remove_means}
+use Rattle.office_tables.proofs.ContentTexts.{bytes_text, by_likeness, alike_text, last_text, contents_text, size_columns, by_content, users_text, add_text, add_terms, remove_text, content_meanings}
+use Rattle.office_tables.proofs.Columns.{only}
+use Rattle.office_tables.proofs.RowsRead.{reads_numbered}
 
 -- a stored content, as the rules of its table leave it
 abbrev IsContentRow : Row → Type 0
@@ -154,13 +156,8 @@ same_files cs ds rows alike = map_alike (file_in cs) (file_in ds) rows (λ r the
 pub finds_bytes : (old new : State) (id : ℤ) (rows : List Row) → IsOffice old.now → Shown bytes_text (Int id ∷ []) old new rows
     → (new.now ≡ old.now) × (option_map (λ (c : ContentRow). c.bytes) (content_numbered id (contents_of old.now)) ≡ option_map (λ row. bytes_at row 0) (slice_get rows 0))
 finds_bytes old new id rows office h =
-    let params : Row = Int id ∷ [] in
-    let stored = old.now.trees 13 in
-    let shaped = office.whole.shaped.1.1.1.1.1.1.1.1.0 in
-    let is = reads_one office_schema bytes_text 13 by_number bytes_column [] asks_bytes params old new office.whole.schema_is rows h (has_number id) (each_numbered id [] stored shaped) (few_numbered id stored shaped) in (
-      reads_same office_schema bytes_text 13 by_number bytes_column [] asks_bytes params old new office.whole.schema_is rows h,
-      finds_part stored rows (has_number id) (shown_of params bytes_column) content_in (is_content id) (λ r. refl) is (λ (c : ContentRow). c.bytes) (λ row. bytes_at row 0) (λ r. refl),
-    )
+    let read = reads_numbered old new rows office content_meanings.asks_bytes id office.whole.shaped.1.1.1.1.1.1.1.1.0 h in
+    (read.0, finds_part (old.now.trees 13) rows (has_number id) (shown_of (Int id ∷ []) (only 4)) content_in (is_content id) (λ r. refl) read.1 (λ (c : ContentRow). c.bytes) (λ row. bytes_at row 0) (λ r. refl))
 
 abbrev is_like : List ℕ → List ℕ → Row → Bool
 is_like mark bytes r = bytes_eq (bytes_at r 2) mark && bytes_eq (bytes_at r 4) bytes
@@ -181,19 +178,19 @@ finds_alike old new mark bytes rows office h =
     let params : Row = Blob mark ∷ Blob bytes ∷ [] in
     let db = old.now.trees in
     let each = each_like old.now office mark bytes in
-    let found = reads_scan office_schema alike_text 13 by_likeness id_column [] asks_alike params old new office.whole.schema_is rows h in (
-      reads_same office_schema alike_text 13 by_likeness id_column [] asks_alike params old new office.whole.schema_is rows h,
+    let found = reads_scan office_schema alike_text 13 by_likeness (only 0) [] content_meanings.asks_alike params old new office.whole.schema_is rows h in (
+      reads_same office_schema alike_text 13 by_likeness (only 0) [] content_meanings.asks_alike params old new office.whole.schema_is rows h,
       λ none. elim (cases_Bool (list_any (is_alike mark bytes) (contents_of old.now))) [
         | inl some ↦ absurd (
             let c = some_has (is_alike mark bytes) (contents_of old.now) some in
             let r = has_mapped content_in (db 13) c.0 c.1 in
             let keeps : is_like mark bytes r.0 ≡ true = ap (is_alike mark bytes) (sym r.2) ∙ c.2 in
-            let x = answer_complete db params 13 by_likeness id_column [] rows (is_like mark bytes) found each r.0 r.1 keeps in
-            subst (λ rs. Has rs (shown_of params id_column r.0)) none x)
+            let x = answer_complete db params 13 by_likeness (only 0) [] rows (is_like mark bytes) found each r.0 r.1 keeps in
+            subst (λ rs. Has rs (shown_of params (only 0) r.0)) none x)
         | inr isnt ↦ isnt
       ],
       λ x first.
-          let r = answer_sound db params 13 by_likeness id_column [] rows (is_like mark bytes) found each x (first_has rows x first) in
+          let r = answer_sound db params 13 by_likeness (only 0) [] rows (is_like mark bytes) found each x (first_has rows x first) in
           (content_in r.0, mapped_has content_in (db 13) r.0 r.1, ap (λ row. int_at row 0) r.3, r.2),
     )
   where
@@ -203,7 +200,7 @@ finds_alike old new mark bytes rows office h =
 
 pub finds_last : (old new : State) (rows : List Row) → IsOffice old.now → Shown last_text [] old new rows
     → (new.now ≡ old.now) × (last_number (λ (c : ContentRow). c.id) (contents_of old.now) ≡ option_map (λ row. int_at row 0) (slice_get rows 0))
-finds_last old new rows office h = reads_last 13 content_in (λ (c : ContentRow). c.id) (λ r. refl) office_schema last_text asks_last old new office.whole.schema_is office.whole.shaped.1.1.1.1.1.1.1.1.0.0 rows h
+finds_last old new rows office h = reads_last 13 content_in (λ (c : ContentRow). c.id) (λ r. refl) office_schema last_text content_meanings.asks_last old new office.whole.schema_is office.whole.shaped.1.1.1.1.1.1.1.1.0.0 rows h
 
 abbrev shown_size : Row → ℤ × ℤ
 shown_size row = (int_at row 0, int_at row 1)
@@ -213,11 +210,11 @@ pub lists_contents : (old new : State) (rows : List Row) → IsOffice old.now �
 lists_contents old new rows office h =
     let stored = old.now.trees 13 in
     let up = ascending_weaker _ _ (λ a b lower. rw lower refl) stored office.whole.shaped.1.1.1.1.1.1.1.1.0.0 in
-    let is = reads_rising office_schema contents_text 13 [] size_columns rising asks_contents [] old new office.whole.schema_is rows h (λ r. true) (all_from _ stored (λ r there. refl)) up in
+    let is = reads_rising office_schema contents_text 13 [] size_columns rising content_meanings.asks_contents [] old new office.whole.schema_is rows h (λ r. true) (all_from _ stored (λ r there. refl)) up in
     let whole : rows ≡ map (shown_of [] size_columns) stored = is ∙ ap (map (shown_of [] size_columns)) (filter_all (λ r. true) stored (λ r there. refl)) in
     let shows : map shown_size (map (shown_of [] size_columns) stored) ≡ map (λ r. (int_at r 0, int_at r 3)) stored = map-map shown_size (shown_of [] size_columns) stored in
     let typed : map (λ (c : ContentRow). (c.id, c.size)) (map content_in stored) ≡ map (λ r. (int_at r 0, int_at r 3)) stored = map-map (λ (c : ContentRow). (c.id, c.size)) content_in stored in (
-      reads_same office_schema contents_text 13 [] size_columns rising asks_contents [] old new office.whole.schema_is rows h,
+      reads_same office_schema contents_text 13 [] size_columns rising content_meanings.asks_contents [] old new office.whole.schema_is rows h,
       typed ∙ sym shows ∙ sym (ap (map shown_size) whole),
     )
 
@@ -231,7 +228,7 @@ passes_content id r it = and-true _ ∙ ap (λ v. is_true (binary (Compare Eq Bi
 pub finds_users : (old new : State) (id : ℤ) (rows : List Row) → IsOffice old.now → Shown users_text (Int id ∷ []) old new rows
     → (new.now ≡ old.now) × (list_any (refers_to id) (old.now.trees 10) ≡ list_any (λ r. true) rows)
 finds_users old new id rows office h =
-    reads_some office_schema users_text 10 by_content deposit_column asks_users (Int id ∷ []) old new office.whole.schema_is rows h (refers_to id)
+    reads_some office_schema users_text 10 by_content (only 1) content_meanings.asks_users (Int id ∷ []) old new office.whole.schema_is rows h (refers_to id)
     (all_from _ (old.now.trees 10) (λ r there. passes_content id r (all_has _ (old.now.trees 10) r (file_references old.now office) there)))
 
 -- ---- one content more
@@ -251,7 +248,7 @@ module _ (old new : State) (mark bytes : List ℕ) (count : ℕ) (office : IsOff
   added_edit = edit_of old.now.trees content_table [] Chosen 0 ((Null ∷ added_columns) ∷ [])
 
   added_change : Changes office_schema old new added_edit count added_edit.news
-  added_change = inserts add_text added_params old new office_schema office.whole.schema_is 8 content_table refl idle add_terms 5 add_means refl refl count h
+  added_change = inserts add_text added_params old new office_schema office.whole.schema_is 8 content_table refl idle add_terms 5 content_meanings.add_means refl refl count h
 
   added_cast : cast_row content_table (Null ∷ added_columns) ≡ Null ∷ added_columns
   added_cast = rw (cast_null, cast_int (pos (length bytes))) refl
@@ -293,8 +290,8 @@ pub removes_content : (old new : State) (id : ℤ) (count : ℕ) → IsOffice ol
 removes_content old new id count office h =
     let db = old.now.trees in
     let shaped = office.whole.shaped.1.1.1.1.1.1.1.1.0 in
-    let done = drops remove_text (Int id ∷ []) old new office_schema office.whole.schema_is 8 content_table refl idle shaped by_number id_column
-    (has_number id) (each_numbered id [] (db 13) shaped) remove_means (λ r. refl) count h in
+    let done = drops remove_text (Int id ∷ []) old new office_schema office.whole.schema_is 8 content_table refl idle shaped by_number (only 0)
+    (has_number id) (each_numbered id [] (db 13) shaped) content_meanings.remove_means (λ r. refl) count h in
     let edit = edit_of db content_table (ids_of done.answer) Given 0 [] in
     let cs = contents_of old.now in
     let fewer : contents_of (with_edit edit old.now) ≡ filter (λ c. not (is_content id c)) cs = ap (map content_in) done.made ∙ sym (filter-map (λ c. not (is_content id c)) content_in (db 13)) in

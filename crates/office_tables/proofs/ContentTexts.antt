@@ -16,18 +16,12 @@ use Rattle.sql_meaning.proofs.Limited.{AsksSome}
 use Rattle.sql_meaning.proofs.Writing.{Means}
 use Rattle.office_tables.proofs.LastRow.{AsksLast}
 use Rattle.office_tables.specs.Schema.{office_schema}
+use Rattle.office_tables.proofs.Columns.{only}
 
 -- ---- reads
 
 abbrev pub bytes_text : List ℕ
 bytes_text = codes "SELECT bytes FROM content WHERE id = ?1"
-
-abbrev pub bytes_column : List Term
-bytes_column = col 1 4 ∷ []
-
-pub asks_bytes : Asks office_schema bytes_text 13 by_number bytes_column []
-unfolding understood everything
-asks_bytes = record { names = codes "bytes" ∷ []; command = refl; unlisted = refl; plain = (refl, refl) }
 
 -- WHERE mark = ?1 AND bytes = ?2
 abbrev pub by_likeness : List Term
@@ -36,19 +30,8 @@ by_likeness = op2 (Compare Eq Binary) (col 1 2) (col 0 0) ∷ op2 (Compare Eq Bi
 abbrev pub alike_text : List ℕ
 alike_text = codes "SELECT id FROM content WHERE mark = ?1 AND bytes = ?2"
 
-abbrev pub id_column : List Term
-id_column = col 1 0 ∷ []
-
-pub asks_alike : Asks office_schema alike_text 13 by_likeness id_column []
-unfolding understood everything
-asks_alike = record { names = codes "id" ∷ []; command = refl; unlisted = refl; plain = (refl, refl) }
-
 abbrev pub last_text : List ℕ
 last_text = codes "SELECT id FROM content ORDER BY id DESC LIMIT 1"
-
-pub asks_last : AsksLast office_schema last_text 13
-unfolding understood everything
-asks_last = record { names = codes "id" ∷ []; command = refl; unlisted = refl; plain = (refl, refl) }
 
 abbrev pub contents_text : List ℕ
 contents_text = codes "SELECT id, size FROM content ORDER BY id"
@@ -56,23 +39,12 @@ contents_text = codes "SELECT id, size FROM content ORDER BY id"
 abbrev pub size_columns : List Term
 size_columns = col 1 0 ∷ col 1 3 ∷ []
 
-pub asks_contents : Asks office_schema contents_text 13 [] size_columns rising
-unfolding understood everything
-asks_contents = record { names = codes "id" ∷ codes "size" ∷ []; command = refl; unlisted = refl; plain = (refl, refl) }
-
 -- WHERE content = ?1
 abbrev pub by_content : List Term
 by_content = op2 (Compare Eq Binary) (col 1 3) (col 0 0) ∷ []
 
 abbrev pub users_text : List ℕ
 users_text = codes "SELECT deposit FROM file WHERE content = ?1 LIMIT 1"
-
-abbrev pub deposit_column : List Term
-deposit_column = col 1 1 ∷ []
-
-pub asks_users : AsksSome office_schema users_text 10 by_content deposit_column
-unfolding understood everything
-asks_users = record { names = codes "deposit" ∷ []; command = refl; unlisted = refl; plain = (refl, refl) }
 
 -- ---- writes
 
@@ -82,13 +54,28 @@ add_text = codes "INSERT INTO content (mark, size, bytes) VALUES (?1, ?2, ?3)"
 abbrev pub add_terms : List Term
 add_terms = lit Null ∷ lit Null ∷ col 0 0 ∷ col 0 1 ∷ col 0 2 ∷ []
 
-pub add_means : Means office_schema add_text (Insert 8 (Values add_terms 5))
-unfolding understood everything
-add_means = record { is = refl; plain = (refl, refl) }
-
 abbrev pub remove_text : List ℕ
 remove_text = codes "DELETE FROM content WHERE id = ?1"
 
-pub remove_means : Means office_schema remove_text (Delete 8 (as_program (scan 13 by_number id_column [])))
+-- ---- what each means
+
+pub record ContentMeanings : Type 0 where
+  pub asks_bytes : Asks office_schema bytes_text 13 by_number (only 4) []
+  pub asks_alike : Asks office_schema alike_text 13 by_likeness (only 0) []
+  pub asks_last : AsksLast office_schema last_text 13
+  pub asks_contents : Asks office_schema contents_text 13 [] size_columns rising
+  pub asks_users : AsksSome office_schema users_text 10 by_content (only 1)
+  pub add_means : Means office_schema add_text (Insert 8 (Values add_terms 5))
+  pub remove_means : Means office_schema remove_text (Delete 8 (as_program (scan 13 by_number (only 0) [])))
+
+pub content_meanings : ContentMeanings
 unfolding understood everything
-remove_means = record { is = refl; plain = (refl, refl) }
+content_meanings = record {
+  asks_bytes = record { names = codes "bytes" ∷ []; command = refl; unlisted = refl; plain = (refl, refl) };
+  asks_alike = record { names = codes "id" ∷ []; command = refl; unlisted = refl; plain = (refl, refl) };
+  asks_last = record { names = codes "id" ∷ []; command = refl; unlisted = refl; plain = (refl, refl) };
+  asks_contents = record { names = codes "id" ∷ codes "size" ∷ []; command = refl; unlisted = refl; plain = (refl, refl) };
+  asks_users = record { names = codes "deposit" ∷ []; command = refl; unlisted = refl; plain = (refl, refl) };
+  add_means = record { is = refl; plain = (refl, refl) };
+  remove_means = record { is = refl; plain = (refl, refl) };
+}

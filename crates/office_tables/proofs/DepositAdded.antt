@@ -4,7 +4,7 @@ use Rattle.std.specs.List.{AllByRecursion, list_any}
 use Rattle.std.proofs.lemmas.Bool.{and_parts}
 use Rattle.sqlite.specs.declared.types.Value.TheVariants.{Null, Int, Text}
 use Rattle.sqlite.specs.Order.{Row}
-use Rattle.sqlite.specs.Edit.{Edit, edit_of, with_rowid}
+use Rattle.sqlite.specs.Edit.{with_rowid}
 use Rattle.sqlite.specs.Rowids.TheVariants.{Chosen}
 use Rattle.sqlite.specs.Cast.{cast_row}
 use Rattle.sqlite.specs.State.{State, Executes}
@@ -26,12 +26,12 @@ use Rattle.office_tables.specs.Schema.{office_schema, deposit_table}
 use Rattle.office_rows.specs.Rows.{DepositRow, DueRow, put_by, with_deposit, is_deposit, deposit_numbered, has_accession, deposit_by, is_class, has_class, is_collection, has_collection}
 use Rattle.office_tables.specs.Tables.{IsOffice, Becomes, tables_of, deposit_in, due_in, class_in, collection_in}
 use Rattle.office_tables.specs.Deposits.{IsAdded}
-use Rattle.office_tables.proofs.Frames.{idle, becomes}
+use Rattle.office_tables.proofs.Frames.{idle, becomes, adding}
 use Rattle.office_tables.proofs.InOrder.{placed}
 use Rattle.office_tables.proofs.ClassLemmas.{IsClassRow, class_rows}
 use Rattle.office_tables.proofs.CollectionLemmas.{collection_rows}
 use Rattle.office_tables.proofs.DepositLemmas.{accessions}
-use Rattle.office_tables.proofs.DepositTexts.{put_text, put_terms, put_means}
+use Rattle.office_tables.proofs.DepositTexts.{put_text, put_terms, deposit_meanings}
 
 abbrev pub params_of : DepositRow → Row
 params_of d = Int d.number ∷ Text d.accession ∷ Text d.collection ∷ Text d.class ∷ Int d.closed ∷ Int d.deposited ∷ Int d.files ∷ Int d.bytes ∷ []
@@ -39,34 +39,31 @@ params_of d = Int d.number ∷ Text d.accession ∷ Text d.collection ∷ Text d
 abbrev stored_of : DepositRow → Row
 stored_of d = Null ∷ Text d.accession ∷ Text d.collection ∷ Text d.class ∷ Int d.closed ∷ Int d.deposited ∷ Int d.files ∷ Int d.bytes ∷ Null ∷ Null ∷ Int (pos 0) ∷ []
 
+abbrev row_of : DepositRow → Row
+row_of d = Int d.number ∷ stored_of d
+
 module _ (old new : State) (d : DepositRow) (kept : d.gone ≡ None) (count : ℕ) (office : IsOffice old.now) (h : Executes put_text (params_of d) old new (Ok count)) where
-  abbrev row : Row
-  row = Int d.number ∷ stored_of d
+  change : Changes office_schema old new (adding deposit_table (row_of d) old) count (adding deposit_table (row_of d) old).news
+  change = inserts put_text (params_of d) old new office_schema office.whole.schema_is 5 deposit_table refl idle put_terms 12 deposit_meanings.put_means refl refl count h
 
-  abbrev edit : Edit
-  edit = edit_of old.now.trees deposit_table [] Chosen 0 (row ∷ [])
-
-  change : Changes office_schema old new edit count edit.news
-  change = inserts put_text (params_of d) old new office_schema office.whole.schema_is 5 deposit_table refl idle put_terms 12 put_means refl refl count h
-
-  cast_is : cast_row deposit_table row ≡ row
+  cast_is : cast_row deposit_table (row_of d) ≡ (row_of d)
   cast_is = rw (cast_null, cast_int d.number, cast_int d.closed, cast_int d.deposited, cast_int d.files, cast_int d.bytes, cast_int (pos 0)) refl
 
   after : Becomes new.now (with_deposit d (tables_of old.now))
   after =
       let number : DepositRow → ℤ = λ e. e.number in
-      let is_d : deposit_in row ≡ d = ap (λ g. record d { gone = g }) (sym kept) in
-      let at_its_place = placed deposit_in number (λ r. refl) old new deposit_table row (stored_of d) d.number count edit.news office.whole.shaped.1.1.1.1.1.0 cast_is change in
-      let due_at_its_place = placed due_in (λ (e : DueRow). e.number) (λ r. refl) old new deposit_table row (stored_of d) d.number count edit.news office.whole.shaped.1.1.1.1.1.0 cast_is change in
-      becomes old new edit count edit.news office (refl, (refl, tt)) change _ (ap₂ (λ rows dues. record (tables_of old.now) { deposits = rows; dues = dues })
+      let is_d : deposit_in (row_of d) ≡ d = ap (λ g. record d { gone = g }) (sym kept) in
+      let at_its_place = placed deposit_in number (λ r. refl) old new deposit_table (row_of d) (stored_of d) d.number count (adding deposit_table (row_of d) old).news office.whole.shaped.1.1.1.1.1.0 cast_is change in
+      let due_at_its_place = placed due_in (λ (e : DueRow). e.number) (λ r. refl) old new deposit_table (row_of d) (stored_of d) d.number count (adding deposit_table (row_of d) old).news office.whole.shaped.1.1.1.1.1.0 cast_is change in
+      becomes old new (adding deposit_table (row_of d) old) count (adding deposit_table (row_of d) old).news office (refl, (refl, tt)) change _ (ap₂ (λ rows dues. record (tables_of old.now) { deposits = rows; dues = dues })
       (at_its_place ∙ ap (λ x. put_by number x (map deposit_in (old.now.trees 8))) is_d) due_at_its_place)
 
-  row_is : put office_schema Enforced old.now.trees new.now.trees deposit_table row change.applies ≡ row
+  row_is : put office_schema Enforced old.now.trees new.now.trees deposit_table (row_of d) change.applies ≡ (row_of d)
   row_is = ap (with_rowid Chosen (old.now.trees 8)) cast_is
 
   -- no deposit passes a test that two deposits of an office can't both pass, and the new one does
-  none_passes : (keep : Row → Bool) → keep row ≡ true → ((x y : Row) → Has (new.now.trees 8) x → Has (new.now.trees 8) y → keep x ≡ true → keep y ≡ true → x ≡ y) → filter keep (old.now.trees 8) ≡ []
-  none_passes keep is alike = none_before office_schema Enforced old.now.trees new.now.trees deposit_table row change.applies keep (ap keep row_is ∙ is) alike
+  none_passes : (keep : Row → Bool) → keep (row_of d) ≡ true → ((x y : Row) → Has (new.now.trees 8) x → Has (new.now.trees 8) y → keep x ≡ true → keep y ≡ true → x ≡ y) → filter keep (old.now.trees 8) ≡ []
+  none_passes keep is alike = none_before office_schema Enforced old.now.trees new.now.trees deposit_table (row_of d) change.applies keep (ap keep row_is ∙ is) alike
 
   number_was_new : deposit_numbered d.number (tables_of old.now).deposits ≡ None
   number_was_new =
@@ -80,25 +77,25 @@ module _ (old new : State) (d : DepositRow) (kept : d.gone ≡ None) (count : �
       found_by (has_accession d.accession) (has_text 2 d.accession) deposit_in (old.now.trees 8) (all_from _ (old.now.trees 8) (λ r there. refl)) ∙ ap (λ rs. option_map deposit_in (slice_get rs 0)) none
 
   -- the parents of the new row are there
-  was_there : Has (new.now.trees 8) row
-  was_there = subst (λ r. Has (new.now.trees 8) r) row_is (was_put office_schema Enforced old.now.trees new.now.trees deposit_table row change.applies)
+  was_there : Has (new.now.trees 8) (row_of d)
+  was_there = subst (λ r. Has (new.now.trees 8) r) row_is (was_put office_schema Enforced old.now.trees new.now.trees deposit_table (row_of d) change.applies)
 
-  held : (list_any (λ parent. agree plain (1 ∷ []) parent (3 ∷ []) row) (new.now.trees 6) ≡ true) × (list_any (λ parent. agree plain (1 ∷ []) parent (4 ∷ []) row) (new.now.trees 4) ≡ true)
+  held : (list_any (λ parent. agree plain (1 ∷ []) parent (3 ∷ []) (row_of d)) (new.now.trees 6) ≡ true) × (list_any (λ parent. agree plain (1 ∷ []) parent (4 ∷ []) (row_of d)) (new.now.trees 4) ≡ true)
   unfolding joined same_name
   held =
-      let each = all_has _ (new.now.trees 8) row (keeps_rule after.office.whole ForeignKey).1.1.1.1.1.0 was_there in
+      let each = all_has _ (new.now.trees 8) (row_of d) (keeps_rule after.office.whole ForeignKey).1.1.1.1.1.0 was_there in
       let two = and_parts _ _ each in
       (two.0, (and_parts _ _ two.1).0)
 
   collection_was_there : IsTrue (has_collection d.collection (tables_of old.now))
   collection_was_there =
-      let named = any_parent 1 3 d.collection row (new.now.trees 6) (collection_rows new.now after.office) refl in
+      let named = any_parent 1 3 d.collection (row_of d) (new.now.trees 6) (collection_rows new.now after.office) refl in
       sym (ap (λ t. has_collection d.collection t) after.are) ∙ any_mapped collection_in (has_text 1 d.collection) (is_collection d.collection) (λ r. refl) (new.now.trees 6) ∙ sym named ∙ held.0
 
   class_was_there : IsTrue (has_class d.class (tables_of old.now))
   class_was_there =
       let names : AllByRecursion (IsText 1) (new.now.trees 4) = all_from _ (new.now.trees 4) (λ r there. (all_has IsClassRow (new.now.trees 4) r (class_rows new.now after.office) there).0) in
-      let named = any_parent 1 4 d.class row (new.now.trees 4) names refl in
+      let named = any_parent 1 4 d.class (row_of d) (new.now.trees 4) names refl in
       sym (ap (λ t. has_class d.class t) after.are) ∙ any_mapped class_in (has_text 1 d.class) (is_class d.class) (λ r. refl) (new.now.trees 4) ∙ sym named ∙ held.1
 
   pub is_added : IsAdded d old.now new.now

@@ -16,14 +16,11 @@ use Rattle.sqlite_rules.specs.Lists.{Has}
 use Rattle.sqlite_rules.specs.Calls.{ids_of}
 use Rattle.sqlite_rules.proofs.ListLemmas.{all_has, all_from}
 use Rattle.sqlite_rules.proofs.TableLemmas.{int_is}
-use Rattle.sqlite_keyed.proofs.ListLemmas.{ascending_weaker, map-map}
-use Rattle.sqlite_catalog.proofs.ListFacts.{filter_all}
 use Rattle.sqlite_schema.specs.declared.schema.Constraint.TheVariants.{Datatype, NotNull, Unique}
 use Rattle.sql_meaning.specs.Columns.{int_at, bytes_at}
 use Rattle.sql_meaning.proofs.Scanning.{shown_of, finds_one}
-use Rattle.sql_meaning.proofs.Reading.{reads_same, reads_one, reads_rising}
-use Rattle.sql_meaning.proofs.TextKeys.{has_text, by_text, each_passes, few_named}
-use Rattle.sql_meaning.proofs.RowidKeys.{by_number, has_number, each_numbered, few_numbered, rising}
+use Rattle.sql_meaning.proofs.TextKeys.{has_text, few_named}
+use Rattle.sql_meaning.proofs.RowidKeys.{by_number, has_number, each_numbered, few_numbered}
 use Rattle.sql_meaning.proofs.Typed.{text_at, int_in, maybe_int_at as some_int_at, all_both}
 use Rattle.sql_meaning.proofs.Edits.{decoded, cast_null, cast_int}
 use Rattle.sql_meaning.proofs.Whole.{keeps_rule}
@@ -34,7 +31,9 @@ use Rattle.office_tables.specs.Tables.{IsOffice, Becomes, tables_of, deposit_in,
 use Rattle.office_tables.specs.Deposits.{shown_deposit}
 use Rattle.office_tables.proofs.Frames.{idle, becomes}
 use Rattle.office_tables.proofs.LastRow.{reads_last}
-use Rattle.office_tables.proofs.DepositTexts.{deposit_text, accession_text, deposits_text, last_text, asks_last, deposit_columns, asks_deposit, asks_accession, asks_deposits, gone_text, gone_columns, gone_means}
+use Rattle.office_tables.proofs.DepositTexts.{deposit_with, deposit_text, accession_text, deposits_text, last_text, deposit_columns, gone_text, deposit_meanings}
+use Rattle.sqlite.specs.Term.{col}
+use Rattle.office_tables.proofs.RowsRead.{reads_named, reads_numbered, lists_all}
 
 -- a stored deposit, as the rules of its table leave it
 abbrev pub IsDepositRow : Row → Type 0
@@ -62,14 +61,8 @@ deposit_rows db office = all_both (λ r t p. (
 pub finds_deposit : (old new : State) (n : ℤ) (rows : List Row) → IsOffice old.now → Shown deposit_text (Int n ∷ []) old new rows
     → (new.now ≡ old.now) × (deposit_numbered n (tables_of old.now).deposits ≡ option_map shown_deposit (slice_get rows 0))
 finds_deposit old new n rows office h =
-    let params : Row = Int n ∷ [] in
-    let stored = old.now.trees 8 in
-    let shaped = office.whole.shaped.1.1.1.1.1.0 in
-    let is = reads_one office_schema deposit_text 8 by_number deposit_columns [] asks_deposit params old new office.whole.schema_is rows h (has_number n)
-    (each_numbered n [] stored shaped) (few_numbered n stored shaped) in (
-      reads_same office_schema deposit_text 8 by_number deposit_columns [] asks_deposit params old new office.whole.schema_is rows h,
-      finds_one stored rows (has_number n) (shown_of params deposit_columns) deposit_in shown_deposit (is_deposit n) (λ r. refl) (λ r. refl) is,
-    )
+    let read = reads_numbered old new rows office deposit_meanings.asks_deposit n office.whole.shaped.1.1.1.1.1.0 h in
+    (read.0, finds_one (old.now.trees 8) rows (has_number n) (shown_of (Int n ∷ []) deposit_columns) deposit_in shown_deposit (is_deposit n) (λ r. refl) (λ r. refl) read.1)
 
 -- at most one deposit has the accession
 pub accessions : (db : Database) → IsOffice db → AllByRecursion (λ r. column r 2 ≡ Text (bytes_at r 2)) (db.trees 8)
@@ -82,34 +75,22 @@ few_accessions db office accession = few_named 2 (db.trees 8) office.whole.shape
 pub finds_accession : (old new : State) (accession : List ℕ) (rows : List Row) → IsOffice old.now → Shown accession_text (Text accession ∷ []) old new rows
     → (new.now ≡ old.now) × (deposit_by accession (tables_of old.now).deposits ≡ option_map shown_deposit (slice_get rows 0))
 finds_accession old new accession rows office h =
-    let params : Row = Text accession ∷ [] in
-    let stored = old.now.trees 8 in
-    let is = reads_one office_schema accession_text 8 (by_text 2) deposit_columns [] asks_accession params old new office.whole.schema_is rows h (has_text 2 accession)
-    (each_passes 2 accession [] stored (accessions old.now office)) (few_accessions old.now office accession) in (
-      reads_same office_schema accession_text 8 (by_text 2) deposit_columns [] asks_accession params old new office.whole.schema_is rows h,
-      finds_one stored rows (has_text 2 accession) (shown_of params deposit_columns) deposit_in shown_deposit (has_accession accession) (λ r. refl) (λ r. refl) is,
-    )
+    let read = reads_named old new rows office 2 deposit_meanings.asks_accession accession (accessions old.now office) (few_accessions old.now office accession) h in
+    (read.0, finds_one (old.now.trees 8) rows (has_text 2 accession) (shown_of (Text accession ∷ []) deposit_columns) deposit_in shown_deposit (has_accession accession) (λ r. refl) (λ r. refl) read.1)
 
 -- ---- every deposit, in the order of the numbers
 
 pub lists_deposits : (old new : State) (rows : List Row) → IsOffice old.now → Shown deposits_text [] old new rows
     → (new.now ≡ old.now) × ((tables_of old.now).deposits ≡ map shown_deposit rows)
 lists_deposits old new rows office h =
-    let stored = old.now.trees 8 in
-    let up = ascending_weaker _ _ (λ a b lower. rw lower refl) stored office.whole.shaped.1.1.1.1.1.0.0 in
-    let is = reads_rising office_schema deposits_text 8 [] deposit_columns rising asks_deposits [] old new office.whole.schema_is rows h (λ r. true) (all_from _ stored (λ r there. refl)) up in
-    let whole : rows ≡ map (shown_of [] deposit_columns) stored = is ∙ ap (map (shown_of [] deposit_columns)) (filter_all (λ r. true) stored (λ r there. refl)) in
-    let shows : map shown_deposit (map (shown_of [] deposit_columns) stored) ≡ map deposit_in stored = map-map shown_deposit (shown_of [] deposit_columns) stored in (
-      reads_same office_schema deposits_text 8 [] deposit_columns rising asks_deposits [] old new office.whole.schema_is rows h,
-      sym shows ∙ ap (map shown_deposit) (sym whole),
-    )
+    lists_all old new rows office deposit_meanings.asks_deposits office.whole.shaped.1.1.1.1.1.0 deposit_in shown_deposit (λ r. refl) h
 
 -- ---- the last number
 
 pub finds_last : (old new : State) (rows : List Row) → IsOffice old.now → Shown last_text [] old new rows
     → (new.now ≡ old.now) × (last_number (λ d. d.number) (tables_of old.now).deposits ≡ option_map (λ row. int_at row 0) (slice_get rows 0))
 finds_last old new rows office h =
-    reads_last 8 deposit_in (λ (d : DepositRow). d.number) (λ r. refl) office_schema last_text asks_last old new office.whole.schema_is office.whole.shaped.1.1.1.1.1.0.0 rows h
+    reads_last 8 deposit_in (λ (d : DepositRow). d.number) (λ r. refl) office_schema last_text deposit_meanings.asks_last old new office.whole.schema_is office.whole.shaped.1.1.1.1.1.0.0 rows h
 
 -- ---- the day when it was destroyed
 
@@ -130,7 +111,7 @@ pub keeps_int : (v : Value) → (v ≡ Null) ⊎ (v ≡ Int (id_in v)) → cast 
 keeps_int v (inl is) = subst (λ w. cast kind.Integer w ≡ w) (sym is) cast_null
 keeps_int v (inr is) = subst (λ w. cast kind.Integer w ≡ w) (sym is) (cast_int (id_in v))
 
-cast_gone : (n day : ℤ) (r : Row) → IsDepositRow r → IsTrue (is_int (rowid r)) → cast_row deposit_table (drop 1 (shown_of (Int n ∷ Int day ∷ []) gone_columns r)) ≡ set_gone day r
+cast_gone : (n day : ℤ) (r : Row) → IsDepositRow r → IsTrue (is_int (rowid r)) → cast_row deposit_table (drop 1 (shown_of (Int n ∷ Int day ∷ []) (deposit_with 9 (col 0 1)) r)) ≡ set_gone day r
 cast_gone n day r it whole =
     let id : rowid r ≡ Int (id_in (rowid r)) = int_is (rowid r) whole in
     let casts : cast kind.Integer (rowid r) ≡ rowid r = subst (λ v. cast kind.Integer v ≡ v) (sym id) (cast_int (id_in (rowid r))) in
@@ -141,8 +122,8 @@ pub marks_gone : (old new : State) (n day : ℤ) (count : ℕ) → IsOffice old.
 marks_gone old new n day count office h =
     let db = old.now.trees in
     let shaped = office.whole.shaped.1.1.1.1.1.0 in
-    let done = revises gone_text (Int n ∷ Int day ∷ []) old new office_schema office.whole.schema_is 5 deposit_table refl idle shaped by_number gone_columns
-    (has_number n) (each_numbered n (Int day ∷ []) (db 8) shaped) gone_means (set_gone day) (few_numbered n (db 8) shaped)
+    let done = revises gone_text (Int n ∷ Int day ∷ []) old new office_schema office.whole.schema_is 5 deposit_table refl idle shaped by_number (deposit_with 9 (col 0 1))
+    (has_number n) (each_numbered n (Int day ∷ []) (db 8) shaped) deposit_meanings.gone_means (set_gone day) (few_numbered n (db 8) shaped)
     (λ r there. (refl, cast_gone n day r (all_has IsDepositRow (db 8) r (deposit_rows old.now office) there) (all_has _ (db 8) r shaped.1 there), refl)) count h in
     let edit = edit_of db deposit_table (ids_of done.answer) Given 1 done.answer in
     let gone_is = decoded deposit_in (has_number n) (set_gone day) (is_deposit n) (λ d. record d { gone = Some day }) (λ r. refl) (λ r. refl) (db 8) in

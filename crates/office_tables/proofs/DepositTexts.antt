@@ -1,5 +1,5 @@
 -- What the statements on deposits mean under the schema of an office.
-use Rattle.std.proofs.Common.{ℕ, pos, List, [], ◌∷◌, codes, refl}
+use Rattle.std.proofs.Common.{ℕ, pos, List, [], ◌∷◌, ◌++◌, ◌+◌, take, drop, codes, refl}
 use Rattle.sqlite.specs.declared.types.Value.TheVariants.{Null, Int}
 use Rattle.sqlite.specs.Term.{Term, lit, col}
 use Rattle.sqlite.specs.Command.TheVariants.{Insert, Update}
@@ -31,18 +31,6 @@ deposit_columns = col 1 0 ∷ col 1 2 ∷ col 1 3 ∷ col 1 4 ∷ col 1 5 ∷ co
 abbrev deposit_names : List (List ℕ)
 deposit_names = codes "number" ∷ codes "accession" ∷ codes "collection" ∷ codes "class" ∷ codes "closed" ∷ codes "deposited" ∷ codes "files" ∷ codes "bytes" ∷ codes "gone" ∷ []
 
-pub asks_deposit : Asks office_schema deposit_text 8 by_number deposit_columns []
-unfolding understood everything
-asks_deposit = record { names = deposit_names; command = refl; unlisted = refl; plain = (refl, refl) }
-
-pub asks_accession : Asks office_schema accession_text 8 (by_text 2) deposit_columns []
-unfolding understood everything
-asks_accession = record { names = deposit_names; command = refl; unlisted = refl; plain = (refl, refl) }
-
-pub asks_deposits : Asks office_schema deposits_text 8 [] deposit_columns rising
-unfolding understood everything
-asks_deposits = record { names = deposit_names; command = refl; unlisted = refl; plain = (refl, refl) }
-
 -- ---- writes
 
 abbrev pub put_text : List ℕ
@@ -51,25 +39,37 @@ put_text = codes "INSERT INTO deposit (number, accession, collection, class, clo
 abbrev pub put_terms : List Term
 put_terms = col 0 0 ∷ lit Null ∷ col 0 1 ∷ col 0 2 ∷ col 0 3 ∷ col 0 4 ∷ col 0 5 ∷ col 0 6 ∷ col 0 7 ∷ lit Null ∷ lit Null ∷ lit (Int (pos 0)) ∷ []
 
-pub put_means : Means office_schema put_text (Insert 5 (Values put_terms 12))
-unfolding understood everything
-put_means = record { is = refl; plain = (refl, refl) }
+-- each column as it was, but for that one
+abbrev pub deposit_with : ℕ → Term → List Term
+deposit_with place term =
+    let all = col 1 0 ∷ lit Null ∷ col 1 2 ∷ col 1 3 ∷ col 1 4 ∷ col 1 5 ∷ col 1 6 ∷ col 1 7 ∷ col 1 8 ∷ col 1 9 ∷ col 1 10 ∷ col 1 11 ∷ [] in
+    col 1 0 ∷ (take place all ++ term ∷ drop (place + 1) all)
 
 abbrev pub gone_text : List ℕ
 gone_text = codes "UPDATE deposit SET gone = ?2 WHERE number = ?1"
-
-abbrev pub gone_columns : List Term
-gone_columns = col 1 0 ∷ col 1 0 ∷ lit Null ∷ col 1 2 ∷ col 1 3 ∷ col 1 4 ∷ col 1 5 ∷ col 1 6 ∷ col 1 7 ∷ col 1 8 ∷ col 0 1 ∷ col 1 10 ∷ col 1 11 ∷ []
-
-pub gone_means : Means office_schema gone_text (Update 5 (as_program (scan 8 by_number gone_columns [])))
-unfolding understood everything
-gone_means = record { is = refl; plain = (refl, refl) }
 
 -- ---- the last number
 
 abbrev pub last_text : List ℕ
 last_text = codes "SELECT number FROM deposit ORDER BY number DESC LIMIT 1"
 
-pub asks_last : AsksLast office_schema last_text 8
+-- ---- what each means
+
+pub record DepositMeanings : Type 0 where
+  pub asks_deposit : Asks office_schema deposit_text 8 by_number deposit_columns []
+  pub asks_accession : Asks office_schema accession_text 8 (by_text 2) deposit_columns []
+  pub asks_deposits : Asks office_schema deposits_text 8 [] deposit_columns rising
+  pub put_means : Means office_schema put_text (Insert 5 (Values put_terms 12))
+  pub gone_means : Means office_schema gone_text (Update 5 (as_program (scan 8 by_number (deposit_with 9 (col 0 1)) [])))
+  pub asks_last : AsksLast office_schema last_text 8
+
+pub deposit_meanings : DepositMeanings
 unfolding understood everything
-asks_last = record { names = codes "number" ∷ []; command = refl; unlisted = refl; plain = (refl, refl) }
+deposit_meanings = record {
+  asks_deposit = record { names = deposit_names; command = refl; unlisted = refl; plain = (refl, refl) };
+  asks_accession = record { names = deposit_names; command = refl; unlisted = refl; plain = (refl, refl) };
+  asks_deposits = record { names = deposit_names; command = refl; unlisted = refl; plain = (refl, refl) };
+  put_means = record { is = refl; plain = (refl, refl) };
+  gone_means = record { is = refl; plain = (refl, refl) };
+  asks_last = record { names = codes "number" ∷ []; command = refl; unlisted = refl; plain = (refl, refl) };
+}

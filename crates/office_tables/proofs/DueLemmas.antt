@@ -22,13 +22,12 @@ use Rattle.sqlite_rules.specs.Calls.{ids_of}
 use Rattle.sqlite_rules.proofs.ListLemmas.{all_has, all_from}
 use Rattle.sqlite_rules.proofs.TableLemmas.{int_is}
 use Rattle.sqlite_keyed.proofs.ListLemmas.{ascending_weaker, map-map, filter-map}
-use Rattle.sqlite_catalog.proofs.ListFacts.{filter_all}
 use Rattle.sql_meaning.specs.Columns.{int_at, bytes_at, maybe_int}
 use Rattle.sql_meaning.proofs.Keys.{same_int}
 use Rattle.sqlite.specs.Command.TheVariants.{Update}
 use Rattle.sql_meaning.proofs.Scanning.{scan, as_program, passes, shown_of, finds_one}
 use Rattle.sql_meaning.proofs.Writing.{Means}
-use Rattle.sql_meaning.proofs.Reading.{reads_same, reads_one, reads_rising}
+use Rattle.sql_meaning.proofs.Reading.{reads_same, reads_rising}
 use Rattle.sql_meaning.proofs.TextKeys.{IsText, has_text, by_text, each_passes}
 use Rattle.sql_meaning.proofs.RowidKeys.{by_number, has_number, each_numbered, few_numbered, rising}
 use Rattle.sql_meaning.proofs.Edits.{decoded, cast_null, cast_int}
@@ -36,12 +35,15 @@ use Rattle.sql_meaning.proofs.Changing.{revises}
 use Rattle.sql_meaning.proofs.ManyRows.{revises_all}
 use Rattle.office_tables.specs.Schema.{office_schema, deposit_table}
 use Rattle.office_rows.specs.Rows.{DepositRow, DueRow, is_due_of, due_numbered, with_due, with_holds, beside, more_holds, with_more_holds, with_more_holds_class, is_within, is_of_class, of_class, least_number, is_by, is_disposable}
-use Rattle.office_rows.specs.Told.{place_of, closing_of, due_places, class_closings}
+use Rattle.office_rows.specs.Told.{place_row, closing_of, due_places, class_closings}
 use Rattle.office_tables.specs.Dues.{shown_due, shown_beside, shown_place, shown_closing, FitMore}
 use Rattle.office_tables.specs.Tables.{IsOffice, Becomes, tables_of, deposit_in, due_in}
 use Rattle.office_tables.proofs.Frames.{idle, becomes}
 use Rattle.office_tables.proofs.DepositLemmas.{IsDepositRow, deposit_rows, kept_alike, keeps_int}
-use Rattle.office_tables.proofs.DueTexts.{class_rows_text, class_rows_columns, asks_class_rows, due_of_text, due_of_columns, asks_due_of, set_due_text, set_due_columns, set_due_means, clear_due_text, clear_due_columns, clear_due_means, set_holds_text, set_holds_columns, set_holds_means, add_holds_text, more_columns, add_holds_means, add_holds_class_text, add_holds_class_means, due_rows_text, is_due, due_rows_columns, asks_due_rows, beside_text, beside_columns, asks_beside}
+use Rattle.office_tables.proofs.DueTexts.{class_rows_text, class_rows_columns, due_of_text, due_of_columns, set_due_text, clear_due_text, set_holds_text, add_holds_text, more_columns, add_holds_class_text, due_rows_text, is_due, due_rows_columns, beside_text, due_meanings}
+use Rattle.office_tables.proofs.DepositTexts.{deposit_with}
+use Rattle.sqlite.specs.Term.{lit, col}
+use Rattle.office_tables.proofs.RowsRead.{reads_numbered, lists_all}
 
 -- ---- a stored deposit with other last columns
 
@@ -60,14 +62,8 @@ cast_last gone due holds r it whole is_gone is_due is_holds =
 pub finds_due : (old new : State) (n : ℤ) (rows : List Row) → IsOffice old.now → Shown due_of_text (Int n ∷ []) old new rows
     → (new.now ≡ old.now) × (due_numbered n (tables_of old.now).dues ≡ option_map shown_due (slice_get rows 0))
 finds_due old new n rows office h =
-    let params : Row = Int n ∷ [] in
-    let stored = old.now.trees 8 in
-    let shaped = office.whole.shaped.1.1.1.1.1.0 in
-    let is = reads_one office_schema due_of_text 8 by_number due_of_columns [] asks_due_of params old new office.whole.schema_is rows h (has_number n)
-    (each_numbered n [] stored shaped) (few_numbered n stored shaped) in (
-      reads_same office_schema due_of_text 8 by_number due_of_columns [] asks_due_of params old new office.whole.schema_is rows h,
-      finds_one stored rows (has_number n) (shown_of params due_of_columns) due_in shown_due (is_due_of n) (λ r. refl) (λ r. refl) is,
-    )
+    let read = reads_numbered old new rows office due_meanings.asks_due_of n office.whole.shaped.1.1.1.1.1.0 h in
+    (read.0, finds_one (old.now.trees 8) rows (has_number n) (shown_of (Int n ∷ []) due_of_columns) due_in shown_due (is_due_of n) (λ r. refl) (λ r. refl) read.1)
 
 pub sets_due : (old new : State) (n day : ℤ) (count : ℕ) → IsOffice old.now → Executes set_due_text (Int n ∷ Int day ∷ []) old new (Ok count)
     → Becomes new.now (with_due n (Some day) (tables_of old.now))
@@ -75,8 +71,8 @@ sets_due old new n day count office h =
     let db = old.now.trees in
     let shaped = office.whole.shaped.1.1.1.1.1.0 in
     let set : Row → Row = λ r. with_last (column r 9) (Int day) (Int (int_at r 11)) r in
-    let done = revises set_due_text (Int n ∷ Int day ∷ []) old new office_schema office.whole.schema_is 5 deposit_table refl idle shaped by_number set_due_columns
-    (has_number n) (each_numbered n (Int day ∷ []) (db 8) shaped) set_due_means set (few_numbered n (db 8) shaped)
+    let done = revises set_due_text (Int n ∷ Int day ∷ []) old new office_schema office.whole.schema_is 5 deposit_table refl idle shaped by_number (deposit_with 10 (col 0 1))
+    (has_number n) (each_numbered n (Int day ∷ []) (db 8) shaped) due_meanings.set_due_means set (few_numbered n (db 8) shaped)
     (λ r there.
     let it = all_has IsDepositRow (db 8) r (deposit_rows old.now office) there in (
       refl,
@@ -95,8 +91,8 @@ clears_due old new n count office h =
     let db = old.now.trees in
     let shaped = office.whole.shaped.1.1.1.1.1.0 in
     let set : Row → Row = λ r. with_last (column r 9) (Null) (Int (int_at r 11)) r in
-    let done = revises clear_due_text (Int n ∷ []) old new office_schema office.whole.schema_is 5 deposit_table refl idle shaped by_number clear_due_columns
-    (has_number n) (each_numbered n [] (db 8) shaped) clear_due_means set (few_numbered n (db 8) shaped)
+    let done = revises clear_due_text (Int n ∷ []) old new office_schema office.whole.schema_is 5 deposit_table refl idle shaped by_number (deposit_with 10 (lit Null))
+    (has_number n) (each_numbered n [] (db 8) shaped) due_meanings.clear_due_means set (few_numbered n (db 8) shaped)
     (λ r there.
     let it = all_has IsDepositRow (db 8) r (deposit_rows old.now office) there in (
       refl,
@@ -115,8 +111,8 @@ sets_holds old new n holds count office h =
     let db = old.now.trees in
     let shaped = office.whole.shaped.1.1.1.1.1.0 in
     let set : Row → Row = λ r. with_last (column r 9) (column r 10) (Int holds) r in
-    let done = revises set_holds_text (Int n ∷ Int holds ∷ []) old new office_schema office.whole.schema_is 5 deposit_table refl idle shaped by_number set_holds_columns
-    (has_number n) (each_numbered n (Int holds ∷ []) (db 8) shaped) set_holds_means set (few_numbered n (db 8) shaped)
+    let done = revises set_holds_text (Int n ∷ Int holds ∷ []) old new office_schema office.whole.schema_is 5 deposit_table refl idle shaped by_number (deposit_with 11 (col 0 1))
+    (has_number n) (each_numbered n (Int holds ∷ []) (db 8) shaped) due_meanings.set_holds_means set (few_numbered n (db 8) shaped)
     (λ r there.
     let it = all_has IsDepositRow (db 8) r (deposit_rows old.now office) there in
     (refl, cast_last (column r 9) (column r 10) (Int holds) r it (all_has _ (db 8) r shaped.1 there) (keeps_int (column r 9) it.9) (keeps_int (column r 10) it.7) (cast_int holds), refl)) count h in
@@ -175,11 +171,11 @@ module _ (text : List ℕ) (place : ℕ) (means : Means office_schema text (Upda
 
 pub adds_holds : (old new : State) (collection : List ℕ) (by : ℤ) (count : ℕ) → IsOffice old.now → FitMore by (tables_of old.now).dues → Executes add_holds_text (Text collection ∷ Int by ∷ []) old new (Ok count)
     → Becomes new.now (with_more_holds collection by (tables_of old.now))
-adds_holds old new collection = adds_to add_holds_text 3 add_holds_means (λ r it. it.1) (is_within collection) collection (λ r. refl) old new
+adds_holds old new collection = adds_to add_holds_text 3 due_meanings.add_holds_means (λ r it. it.1) (is_within collection) collection (λ r. refl) old new
 
 pub adds_holds_class : (old new : State) (class : List ℕ) (by : ℤ) (count : ℕ) → IsOffice old.now → FitMore by (tables_of old.now).dues → Executes add_holds_class_text (Text class ∷ Int by ∷ []) old new (Ok count)
     → Becomes new.now (with_more_holds_class class by (tables_of old.now))
-adds_holds_class old new class = adds_to add_holds_class_text 4 add_holds_class_means (λ r it. it.2) (is_of_class class) class (λ r. refl) old new
+adds_holds_class old new class = adds_to add_holds_class_text 4 due_meanings.add_holds_class_means (λ r it. it.2) (is_of_class class) class (λ r. refl) old new
 
 -- ---- what may be destroyed
 
@@ -230,14 +226,8 @@ beside_is (r ∷ rows) = ap (λ more. (deposit_in r, due_in r) ∷ more) (beside
 pub lists_beside : (old new : State) (rows : List Row) → IsOffice old.now → Shown beside_text [] old new rows
     → (new.now ≡ old.now) × (beside (tables_of old.now).deposits (tables_of old.now).dues ≡ map shown_beside rows)
 lists_beside old new rows office h =
-    let stored = old.now.trees 8 in
-    let up = ascending_weaker _ _ (λ a b lower. rw lower refl) stored office.whole.shaped.1.1.1.1.1.0.0 in
-    let is = reads_rising office_schema beside_text 8 [] beside_columns rising asks_beside [] old new office.whole.schema_is rows h (λ r. true) (all_from _ stored (λ r there. refl)) up in
-    let whole : rows ≡ map (shown_of [] beside_columns) stored = is ∙ ap (map (shown_of [] beside_columns)) (filter_all (λ r. true) stored (λ r there. refl)) in
-    let shows : map shown_beside (map (shown_of [] beside_columns) stored) ≡ map (λ r. (deposit_in r, due_in r)) stored = map-map shown_beside (shown_of [] beside_columns) stored in (
-      reads_same office_schema beside_text 8 [] beside_columns rising asks_beside [] old new office.whole.schema_is rows h,
-      beside_is stored ∙ sym shows ∙ ap (map shown_beside) (sym whole),
-    )
+    let read = lists_all old new rows office due_meanings.asks_beside office.whole.shaped.1.1.1.1.1.0 (λ r. (deposit_in r, due_in r)) shown_beside (λ r. refl) h in
+    (read.0, beside_is (old.now.trees 8) ∙ read.1)
 
 pub lists_due : (old new : State) (day : ℤ) (rows : List Row) → IsOffice old.now → Shown due_rows_text (Int day ∷ Int least_number ∷ []) old new rows
     → (new.now ≡ old.now) × (due_places day (tables_of old.now) ≡ map shown_place rows)
@@ -249,11 +239,11 @@ lists_due old new day rows office h =
     let keep : Row → Bool = λ r. is_disposable day (pair r) in
     let up = ascending_weaker _ _ (λ a b lower. rw lower refl) (db 8) office.whole.shaped.1.1.1.1.1.0.0 in
     let each = all_from (λ r. passes params is_due r ≡ keep r) (db 8) (λ r there. passes_due day r (all_has IsDepositRow (db 8) r typed there)) in
-    let is = reads_rising office_schema due_rows_text 8 is_due due_rows_columns rising asks_due_rows params old new office.whole.schema_is rows h keep each up in
-    let shows : map shown_place (map (shown_of params due_rows_columns) (filter keep (db 8))) ≡ map (λ r. place_of (pair r)) (filter keep (db 8)) = map-map shown_place (shown_of params due_rows_columns) (filter keep (db 8)) in
-    let places : due_places day (tables_of old.now) ≡ map (λ r. place_of (pair r)) (filter keep (db 8)) =
-    ap (λ ps. map place_of (filter (is_disposable day) ps)) (beside_is (db 8)) ∙ ap (map place_of) (filter-map (is_disposable day) pair (db 8)) ∙ map-map place_of pair (filter keep (db 8)) in (
-      reads_same office_schema due_rows_text 8 is_due due_rows_columns rising asks_due_rows params old new office.whole.schema_is rows h,
+    let is = reads_rising office_schema due_rows_text 8 is_due due_rows_columns rising due_meanings.asks_due_rows params old new office.whole.schema_is rows h keep each up in
+    let shows : map shown_place (map (shown_of params due_rows_columns) (filter keep (db 8))) ≡ map (λ r. place_row (pair r)) (filter keep (db 8)) = map-map shown_place (shown_of params due_rows_columns) (filter keep (db 8)) in
+    let places : due_places day (tables_of old.now) ≡ map (λ r. place_row (pair r)) (filter keep (db 8)) =
+    ap (λ ps. map place_row (filter (is_disposable day) ps)) (beside_is (db 8)) ∙ ap (map place_row) (filter-map (is_disposable day) pair (db 8)) ∙ map-map place_row pair (filter keep (db 8)) in (
+      reads_same office_schema due_rows_text 8 is_due due_rows_columns rising due_meanings.asks_due_rows params old new office.whole.schema_is rows h,
       places ∙ sym shows ∙ ap (map shown_place) (sym is),
     )
 
@@ -268,10 +258,10 @@ lists_class old new class rows office h =
     let keep : Row → Bool = has_text 4 class in
     let up = ascending_weaker _ _ (λ a b lower. rw lower refl) (db 8) office.whole.shaped.1.1.1.1.1.0.0 in
     let texts = all_from (λ r. column r 4 ≡ Text (bytes_at r 4)) (db 8) (λ r there. (all_has IsDepositRow (db 8) r typed there).2) in
-    let is = reads_rising office_schema class_rows_text 8 (by_text 4) class_rows_columns rising asks_class_rows params old new office.whole.schema_is rows h keep (each_passes 4 class [] (db 8) texts) up in
+    let is = reads_rising office_schema class_rows_text 8 (by_text 4) class_rows_columns rising due_meanings.asks_class_rows params old new office.whole.schema_is rows h keep (each_passes 4 class [] (db 8) texts) up in
     let shows : map shown_closing (map (shown_of params class_rows_columns) (filter keep (db 8))) ≡ map (λ r. closing_of (deposit_in r)) (filter keep (db 8)) = map-map shown_closing (shown_of params class_rows_columns) (filter keep (db 8)) in
     let found : map closing_of (of_class class (tables_of old.now)) ≡ map (λ r. closing_of (deposit_in r)) (filter keep (db 8)) =
     ap (map closing_of) (filter-map (is_of_class class) deposit_in (db 8)) ∙ map-map closing_of deposit_in (filter keep (db 8)) in (
-      reads_same office_schema class_rows_text 8 (by_text 4) class_rows_columns rising asks_class_rows params old new office.whole.schema_is rows h,
+      reads_same office_schema class_rows_text 8 (by_text 4) class_rows_columns rising due_meanings.asks_class_rows params old new office.whole.schema_is rows h,
       found ∙ sym shows ∙ ap (map shown_closing) (sym is),
     )

@@ -15,6 +15,7 @@ use Rattle.sql_meaning.proofs.RowidKeys.{by_number, rising}
 use Rattle.sql_meaning.proofs.TextKeys.{by_text}
 use Rattle.sql_meaning.proofs.Writing.{Means}
 use Rattle.office_tables.specs.Schema.{office_schema}
+use Rattle.office_tables.proofs.DepositTexts.{deposit_with}
 
 -- ---- the deposits of a class
 
@@ -24,10 +25,6 @@ class_rows_text = codes "SELECT number, closed FROM deposit WHERE class = ?1 ORD
 abbrev pub class_rows_columns : List Term
 class_rows_columns = col 1 0 ∷ col 1 5 ∷ []
 
-pub asks_class_rows : Asks office_schema class_rows_text 8 (by_text 4) class_rows_columns rising
-unfolding understood everything
-asks_class_rows = record { names = codes "number" ∷ codes "closed" ∷ []; command = refl; unlisted = refl; plain = (refl, refl) }
-
 -- ---- what is kept of one deposit
 
 abbrev pub due_of_text : List ℕ
@@ -36,39 +33,14 @@ due_of_text = codes "SELECT number, due, holds FROM deposit WHERE number = ?1"
 abbrev pub due_of_columns : List Term
 due_of_columns = col 1 0 ∷ col 1 10 ∷ col 1 11 ∷ []
 
-pub asks_due_of : Asks office_schema due_of_text 8 by_number due_of_columns []
-unfolding understood everything
-asks_due_of = record { names = codes "number" ∷ codes "due" ∷ codes "holds" ∷ []; command = refl; unlisted = refl; plain = (refl, refl) }
-
 abbrev pub set_due_text : List ℕ
 set_due_text = codes "UPDATE deposit SET due = ?2 WHERE number = ?1"
-
-abbrev pub set_due_columns : List Term
-set_due_columns = col 1 0 ∷ col 1 0 ∷ lit Null ∷ col 1 2 ∷ col 1 3 ∷ col 1 4 ∷ col 1 5 ∷ col 1 6 ∷ col 1 7 ∷ col 1 8 ∷ col 1 9 ∷ col 0 1 ∷ col 1 11 ∷ []
-
-pub set_due_means : Means office_schema set_due_text (Update 5 (as_program (scan 8 by_number set_due_columns [])))
-unfolding understood everything
-set_due_means = record { is = refl; plain = (refl, refl) }
 
 abbrev pub clear_due_text : List ℕ
 clear_due_text = codes "UPDATE deposit SET due = NULL WHERE number = ?1"
 
-abbrev pub clear_due_columns : List Term
-clear_due_columns = col 1 0 ∷ col 1 0 ∷ lit Null ∷ col 1 2 ∷ col 1 3 ∷ col 1 4 ∷ col 1 5 ∷ col 1 6 ∷ col 1 7 ∷ col 1 8 ∷ col 1 9 ∷ lit Null ∷ col 1 11 ∷ []
-
-pub clear_due_means : Means office_schema clear_due_text (Update 5 (as_program (scan 8 by_number clear_due_columns [])))
-unfolding understood everything
-clear_due_means = record { is = refl; plain = (refl, refl) }
-
 abbrev pub set_holds_text : List ℕ
 set_holds_text = codes "UPDATE deposit SET holds = ?2 WHERE number = ?1"
-
-abbrev pub set_holds_columns : List Term
-set_holds_columns = col 1 0 ∷ col 1 0 ∷ lit Null ∷ col 1 2 ∷ col 1 3 ∷ col 1 4 ∷ col 1 5 ∷ col 1 6 ∷ col 1 7 ∷ col 1 8 ∷ col 1 9 ∷ col 1 10 ∷ col 0 1 ∷ []
-
-pub set_holds_means : Means office_schema set_holds_text (Update 5 (as_program (scan 8 by_number set_holds_columns [])))
-unfolding understood everything
-set_holds_means = record { is = refl; plain = (refl, refl) }
 
 -- ---- every deposit with what is kept beside it
 
@@ -78,33 +50,16 @@ beside_text = codes "SELECT number, accession, collection, class, closed, deposi
 abbrev pub beside_columns : List Term
 beside_columns = col 1 0 ∷ col 1 2 ∷ col 1 3 ∷ col 1 4 ∷ col 1 5 ∷ col 1 6 ∷ col 1 7 ∷ col 1 8 ∷ col 1 9 ∷ col 1 10 ∷ col 1 11 ∷ []
 
-pub asks_beside : Asks office_schema beside_text 8 [] beside_columns rising
-unfolding understood everything
-asks_beside = record {
-  names = codes "number" ∷ codes "accession" ∷ codes "collection" ∷ codes "class" ∷ codes "closed" ∷ codes "deposited" ∷ codes "files" ∷ codes "bytes" ∷ codes "gone" ∷ codes "due" ∷ codes "holds" ∷ [];
-  command = refl;
-  unlisted = refl;
-  plain = (refl, refl);
-}
-
 -- ---- more holds over a collection, or over a class
 
 abbrev pub more_columns : List Term
-more_columns = col 1 0 ∷ col 1 0 ∷ lit Null ∷ col 1 2 ∷ col 1 3 ∷ col 1 4 ∷ col 1 5 ∷ col 1 6 ∷ col 1 7 ∷ col 1 8 ∷ col 1 9 ∷ col 1 10 ∷ op2 (Arith Add) (col 1 11) (col 0 1) ∷ []
+more_columns = deposit_with 11 (op2 (Arith Add) (col 1 11) (col 0 1))
 
 abbrev pub add_holds_text : List ℕ
 add_holds_text = codes "UPDATE deposit SET holds = holds + ?2 WHERE collection = ?1"
 
-pub add_holds_means : Means office_schema add_holds_text (Update 5 (as_program (scan 8 (by_text 3) more_columns [])))
-unfolding understood everything
-add_holds_means = record { is = refl; plain = (refl, refl) }
-
 abbrev pub add_holds_class_text : List ℕ
 add_holds_class_text = codes "UPDATE deposit SET holds = holds + ?2 WHERE class = ?1"
-
-pub add_holds_class_means : Means office_schema add_holds_class_text (Update 5 (as_program (scan 8 (by_text 4) more_columns [])))
-unfolding understood everything
-add_holds_class_means = record { is = refl; plain = (refl, refl) }
 
 -- ---- what may be destroyed
 
@@ -117,6 +72,29 @@ is_due = op2 (Is Binary) (col 1 9) (lit Null) ∷ op2 (Compare Eq Binary) (col 1
 abbrev pub due_rows_columns : List Term
 due_rows_columns = col 1 0 ∷ col 1 3 ∷ col 1 4 ∷ col 1 10 ∷ []
 
-pub asks_due_rows : Asks office_schema due_rows_text 8 is_due due_rows_columns rising
+-- ---- what each means
+
+pub record DueMeanings : Type 0 where
+  pub asks_class_rows : Asks office_schema class_rows_text 8 (by_text 4) class_rows_columns rising
+  pub asks_due_of : Asks office_schema due_of_text 8 by_number due_of_columns []
+  pub set_due_means : Means office_schema set_due_text (Update 5 (as_program (scan 8 by_number (deposit_with 10 (col 0 1)) [])))
+  pub clear_due_means : Means office_schema clear_due_text (Update 5 (as_program (scan 8 by_number (deposit_with 10 (lit Null)) [])))
+  pub set_holds_means : Means office_schema set_holds_text (Update 5 (as_program (scan 8 by_number (deposit_with 11 (col 0 1)) [])))
+  pub asks_beside : Asks office_schema beside_text 8 [] beside_columns rising
+  pub add_holds_means : Means office_schema add_holds_text (Update 5 (as_program (scan 8 (by_text 3) more_columns [])))
+  pub add_holds_class_means : Means office_schema add_holds_class_text (Update 5 (as_program (scan 8 (by_text 4) more_columns [])))
+  pub asks_due_rows : Asks office_schema due_rows_text 8 is_due due_rows_columns rising
+
+pub due_meanings : DueMeanings
 unfolding understood everything
-asks_due_rows = record { names = codes "number" ∷ codes "collection" ∷ codes "class" ∷ codes "due" ∷ []; command = refl; unlisted = refl; plain = (refl, refl) }
+due_meanings = record {
+  asks_class_rows = record { names = codes "number" ∷ codes "closed" ∷ []; command = refl; unlisted = refl; plain = (refl, refl) };
+  asks_due_of = record { names = codes "number" ∷ codes "due" ∷ codes "holds" ∷ []; command = refl; unlisted = refl; plain = (refl, refl) };
+  set_due_means = record { is = refl; plain = (refl, refl) };
+  clear_due_means = record { is = refl; plain = (refl, refl) };
+  set_holds_means = record { is = refl; plain = (refl, refl) };
+  asks_beside = record { names = codes "number" ∷ codes "accession" ∷ codes "collection" ∷ codes "class" ∷ codes "closed" ∷ codes "deposited" ∷ codes "files" ∷ codes "bytes" ∷ codes "gone" ∷ codes "due" ∷ codes "holds" ∷ []; command = refl; unlisted = refl; plain = (refl, refl) };
+  add_holds_means = record { is = refl; plain = (refl, refl) };
+  add_holds_class_means = record { is = refl; plain = (refl, refl) };
+  asks_due_rows = record { names = codes "number" ∷ codes "collection" ∷ codes "class" ∷ codes "due" ∷ []; command = refl; unlisted = refl; plain = (refl, refl) };
+}

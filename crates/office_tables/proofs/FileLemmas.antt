@@ -62,7 +62,8 @@ use Rattle.office_tables.specs.Tables.{IsOffice, Becomes, tables_of, contents_of
 use Rattle.office_tables.specs.Contents.{references_of, IsFileAdded, AreFilesDropped}
 use Rattle.office_tables.specs.Deposits.{shown_path, path_cmp, files_by_path}
 use Rattle.office_tables.proofs.Frames.{idle, becomes, with_edit, file_rows_after, contents_after, references_after}
-use Rattle.office_tables.proofs.FileTexts.{by_deposit, by_place, by_path, content_text, content_column, asks_content, paths_text, path_column, asks_paths, ids_text, asks_ids, put_text, put_terms, put_means, drop_text, rowid_column, drop_means}
+use Rattle.office_tables.proofs.FileTexts.{by_deposit, by_place, by_path, content_text, paths_text, ids_text, put_text, drop_text, file_meanings}
+use Rattle.office_tables.proofs.Columns.{only, all_given}
 
 -- a stored file, as the rules of its table leave it
 abbrev IsFileRow : Row → Type 0
@@ -130,10 +131,10 @@ finds_content old new n path rows office h =
     let params : Row = Int n ∷ Text path ∷ [] in
     let stored = old.now.trees 10 in
     let contents = contents_of old.now in
-    let is = reads_one office_schema content_text 10 by_place content_column [] asks_content params old new office.whole.schema_is rows h (has_place n path)
+    let is = reads_one office_schema content_text 10 by_place (only 3) [] file_meanings.asks_content params old new office.whole.schema_is rows h (has_place n path)
     (each_at old.now office n path) (few_files old.now office n path) in (
-      reads_same office_schema content_text 10 by_place content_column [] asks_content params old new office.whole.schema_is rows h,
-      finds_part stored rows (has_place n path) (shown_of params content_column) (file_in contents) (is_file_at n path) (λ r. refl) is (λ (f : FileRow). f.content) (content_under contents) (λ r. refl),
+      reads_same office_schema content_text 10 by_place (only 3) [] file_meanings.asks_content params old new office.whole.schema_is rows h,
+      finds_part stored rows (has_place n path) (shown_of params (only 3)) (file_in contents) (is_file_at n path) (λ r. refl) is (λ (f : FileRow). f.content) (content_under contents) (λ r. refl),
     )
 
 -- the numbers of the contents of a deposit's files
@@ -142,9 +143,9 @@ pub finds_contents : (old new : State) (n : ℤ) (rows : List Row) → IsOffice 
 finds_contents old new n rows office h =
     let params : Row = Int n ∷ [] in
     let db = old.now.trees in
-    let found = reads_scan office_schema ids_text 10 by_deposit content_column [] asks_ids params old new office.whole.schema_is rows h in (
-      reads_same office_schema ids_text 10 by_deposit content_column [] asks_ids params old new office.whole.schema_is rows h,
-      λ r there keeps. mapped_has (λ row. int_at row 0) rows _ (answer_complete db params 10 by_deposit content_column [] rows (has_deposit n) found (each_of old.now office n) r there keeps),
+    let found = reads_scan office_schema ids_text 10 by_deposit (only 3) [] file_meanings.asks_ids params old new office.whole.schema_is rows h in (
+      reads_same office_schema ids_text 10 by_deposit (only 3) [] file_meanings.asks_ids params old new office.whole.schema_is rows h,
+      λ r there keeps. mapped_has (λ row. int_at row 0) rows _ (answer_complete db params 10 by_deposit (only 3) [] rows (has_deposit n) found (each_of old.now office n) r there keeps),
     )
 
 -- ---- a new file
@@ -157,7 +158,7 @@ module _ (old new : State) (n : ℤ) (path : List ℕ) (id : ℤ) (count : ℕ) 
   put_edit = edit_of old.now.trees file_table [] Chosen 0 ((Null ∷ put_columns) ∷ [])
 
   put_change : Changes office_schema old new put_edit count put_edit.news
-  put_change = inserts put_text put_columns old new office_schema office.whole.schema_is 6 file_table refl idle put_terms 4 put_means refl refl count h
+  put_change = inserts put_text put_columns old new office_schema office.whole.schema_is 6 file_table refl idle (all_given 3) 4 file_meanings.put_means refl refl count h
 
   put_cast : cast_row file_table (Null ∷ put_columns) ≡ Null ∷ put_columns
   put_cast = rw (cast_null, cast_int n, cast_int id) refl
@@ -192,8 +193,8 @@ module _ (old new : State) (n : ℤ) (path : List ℕ) (id : ℤ) (count : ℕ) 
 pub drops_files : (old new : State) (n : ℤ) (count : ℕ) → IsOffice old.now → Executes drop_text (Int n ∷ []) old new (Ok count) → AreFilesDropped n old.now new.now
 drops_files old new n count office h =
     let db = old.now.trees in
-    let done = drops drop_text (Int n ∷ []) old new office_schema office.whole.schema_is 6 file_table refl idle office.whole.shaped.1.1.1.1.1.1.0 by_deposit rowid_column
-    (has_deposit n) (each_of old.now office n) drop_means (λ r. refl) count h in
+    let done = drops drop_text (Int n ∷ []) old new office_schema office.whole.schema_is 6 file_table refl idle office.whole.shaped.1.1.1.1.1.1.0 by_deposit (only 0)
+    (has_deposit n) (each_of old.now office n) file_meanings.drop_means (λ r. refl) count h in
     let edit = edit_of db file_table (ids_of done.answer) Given 0 [] in
     let decode = file_in (contents_of old.now) in
     let others_stay = sym (filter-map (λ f. not (is_file_of n f)) decode (db 10)) in
@@ -228,13 +229,13 @@ shown_by o = shown_path o.1
 abbrev IsByPath : Row × Row → Type 0
 IsByPath o = column o.0 0 ≡ Text (shown_by o)
 
-sorted_paths : (os : List (Row × Row)) → AllByRecursion IsByPath os → IsSorted (output_cmp (scan 10 by_deposit path_column by_path)) os → IsSorted text_cmp (map shown_by os)
+sorted_paths : (os : List (Row × Row)) → AllByRecursion IsByPath os → IsSorted (output_cmp (scan 10 by_deposit (only 2) by_path)) os → IsSorted text_cmp (map shown_by os)
 sorted_paths os typed up = sorted_map (λ k d low high.
     let a = slice_index_or os (k + 1) d in
     let b = slice_index_or os k d in
     let ta : IsByPath a = All-from_recursion IsByPath os typed (k + 1) d (omega arith) in
     let tb : IsByPath b = All-from_recursion IsByPath os typed k d (omega arith) in
-    let same : output_cmp (scan 10 by_deposit path_column by_path) a b ≡ text_cmp (shown_by a) (shown_by b) =
+    let same : output_cmp (scan 10 by_deposit (only 2) by_path) a b ≡ text_cmp (shown_by a) (shown_by b) =
     then-Equal (value_cmp (column a.0 0) (column b.0 0)) ∙ subst₂ (λ v w. value_cmp v w ≡ text_cmp (shown_by a) (shown_by b)) (sym ta) (sym tb) (value_cmp-Text (shown_by a) (shown_by b)) in
     subst (λ o. is_lt o ≡ false) same (up k d low high))
   where
@@ -266,8 +267,8 @@ pub lists_paths : (old new : State) (n : ℤ) (rows : List Row) → IsOffice old
 lists_paths old new n rows office h =
     let params : Row = Int n ∷ [] in
     let db = old.now.trees in
-    let q = scan 10 by_deposit path_column by_path in
-    let found = reads_scan office_schema paths_text 10 by_deposit path_column by_path asks_paths params old new office.whole.schema_is rows h in
+    let q = scan 10 by_deposit (only 2) by_path in
+    let found = reads_scan office_schema paths_text 10 by_deposit (only 2) by_path file_meanings.asks_paths params old new office.whole.schema_is rows h in
     let typed = file_rows old.now office in
     let keep = has_deposit n in
     let kept = filter keep (db 10) in
@@ -289,7 +290,7 @@ lists_paths old new n rows office h =
     let paths_are : map (λ (f : FileRow). f.path) files ≡ map path_in kept = ap (map (λ (f : FileRow). f.path)) (filter-map (is_file_of n) decode (db 10)) ∙ map-map (λ (f : FileRow). f.path) decode kept in
     let in_order : map (λ (f : FileRow). f.path) (sort_by path_cmp files) ≡ sort_by text_cmp (map path_in kept) = sym (sort_by-map text_cmp (λ (f : FileRow). f.path) files) ∙ ap (sort_by text_cmp) paths_are in
     let rows_are : map shown_path rows ≡ map shown_by found.ordered = ap (map shown_path) found.shown ∙ map-map shown_path (λ (o : Row × Row). o.1) found.ordered in (
-      reads_same office_schema paths_text 10 by_deposit path_column by_path asks_paths params old new office.whole.schema_is rows h,
+      reads_same office_schema paths_text 10 by_deposit (only 2) by_path file_meanings.asks_paths params old new office.whole.schema_is rows h,
       in_order ∙ sym sorted_is ∙ sym rows_are,
     )
 

@@ -1,9 +1,11 @@
 -- A change of one table leaves an office, and the rows of the other tables.
-use Rattle.std.proofs.Common.{◌≡◌, ℕ, ◌==◌, length, List, [], map, false, refl, sym, ap, subst₂, ◌∙◌, inl, inr}
+use Rattle.std.proofs.Common.{◌≡◌, ℕ, ◌==◌, length, List, [], ◌∷◌, map, false, refl, sym, ap, subst₂, ◌∙◌, inl, inr}
 use Rattle.std.specs.List.{AllByRecursion}
 use Rattle.std.proofs.lemmas.Bool.{cases_Bool}
 use Rattle.sqlite.specs.Order.{Row}
-use Rattle.sqlite.specs.Edit.{Edit, edited}
+use Rattle.sqlite.specs.Edit.{Edit, edit_of, edited}
+use Rattle.sqlite.specs.Rowids.TheVariants.{Chosen}
+use Rattle.sqlite.specs.Table.{Table}
 use Rattle.sqlite.specs.Effect.{Database}
 use Rattle.sqlite.specs.Tree.{Trees}
 use Rattle.sqlite.specs.State.{State}
@@ -24,6 +26,10 @@ idle tree olds news = elim (cases_Bool (length news == 0)) [ inl is ↦ rw is re
 same_tables : (a b : Database) → AllByRecursion (λ t. a.trees t.tree ≡ b.trees t.tree) all_tables → tables_of a ≡ tables_of b
 same_tables a b is =
     rw (is.0, is.1.0, is.1.1.1.0, is.1.1.1.1.0, is.1.1.1.1.1.0, is.1.1.1.1.1.1.0, is.1.1.1.1.1.1.1.1.0, is.1.1.1.1.1.1.1.1.1.0, is.1.1.1.1.1.1.1.1.1.1.0) refl
+
+-- the edit that adds the row to the table
+abbrev pub adding : Table → Row → State → Edit
+adding table row old = edit_of old.now.trees table [] Chosen 0 (row ∷ [])
 
 -- the database with the rows of the edit in its table
 abbrev pub with_edit : Edit → Database → Database

@@ -13,7 +13,7 @@ use Rattle.sqlite.specs.declared.types.Value.{Value}
 use Rattle.sqlite.specs.declared.types.Value.TheVariants.{Null, Int, Text}
 use Rattle.sqlite.specs.Order.{Row, column, bytes, value_cmp}
 use Rattle.sqlite.specs.Values.{or_null, bound_value}
-use Rattle.sqlite.specs.Edit.{Edit, id_in, edit_of, with_rowid}
+use Rattle.sqlite.specs.Edit.{id_in, edit_of, with_rowid}
 use Rattle.sqlite.specs.Rowids.TheVariants.{Chosen, Given}
 use Rattle.sqlite.specs.Tree.{rowid, IsAscending}
 use Rattle.sqlite.specs.Term.{Term}
@@ -42,7 +42,7 @@ use Rattle.sql_meaning.proofs.Writing.{Changes, inserts}
 use Rattle.sql_meaning.proofs.Inserts.{none_before}
 use Rattle.sqlite_schema.specs.declared.schema.Keys.TheVariants.{Enforced}
 use Rattle.sql_meaning.proofs.Scanning.{passes, shown_of, finds_one}
-use Rattle.sql_meaning.proofs.Reading.{Asks, reads_same, reads_one, reads_rising}
+use Rattle.sql_meaning.proofs.Reading.{Asks, reads_same, reads_rising}
 use Rattle.sql_meaning.proofs.RowidKeys.{by_number, has_number, each_numbered, few_numbered, one_numbered, rising}
 use Rattle.sql_meaning.proofs.Typed.{text_at, int_in, maybe_int_at as some_int_at, maybe_text_at as some_text_at, all_both}
 use Rattle.sql_meaning.proofs.Edits.{decoded, cast_null, cast_int}
@@ -52,10 +52,12 @@ use Rattle.office_tables.specs.Schema.{office_schema, hold_4_table, needed, opti
 use Rattle.office_rows.specs.Rows.{HoldRow, put_by, is_hold, hold_numbered, last_number, with_hold, with_released, is_live, holds_deposit, holds_collection, holds_class, is_live_on, is_live_within, is_live_of_class, is_live_over, live_holds}
 use Rattle.office_tables.specs.Tables.{IsOffice, Becomes, tables_of, hold_in}
 use Rattle.office_tables.specs.ShownHolds.{shown_hold}
-use Rattle.office_tables.proofs.Frames.{idle, becomes, AreOthers}
+use Rattle.office_tables.proofs.Frames.{idle, becomes, AreOthers, adding}
 use Rattle.office_tables.proofs.InOrder.{placed}
 use Rattle.office_tables.proofs.LastRow.{reads_last}
-use Rattle.office_tables.proofs.HoldTexts.{hold_text, hold_columns, asks_hold, last_text, asks_last, put_text, hold_terms, put_means, end_text, ended_columns, end_means, number_column, on_text, on, asks_on, within_text, within, asks_within, of_class_text, of_class, asks_of_class}
+use Rattle.office_tables.proofs.HoldTexts.{hold_text, hold_columns, last_text, put_text, hold_terms, end_text, ended_columns, on_text, on, within_text, within, of_class_text, of_class, hold_meanings}
+use Rattle.office_tables.proofs.Columns.{only}
+use Rattle.office_tables.proofs.RowsRead.{reads_numbered}
 
 -- the rows of the holds ascend by number
 shaped_holds : (db : Database) → IsOffice db → IsShaped shape.Table (db.trees 19)
@@ -70,19 +72,13 @@ others = (refl, (refl, tt))
 pub finds_hold : (old new : State) (k : ℤ) (rows : List Row) → IsOffice old.now → Shown hold_text (Int k ∷ []) old new rows
     → (new.now ≡ old.now) × (hold_numbered k (tables_of old.now).holds ≡ option_map shown_hold (slice_get rows 0))
 finds_hold old new k rows office h =
-    let params : Row = Int k ∷ [] in
-    let stored = old.now.trees 19 in
-    let shaped = shaped_holds old.now office in
-    let is = reads_one office_schema hold_text 19 by_number hold_columns [] asks_hold params old new office.whole.schema_is rows h (has_number k)
-    (each_numbered k [] stored shaped) (few_numbered k stored shaped) in (
-      reads_same office_schema hold_text 19 by_number hold_columns [] asks_hold params old new office.whole.schema_is rows h,
-      finds_one stored rows (has_number k) (shown_of params hold_columns) hold_in shown_hold (is_hold k) (λ r. refl) (λ r. refl) is,
-    )
+    let read = reads_numbered old new rows office hold_meanings.asks_hold k (shaped_holds old.now office) h in
+    (read.0, finds_one (old.now.trees 19) rows (has_number k) (shown_of (Int k ∷ []) hold_columns) hold_in shown_hold (is_hold k) (λ r. refl) (λ r. refl) read.1)
 
 pub finds_last : (old new : State) (rows : List Row) → IsOffice old.now → Shown last_text [] old new rows
     → (new.now ≡ old.now) × (last_number (λ (h : HoldRow). h.number) (tables_of old.now).holds ≡ option_map (λ row. int_at row 0) (slice_get rows 0))
 finds_last old new rows office h =
-    reads_last 19 hold_in (λ (h : HoldRow). h.number) (λ r. refl) office_schema last_text asks_last old new office.whole.schema_is (shaped_holds old.now office).0 rows h
+    reads_last 19 hold_in (λ (h : HoldRow). h.number) (λ r. refl) office_schema last_text hold_meanings.asks_last old new office.whole.schema_is (shaped_holds old.now office).0 rows h
 
 -- ---- a new hold
 
@@ -91,6 +87,9 @@ params_of h = Int h.number ∷ or_null Int h.deposit ∷ or_null Text h.collecti
 
 abbrev stored_of : HoldRow → Row
 stored_of h = Null ∷ or_null Int h.deposit ∷ or_null Text h.collection ∷ or_null Text h.class ∷ Text h.matter ∷ Int h.placed ∷ Null ∷ []
+
+abbrev row_of : HoldRow → Row
+row_of h = Int h.number ∷ stored_of h
 
 cast_maybe : (n : Option ℤ) → cast kind.Integer (or_null Int n) ≡ or_null Int n
 cast_maybe None = cast_null
@@ -118,32 +117,26 @@ bound_text None = refl
 bound_text (Some t) = refl
 
 module _ (old new : State) (hold : HoldRow) (live : hold.released ≡ None) (count : ℕ) (office : IsOffice old.now) (h : Executes put_text (params_of hold) old new (Ok count)) where
-  abbrev put_hold : Row
-  put_hold = Int hold.number ∷ stored_of hold
+  put_change : Changes office_schema old new (adding hold_4_table (row_of hold) old) count (adding hold_4_table (row_of hold) old).news
+  put_change = inserts put_text (params_of hold) old new office_schema office.whole.schema_is 9 hold_4_table refl idle hold_terms 8 hold_meanings.put_means refl refl count h
 
-  abbrev put_edit : Edit
-  put_edit = edit_of old.now.trees hold_4_table [] Chosen 0 (put_hold ∷ [])
-
-  put_change : Changes office_schema old new put_edit count put_edit.news
-  put_change = inserts put_text (params_of hold) old new office_schema office.whole.schema_is 9 hold_4_table refl idle hold_terms 8 put_means refl refl count h
-
-  put_cast : cast_row hold_4_table put_hold ≡ put_hold
+  put_cast : cast_row hold_4_table (row_of hold) ≡ (row_of hold)
   put_cast = rw (cast_null, cast_int hold.number, cast_maybe hold.deposit, cast_text hold.collection, cast_text hold.class, cast_int hold.placed) refl
 
   pub puts_hold : Becomes new.now (with_hold hold (tables_of old.now))
   puts_hold =
       let number : HoldRow → ℤ = λ g. g.number in
-      let is_it : hold_in put_hold ≡ hold = rw (maybe_back hold.deposit [], text_back hold.collection [], text_back hold.class [], live) refl in
-      let at_its_place = placed hold_in number (λ r. refl) old new hold_4_table put_hold (stored_of hold) hold.number count put_edit.news (shaped_holds old.now office) put_cast put_change in
-      becomes old new put_edit count put_edit.news office others put_change _ (ap (λ rows. record (tables_of old.now) { holds = rows }) (at_its_place ∙ ap (λ x. put_by number x (map hold_in (old.now.trees 19))) is_it))
+      let is_it : hold_in (row_of hold) ≡ hold = rw (maybe_back hold.deposit [], text_back hold.collection [], text_back hold.class [], live) refl in
+      let at_its_place = placed hold_in number (λ r. refl) old new hold_4_table (row_of hold) (stored_of hold) hold.number count (adding hold_4_table (row_of hold) old).news (shaped_holds old.now office) put_cast put_change in
+      becomes old new (adding hold_4_table (row_of hold) old) count (adding hold_4_table (row_of hold) old).news office others put_change _ (ap (λ rows. record (tables_of old.now) { holds = rows }) (at_its_place ∙ ap (λ x. put_by number x (map hold_in (old.now.trees 19))) is_it))
 
   -- so there was no hold of its number
   pub hold_was_new : hold_numbered hold.number (tables_of old.now).holds ≡ None
   hold_was_new =
       let n = hold.number in
       let stored = old.now.trees 19 in
-      let is_there : has_number n (with_rowid Chosen stored (cast_row hold_4_table put_hold)) ≡ true = ap (λ r. has_number n (with_rowid Chosen stored r)) put_cast ∙ int_itself n in
-      let none = none_before office_schema Enforced old.now.trees new.now.trees hold_4_table put_hold put_change.applies (has_number n) is_there (one_numbered (new.now.trees 19) (shaped_holds new.now puts_hold.office) n) in
+      let is_there : has_number n (with_rowid Chosen stored (cast_row hold_4_table (row_of hold))) ≡ true = ap (λ r. has_number n (with_rowid Chosen stored r)) put_cast ∙ int_itself n in
+      let none = none_before office_schema Enforced old.now.trees new.now.trees hold_4_table (row_of hold) put_change.applies (has_number n) is_there (one_numbered (new.now.trees 19) (shaped_holds new.now puts_hold.office) n) in
       found_by (is_hold n) (has_number n) hold_in stored (all_from _ stored (λ r there. refl)) ∙ ap (λ rs. option_map hold_in (slice_get rs 0)) none
 
 -- ---- the end of a hold
@@ -184,7 +177,7 @@ ends_hold old new k day count office h =
     let db = old.now.trees in
     let shaped = shaped_holds old.now office in
     let done = revises end_text (Int k ∷ Int day ∷ []) old new office_schema office.whole.schema_is 9 hold_4_table refl idle shaped by_number ended_columns
-    (has_number k) (each_numbered k (Int day ∷ []) (db 19) shaped) end_means (ended day) (few_numbered k (db 19) shaped)
+    (has_number k) (each_numbered k (Int day ∷ []) (db 19) shaped) hold_meanings.end_means (ended day) (few_numbered k (db 19) shaped)
     (λ r there. (refl, cast_ended day r (all_has IsStoredHold (db 19) r (hold_rows old.now office) there) (all_has _ (db 19) r shaped.1 there), refl)) count h in
     let edit = edit_of db hold_4_table (ids_of done.answer) Given 1 done.answer in
     let ended_is = decoded hold_in (has_number k) (ended day) (is_hold k) (λ h. record h { released = Some day }) (λ r. refl) (λ r. refl) (db 19) in
@@ -269,7 +262,7 @@ passes_of_class n c k r it =
     ∙ last_of_four (holds_class k (hold_in r)) (not (holds_deposit n (hold_in r))) (not (holds_collection c (hold_in r))) (is_live (hold_in r))
 
 -- the numbers of the holds that pass, in the order of their table
-module _ (old new : State) (text : List ℕ) (test : List Term) (asks : Asks office_schema text 19 test number_column rising) (params : Row) (rows : List Row) (office : IsOffice old.now) (h : Shown text params old new rows) where
+module _ (old new : State) (text : List ℕ) (test : List Term) (asks : Asks office_schema text 19 test (only 0) rising) (params : Row) (rows : List Row) (office : IsOffice old.now) (h : Shown text params old new rows) where
   lists_those : (p : HoldRow → Bool) → ((r : Row) → IsStoredHold r → passes params test r ≡ p (hold_in r))
       → (new.now ≡ old.now) × (map (λ (h : HoldRow). h.number) (filter p (tables_of old.now).holds) ≡ map (λ row. int_at row 0) rows)
   lists_those p tests =
@@ -278,26 +271,26 @@ module _ (old new : State) (text : List ℕ) (test : List Term) (asks : Asks off
       let keep : Row → Bool = λ r. p (hold_in r) in
       let up = ascending_weaker _ _ (λ a b lower. rw lower refl) (db 19) (shaped_holds old.now office).0 in
       let each = all_from (λ r. passes params test r ≡ keep r) (db 19) (λ r there. tests r (all_has IsStoredHold (db 19) r typed there)) in
-      let is = reads_rising office_schema text 19 test number_column rising asks params old new office.whole.schema_is rows h keep each up in
-      let shows : map (λ row. int_at row 0) (map (shown_of params number_column) (filter keep (db 19))) ≡ map (λ r. int_at r 0) (filter keep (db 19)) = map-map (λ row. int_at row 0) (shown_of params number_column) (filter keep (db 19)) in
+      let is = reads_rising office_schema text 19 test (only 0) rising asks params old new office.whole.schema_is rows h keep each up in
+      let shows : map (λ row. int_at row 0) (map (shown_of params (only 0)) (filter keep (db 19))) ≡ map (λ r. int_at r 0) (filter keep (db 19)) = map-map (λ row. int_at row 0) (shown_of params (only 0)) (filter keep (db 19)) in
       let typed_is : map (λ (h : HoldRow). h.number) (filter p (tables_of old.now).holds) ≡ map (λ r. int_at r 0) (filter keep (db 19)) =
       ap (map (λ (h : HoldRow). h.number)) (filter-map p hold_in (db 19)) ∙ map-map (λ (h : HoldRow). h.number) hold_in (filter keep (db 19)) in (
-        reads_same office_schema text 19 test number_column rising asks params old new office.whole.schema_is rows h,
+        reads_same office_schema text 19 test (only 0) rising asks params old new office.whole.schema_is rows h,
         typed_is ∙ sym shows ∙ ap (map (λ row. int_at row 0)) (sym is),
       )
 
 pub lists_on : (old new : State) (n : ℤ) (rows : List Row) → IsOffice old.now → Shown on_text (Int n ∷ []) old new rows
     → (new.now ≡ old.now) × (map (λ (h : HoldRow). h.number) (filter (is_live_on n) (tables_of old.now).holds) ≡ map (λ row. int_at row 0) rows)
-lists_on old new n rows office h = lists_those old new on_text on asks_on (Int n ∷ []) rows office h (is_live_on n) (passes_on n)
+lists_on old new n rows office h = lists_those old new on_text on hold_meanings.asks_on (Int n ∷ []) rows office h (is_live_on n) (passes_on n)
 
 pub lists_within : (old new : State) (n : ℤ) (c : List ℕ) (rows : List Row) → IsOffice old.now → Shown within_text (Int n ∷ Text c ∷ []) old new rows
     → (new.now ≡ old.now) × (map (λ (h : HoldRow). h.number) (filter (is_live_within n c) (tables_of old.now).holds) ≡ map (λ row. int_at row 0) rows)
-lists_within old new n c rows office h = lists_those old new within_text within asks_within (Int n ∷ Text c ∷ []) rows office h (is_live_within n c) (passes_within n c)
+lists_within old new n c rows office h = lists_those old new within_text within hold_meanings.asks_within (Int n ∷ Text c ∷ []) rows office h (is_live_within n c) (passes_within n c)
 
 pub lists_of_class : (old new : State) (n : ℤ) (c k : List ℕ) (rows : List Row) → IsOffice old.now → Shown of_class_text (Int n ∷ Text c ∷ Text k ∷ []) old new rows
     → (new.now ≡ old.now) × (map (λ (h : HoldRow). h.number) (filter (is_live_of_class n c k) (tables_of old.now).holds) ≡ map (λ row. int_at row 0) rows)
 lists_of_class old new n c k rows office h =
-    lists_those old new of_class_text of_class asks_of_class (Int n ∷ Text c ∷ Text k ∷ []) rows office h (is_live_of_class n c k) (passes_of_class n c k)
+    lists_those old new of_class_text of_class hold_meanings.asks_of_class (Int n ∷ Text c ∷ Text k ∷ []) rows office h (is_live_of_class n c k) (passes_of_class n c k)
 
 -- ---- all of them, sorted
 

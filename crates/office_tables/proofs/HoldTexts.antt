@@ -17,6 +17,7 @@ use Rattle.sql_meaning.proofs.RowidKeys.{by_number, rising}
 use Rattle.sql_meaning.proofs.Writing.{Means}
 use Rattle.office_tables.specs.Schema.{office_schema}
 use Rattle.office_tables.proofs.LastRow.{AsksLast}
+use Rattle.office_tables.proofs.Columns.{only}
 
 abbrev pub hold_text : List ℕ
 hold_text = codes "SELECT number, deposit, collection, class, matter, placed, released FROM hold_4 WHERE number = ?1"
@@ -24,21 +25,8 @@ hold_text = codes "SELECT number, deposit, collection, class, matter, placed, re
 abbrev pub hold_columns : List Term
 hold_columns = col 1 0 ∷ col 1 2 ∷ col 1 3 ∷ col 1 4 ∷ col 1 5 ∷ col 1 6 ∷ col 1 7 ∷ []
 
-pub asks_hold : Asks office_schema hold_text 19 by_number hold_columns []
-unfolding understood everything
-asks_hold = record {
-  names = codes "number" ∷ codes "deposit" ∷ codes "collection" ∷ codes "class" ∷ codes "matter" ∷ codes "placed" ∷ codes "released" ∷ [];
-  command = refl;
-  unlisted = refl;
-  plain = (refl, refl);
-}
-
 abbrev pub last_text : List ℕ
 last_text = codes "SELECT number FROM hold_4 ORDER BY number DESC LIMIT 1"
-
-pub asks_last : AsksLast office_schema last_text 19
-unfolding understood everything
-asks_last = record { names = codes "number" ∷ []; command = refl; unlisted = refl; plain = (refl, refl) }
 
 abbrev pub put_text : List ℕ
 put_text = codes "INSERT INTO hold_4 (number, deposit, collection, class, matter, placed) VALUES (?1, ?2, ?3, ?4, ?5, ?6)"
@@ -46,24 +34,13 @@ put_text = codes "INSERT INTO hold_4 (number, deposit, collection, class, matter
 abbrev pub hold_terms : List Term
 hold_terms = col 0 0 ∷ lit Null ∷ col 0 1 ∷ col 0 2 ∷ col 0 3 ∷ col 0 4 ∷ col 0 5 ∷ lit Null ∷ []
 
-pub put_means : Means office_schema put_text (Insert 9 (Values hold_terms 8))
-unfolding understood everything
-put_means = record { is = refl; plain = (refl, refl) }
-
 abbrev pub end_text : List ℕ
 end_text = codes "UPDATE hold_4 SET released = ?2 WHERE number = ?1"
 
 abbrev pub ended_columns : List Term
 ended_columns = col 1 0 ∷ col 1 0 ∷ lit Null ∷ col 1 2 ∷ col 1 3 ∷ col 1 4 ∷ col 1 5 ∷ col 1 6 ∷ col 0 1 ∷ []
 
-pub end_means : Means office_schema end_text (Update 9 (as_program (scan 19 by_number ended_columns [])))
-unfolding understood everything
-end_means = record { is = refl; plain = (refl, refl) }
-
 -- ---- the live holds on a deposit, those on a collection, and those on a class
-
-abbrev pub number_column : List Term
-number_column = col 1 0 ∷ []
 
 -- a hold that isn't released
 abbrev live : Term
@@ -79,29 +56,17 @@ on_text = codes "SELECT number FROM hold_4 WHERE deposit = ?1 AND released IS NU
 abbrev pub on : List Term
 on = op2 (Compare Eq Binary) (col 1 2) (col 0 0) ∷ live ∷ []
 
-pub asks_on : Asks office_schema on_text 19 on number_column rising
-unfolding understood everything
-asks_on = record { names = codes "number" ∷ []; command = refl; unlisted = refl; plain = (refl, refl) }
-
 abbrev pub within_text : List ℕ
 within_text = codes "SELECT number FROM hold_4 WHERE collection = ?2 AND deposit IS NOT ?1 AND released IS NULL ORDER BY number"
 
 abbrev pub within : List Term
 within = op2 (Compare Eq Binary) (col 1 3) (col 0 1) ∷ not_on ∷ live ∷ []
 
-pub asks_within : Asks office_schema within_text 19 within number_column rising
-unfolding understood everything
-asks_within = record { names = codes "number" ∷ []; command = refl; unlisted = refl; plain = (refl, refl) }
-
 abbrev pub of_class_text : List ℕ
 of_class_text = codes "SELECT number FROM hold_4 WHERE class = ?3 AND deposit IS NOT ?1 AND collection IS NOT ?2 AND released IS NULL ORDER BY number"
 
 abbrev pub of_class : List Term
 of_class = op2 (Compare Eq Binary) (col 1 4) (col 0 2) ∷ not_on ∷ op1 Not (op2 (Is Binary) (col 1 3) (col 0 1)) ∷ live ∷ []
-
-pub asks_of_class : Asks office_schema of_class_text 19 of_class number_column rising
-unfolding understood everything
-asks_of_class = record { names = codes "number" ∷ []; command = refl; unlisted = refl; plain = (refl, refl) }
 
 -- ---- whether a hold was released outside of some days
 
@@ -113,20 +78,37 @@ outside_of place =
 abbrev pub outside_on_text : List ℕ
 outside_on_text = codes "SELECT number FROM hold_4 WHERE deposit = ?1 AND (released < ?2 OR released > ?3) LIMIT 1"
 
-pub asks_outside_on : AsksSome office_schema outside_on_text 19 (outside_of 2) number_column
-unfolding understood everything
-asks_outside_on = record { names = codes "number" ∷ []; command = refl; unlisted = refl; plain = (refl, refl) }
-
 abbrev pub outside_within_text : List ℕ
 outside_within_text = codes "SELECT number FROM hold_4 WHERE collection = ?1 AND (released < ?2 OR released > ?3) LIMIT 1"
-
-pub asks_outside_within : AsksSome office_schema outside_within_text 19 (outside_of 3) number_column
-unfolding understood everything
-asks_outside_within = record { names = codes "number" ∷ []; command = refl; unlisted = refl; plain = (refl, refl) }
 
 abbrev pub outside_of_class_text : List ℕ
 outside_of_class_text = codes "SELECT number FROM hold_4 WHERE class = ?1 AND (released < ?2 OR released > ?3) LIMIT 1"
 
-pub asks_outside_of_class : AsksSome office_schema outside_of_class_text 19 (outside_of 4) number_column
+-- ---- what each means
+
+pub record HoldMeanings : Type 0 where
+  pub asks_hold : Asks office_schema hold_text 19 by_number hold_columns []
+  pub asks_last : AsksLast office_schema last_text 19
+  pub put_means : Means office_schema put_text (Insert 9 (Values hold_terms 8))
+  pub end_means : Means office_schema end_text (Update 9 (as_program (scan 19 by_number ended_columns [])))
+  pub asks_on : Asks office_schema on_text 19 on (only 0) rising
+  pub asks_within : Asks office_schema within_text 19 within (only 0) rising
+  pub asks_of_class : Asks office_schema of_class_text 19 of_class (only 0) rising
+  pub asks_outside_on : AsksSome office_schema outside_on_text 19 (outside_of 2) (only 0)
+  pub asks_outside_within : AsksSome office_schema outside_within_text 19 (outside_of 3) (only 0)
+  pub asks_outside_of_class : AsksSome office_schema outside_of_class_text 19 (outside_of 4) (only 0)
+
+pub hold_meanings : HoldMeanings
 unfolding understood everything
-asks_outside_of_class = record { names = codes "number" ∷ []; command = refl; unlisted = refl; plain = (refl, refl) }
+hold_meanings = record {
+  asks_hold = record { names = codes "number" ∷ codes "deposit" ∷ codes "collection" ∷ codes "class" ∷ codes "matter" ∷ codes "placed" ∷ codes "released" ∷ []; command = refl; unlisted = refl; plain = (refl, refl) };
+  asks_last = record { names = codes "number" ∷ []; command = refl; unlisted = refl; plain = (refl, refl) };
+  put_means = record { is = refl; plain = (refl, refl) };
+  end_means = record { is = refl; plain = (refl, refl) };
+  asks_on = record { names = codes "number" ∷ []; command = refl; unlisted = refl; plain = (refl, refl) };
+  asks_within = record { names = codes "number" ∷ []; command = refl; unlisted = refl; plain = (refl, refl) };
+  asks_of_class = record { names = codes "number" ∷ []; command = refl; unlisted = refl; plain = (refl, refl) };
+  asks_outside_on = record { names = codes "number" ∷ []; command = refl; unlisted = refl; plain = (refl, refl) };
+  asks_outside_within = record { names = codes "number" ∷ []; command = refl; unlisted = refl; plain = (refl, refl) };
+  asks_outside_of_class = record { names = codes "number" ∷ []; command = refl; unlisted = refl; plain = (refl, refl) };
+}

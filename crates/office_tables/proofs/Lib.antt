@@ -1,5 +1,8 @@
 pub mod Frames
 pub mod InOrder
+pub mod InTurn
+pub mod Columns
+pub mod RowsRead
 pub mod ClassTexts
 pub mod ClassLemmas
 pub mod CollectionLemmas
@@ -13,6 +16,7 @@ pub mod HoldLemmas
 pub mod ReleaseLemmas
 pub mod PolicyTexts
 pub mod PolicyLemmas
+pub mod PuttingEach
 pub mod DepositTexts
 pub mod DepositLemmas
 pub mod DepositAdded
@@ -29,6 +33,10 @@ pub mod DueLemmas
 pub mod MatchTexts
 pub mod MatchLemmas
 pub mod MovingTexts
+pub mod TakenOver
 pub mod MovedHolds
 pub mod MovedRules
 pub mod Versioned
+pub mod FoundAgain
+pub mod Settled
+pub mod Reopened

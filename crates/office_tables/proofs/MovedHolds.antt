@@ -1,5 +1,5 @@
 -- The holds, taken over into the table whose holds may name a class.
-use Rattle.std.proofs.Common.{◌≡◌, ◌⊎◌, ◌==◌, ℕ, [], ◌∷◌, map, drop, length, codes, Ok, true, false, IsTrue, refl, sym, ap, subst, ◌∙◌, inl, inr}
+use Rattle.std.proofs.Common.{◌≡◌, ◌⊎◌, ◌==◌, ℕ, [], map, drop, length, codes, Ok, IsTrue, refl, sym, ap, subst, ◌∙◌, inl, inr}
 use Rattle.std.specs.List.{AllByRecursion}
 use Rattle.std.proofs.lemmas.Bool.{cases_Bool}
 use Rattle.sqlite.specs.declared.types.Value.{Value}
@@ -7,37 +7,30 @@ use Rattle.sqlite.specs.declared.types.Value.TheVariants.{Null, Int, Text}
 use Rattle.sqlite.specs.Order.{Row, column, bytes}
 use Rattle.sqlite.specs.Cast.{cast, cast_row}
 use Rattle.sqlite.specs.Kind.TheVariants as kind
-use Rattle.sqlite.specs.Edit.{edit_of, id_in}
-use Rattle.sqlite.specs.Rowids.TheVariants.{Chosen, Given}
+use Rattle.sqlite.specs.Edit.{id_in}
 use Rattle.sqlite.specs.Schema.{Schema}
-use Rattle.sqlite.specs.Table.{Table}
 use Rattle.sqlite.specs.Tree.{rowid}
-use Rattle.sqlite.specs.Term.{col}
 use Rattle.sqlite.specs.Effect.{Database}
 use Rattle.sqlite.specs.State.{State, Executes}
 use Rattle.sqlite_schema.specs.declared.schema.Constraint.TheVariants.{Datatype, NotNull}
 use Rattle.sqlite_trees.specs.View.{is_int}
-use Rattle.sqlite_rules.specs.Calls.{ids_of}
-use Rattle.sqlite_rules.proofs.ListLemmas.{all_has, all_from}
+use Rattle.sqlite_rules.proofs.ListLemmas.{all_has}
 use Rattle.sqlite_rules.proofs.TableLemmas.{int_is}
-use Rattle.sqlite_keyed.proofs.ListLemmas.{map-map}
 use Rattle.sql_meaning.specs.Columns.{int_at, bytes_at}
 use Rattle.sql_meaning.specs.Whole.{IsWhole, Sets}
 use Rattle.sql_meaning.specs.Growing.{Grows}
 use Rattle.sql_meaning.proofs.Writing.{IsIdle}
 use Rattle.sql_meaning.proofs.Typed.{text_at, int_in, maybe_int_at, maybe_text_at, all_both}
 use Rattle.sql_meaning.proofs.Edits.{cast_null, cast_int}
-use Rattle.sql_meaning.proofs.Whole.{keeps_rule, sets}
-use Rattle.sql_meaning.proofs.Keys.{none_pass}
-use Rattle.sql_meaning.proofs.Changing.{drops}
+use Rattle.sql_meaning.proofs.Whole.{keeps_rule}
 use Rattle.sql_meaning.proofs.Scanning.{shown_of}
 use Rattle.office_tables.specs.Schema.{hold_table, hold_4_table, needed, optional}
 use Rattle.office_tables.specs.Tables.{hold_in}
 use Rattle.office_tables.specs.Moving.{AllRows, moved_hold, BecomesAt, rows_at}
 use Rattle.office_tables.specs.Versions.{schema_at, old_hold_in}
 use Rattle.office_tables.specs.declared.version.TableVersion.TheVariants.{Third, Fourth}
-use Rattle.office_tables.proofs.MovingTexts.{copy_holds_text, copied_hold, copy_holds_means, empty_holds_text, empty_holds_means, eight}
-use Rattle.sql_meaning.proofs.Copying.{copies}
+use Rattle.office_tables.proofs.MovingTexts.{copy_holds_text, copied_hold, empty_holds_text, eight, moving_meanings}
+use Rattle.office_tables.proofs.TakenOver.{takes_over, empties, starts_empty, rows_taken, others_kept}
 
 -- ---- for any schema
 
@@ -77,44 +70,23 @@ moves_row r it whole =
 
 pub copies_holds : (old new : State) (count : ℕ) → IsWhole fourth old.now → old.now.trees 19 ≡ [] → Executes copy_holds_text [] old new (Ok count)
     → Sets fourth 19 (map moved_hold (old.now.trees 12)) old.now new.now
-copies_holds old new count whole none h =
-    let shaped = whole.shaped.1.1.1.1.1.1.1.0 in
-    let done = copies copy_holds_text [] old new fourth whole.schema_is 9 hold_4_table refl idle refl refl 12 copied_hold eight moved_hold copy_holds_means shaped none
-    (λ r there. (moves_row r (all_has IsStored (old.now.trees 12) r (stored_rows old.now whole) there) (all_has _ (old.now.trees 12) r shaped.1 there), refl)) count h in
-    sets fourth old new (edit_of old.now.trees hold_4_table [] Chosen 0 done.answer) count _ done.change _ whole done.made
+copies_holds = takes_over fourth idle hold_table 7 refl (λ db whole. whole.shaped.1.1.1.1.1.1.1.0) hold_4_table 9 refl refl refl copied_hold eight moved_hold copy_holds_text moving_meanings.copy_holds_means
+    (λ db whole r there. moves_row r (all_has IsStored (db.trees 12) r (stored_rows db whole) there)) (λ r. refl)
 
 pub empties_holds : (old new : State) (count : ℕ) → IsWhole fourth old.now → Executes empty_holds_text [] old new (Ok count) → Sets fourth 12 [] old.now new.now
-empties_holds old new count whole h =
-    let db = old.now.trees in
-    let done = drops empty_holds_text [] old new fourth whole.schema_is 7 hold_table refl idle whole.shaped.1.1.1.1.1.1.1.0 [] (col 1 0 ∷ []) (λ r. true) (all_from (λ r. true ≡ true) (db 12) (λ r there. refl)) empty_holds_means (λ r. refl) count h in
-    sets fourth old new (edit_of db hold_table (ids_of done.answer) Given 0 []) count _ done.change [] whole (done.made ∙ none_pass (λ r. false) (db 12) (λ r there. refl))
+empties_holds = empties fourth idle hold_table 7 refl (λ db whole. whole.shaped.1.1.1.1.1.1.1.0) empty_holds_text moving_meanings.empty_holds_means
 
 -- ---- all of it
 
 -- the holds are copied into the table that was made, and their old table is emptied; each other table has its place here
-pub holds_moved : (rows : AllRows) (d0 d1 d2 d3 : Database) → BecomesAt Third d0 rows → Grows (schema_at Third) fourth d0 d1 → Sets fourth 19 (map moved_hold (d1.trees 12)) d1 d2 → Sets fourth 12 [] d2 d3
-    → BecomesAt Fourth d3 rows
-holds_moved rows d0 d1 d2 d3 was grown copied emptied =
-    let k = grown.kept in
-    let c = copied.given_rows in
-    let e = emptied.given_rows in
-    let holds : d3.trees 19 ≡ map moved_hold (d0.trees 12) = e.1.1.1.1.1.1.1.1.1.0 ∙ c.1.1.1.1.1.1.1.1.1.0 ∙ ap (map moved_hold) k.1.1.1.1.1.1.1.0 in
-    let typed : map hold_in (d3.trees 19) ≡ map old_hold_in (d0.trees 12) = ap (map hold_in) holds ∙ map-map hold_in moved_hold (d0.trees 12) in
-    let same : rows_at Fourth d3 ≡ rows_at Third d0 = rw (
-      typed,
-      e.0 ∙ c.0 ∙ k.0,
-      e.1.0 ∙ c.1.0 ∙ k.1.0,
-      e.1.1.0 ∙ c.1.1.0 ∙ k.1.1.0,
-      e.1.1.1.0 ∙ c.1.1.1.0 ∙ k.1.1.1.0,
-      e.1.1.1.1.0 ∙ c.1.1.1.1.0 ∙ k.1.1.1.1.0,
-      e.1.1.1.1.1.0 ∙ c.1.1.1.1.1.0 ∙ k.1.1.1.1.1.0,
-      e.1.1.1.1.1.1.0 ∙ c.1.1.1.1.1.1.0 ∙ k.1.1.1.1.1.1.0,
-      e.1.1.1.1.1.1.1.1.0 ∙ c.1.1.1.1.1.1.1.1.0 ∙ k.1.1.1.1.1.1.1.1.0,
-    ) refl in
-    record { office = record { whole = emptied.whole; emptied = (e.1.1.1.1.1.1.1.0, tt) }; are = same ∙ was.are }
+module _ (d0 d1 : Database) (grown : Grows (schema_at Third) fourth d0 d1) where
+  pub new_is_empty : d1.trees 19 ≡ []
+  new_is_empty = starts_empty (schema_at Third) fourth hold_table hold_4_table refl refl d0 d1 grown (ap (drop 9) grown.tables)
 
--- the table that was made has no row
-pub new_is_empty : (d0 d1 : Database) → Grows (schema_at Third) fourth d0 d1 → d1.trees 19 ≡ []
-new_is_empty d0 d1 grown =
-    let is : hold_4_table ∷ [] ≡ grown.more = ap (drop 9) grown.tables in
-    (subst (λ ts. AllByRecursion (λ (t : Table). d1.trees t.tree ≡ []) ts) (sym is) grown.empty).0
+  pub holds_moved : (rows : AllRows) (d2 d3 : Database) → BecomesAt Third d0 rows → Sets fourth 19 (map moved_hold (d1.trees 12)) d1 d2 → Sets fourth 12 [] d2 d3 → BecomesAt Fourth d3 rows
+  holds_moved rows d2 d3 was copied emptied =
+      let typed : map hold_in (d3.trees 19) ≡ map old_hold_in (d0.trees 12) =
+      rows_taken (schema_at Third) fourth hold_table hold_4_table refl refl d0 d1 grown (ap (drop 9) grown.tables) moved_hold d2 d3 copied emptied hold_in grown.kept.1.1.1.1.1.1.1.0 in
+      let o = others_kept (schema_at Third) fourth hold_table hold_4_table refl refl d0 d1 grown (ap (drop 9) grown.tables) moved_hold d2 d3 copied emptied in
+      let same : rows_at Fourth d3 ≡ rows_at Third d0 = rw (typed, o.0, o.1.0, o.1.1.0, o.1.1.1.0, o.1.1.1.1.0, o.1.1.1.1.1.0, o.1.1.1.1.1.1.0, o.1.1.1.1.1.1.1.1.0) refl in
+      record { office = record { whole = emptied.whole; emptied = (o.1.1.1.1.1.1.1.0, tt) }; are = same ∙ was.are }

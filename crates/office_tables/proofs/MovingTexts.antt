@@ -1,29 +1,18 @@
 -- What the texts of an upgrade mean, each under the schema of its moment.
-use Rattle.std.proofs.Common.{◌≡◌, false, inl, inr, ℕ, pos, negsuc, List, [], ◌∷◌, codes, Ok, refl}
-use Rattle.std.specs.Fmt.{digits}
+use Rattle.std.proofs.Common.{ℕ, pos, negsuc, List, [], ◌∷◌, codes, refl}
 use Rattle.sqlite.specs.declared.types.Value.TheVariants.{Null, Int}
 use Rattle.sqlite.specs.Term.{Term, lit, col}
-use Rattle.sqlite.specs.Compile.{table_defined_by, index_defined_by}
-use Rattle.sqlite.specs.Command.TheVariants.{CreateTable, CreateIndex, Insert, Update, Delete}
+use Rattle.sqlite.specs.Command.TheVariants.{Insert, Update, Delete}
 use Rattle.sqlite.specs.Source.TheVariants.{Query}
-use Rattle.sqlite.specs.Change.{created}
-use Rattle.sqlite.specs.Does.{lacks_sequence}
-use Rattle.sqlite.specs.Table.{Table}
-use Rattle.sqlite.specs.Schema.{Schema}
 use Rattle.sqlite.specs.Listing.{understood}
-use Rattle.sqlite.proofs.Callers.{IsPlain, command_of, statement_of}
 use Rattle.sqlite_tied.specs.Compute.{everything}
-use Rattle.sqlite_schema.specs.Names.{same_name}
-use Rattle.sqlite_schema.specs.declared.schema.Index.{Index}
-use Rattle.sql_meaning.specs.Making.{MakesTable, MakesIndex, Builds}
 use Rattle.sql_meaning.proofs.Scanning.{scan, as_program, noting}
 use Rattle.sqlite.specs.Collation.{Collation}
 use Rattle.sqlite.specs.Collation.TheVariants.{Binary}
 use Rattle.sql_meaning.proofs.RowidKeys.{by_number, rising}
 use Rattle.sql_meaning.proofs.Writing.{Means}
-use Rattle.office_tables.specs.Schema.{plain_index, hold_4_table, rule_5_table, stage}
 use Rattle.office_tables.specs.Versions.{schema_at}
-use Rattle.office_tables.specs.declared.version.TableVersion.TheVariants.{Third, Fourth, Fifth}
+use Rattle.office_tables.specs.declared.version.TableVersion.TheVariants.{Fourth, Fifth}
 
 -- ---- the copies
 
@@ -36,16 +25,8 @@ copy_holds_text = codes "INSERT INTO hold_4 (number, deposit, collection, class,
 abbrev pub copied_hold : List Term
 copied_hold = col 1 0 ∷ lit Null ∷ col 1 2 ∷ col 1 3 ∷ lit Null ∷ col 1 4 ∷ col 1 5 ∷ col 1 6 ∷ []
 
-pub copy_holds_means : Means (schema_at Fourth) copy_holds_text (Insert 9 (Query (as_program (noting eight (scan 12 [] copied_hold rising)))))
-unfolding understood everything
-copy_holds_means = record { is = refl; plain = (refl, refl) }
-
 abbrev pub empty_holds_text : List ℕ
 empty_holds_text = codes "DELETE FROM hold"
-
-pub empty_holds_means : Means (schema_at Fourth) empty_holds_text (Delete 7 (as_program (scan 12 [] (col 1 0 ∷ []) [])))
-unfolding understood everything
-empty_holds_means = record { is = refl; plain = (refl, refl) }
 
 abbrev pub copy_rules_text : List ℕ
 copy_rules_text = codes "INSERT INTO rule_5 (place, effect, role, action, collection, class, first, last) SELECT place, effect, role, action, collection, class, -25567, 2859848 FROM rule ORDER BY place"
@@ -53,16 +34,8 @@ copy_rules_text = codes "INSERT INTO rule_5 (place, effect, role, action, collec
 abbrev pub copied_rule : List Term
 copied_rule = col 1 0 ∷ lit Null ∷ col 1 2 ∷ col 1 3 ∷ col 1 4 ∷ col 1 5 ∷ col 1 6 ∷ lit (Int (negsuc 25566)) ∷ lit (Int (pos 2859848)) ∷ []
 
-pub copy_rules_means : Means (schema_at Fifth) copy_rules_text (Insert 10 (Query (as_program (noting (Binary ∷ eight) (scan 3 [] copied_rule rising)))))
-unfolding understood everything
-copy_rules_means = record { is = refl; plain = (refl, refl) }
-
 abbrev pub empty_rules_text : List ℕ
 empty_rules_text = codes "DELETE FROM rule"
-
-pub empty_rules_means : Means (schema_at Fifth) empty_rules_text (Delete 2 (as_program (scan 3 [] (col 1 0 ∷ []) [])))
-unfolding understood everything
-empty_rules_means = record { is = refl; plain = (refl, refl) }
 
 abbrev pub version_text : List ℕ
 version_text = codes "UPDATE office SET version = ?2 WHERE id = ?1"
@@ -70,6 +43,21 @@ version_text = codes "UPDATE office SET version = ?2 WHERE id = ?1"
 abbrev pub versioned : List Term
 versioned = col 1 0 ∷ col 1 0 ∷ lit Null ∷ col 0 1 ∷ col 1 3 ∷ col 1 4 ∷ []
 
-pub version_means : Means (schema_at Fifth) version_text (Update 0 (as_program (scan 0 by_number versioned [])))
+-- ---- what each means
+
+pub record MovingMeanings : Type 0 where
+  pub copy_holds_means : Means (schema_at Fourth) copy_holds_text (Insert 9 (Query (as_program (noting eight (scan 12 [] copied_hold rising)))))
+  pub empty_holds_means : Means (schema_at Fourth) empty_holds_text (Delete 7 (as_program (scan 12 [] (col 1 0 ∷ []) [])))
+  pub copy_rules_means : Means (schema_at Fifth) copy_rules_text (Insert 10 (Query (as_program (noting (Binary ∷ eight) (scan 3 [] copied_rule rising)))))
+  pub empty_rules_means : Means (schema_at Fifth) empty_rules_text (Delete 2 (as_program (scan 3 [] (col 1 0 ∷ []) [])))
+  pub version_means : Means (schema_at Fifth) version_text (Update 0 (as_program (scan 0 by_number versioned [])))
+
+pub moving_meanings : MovingMeanings
 unfolding understood everything
-version_means = record { is = refl; plain = (refl, refl) }
+moving_meanings = record {
+  copy_holds_means = record { is = refl; plain = (refl, refl) };
+  empty_holds_means = record { is = refl; plain = (refl, refl) };
+  copy_rules_means = record { is = refl; plain = (refl, refl) };
+  empty_rules_means = record { is = refl; plain = (refl, refl) };
+  version_means = record { is = refl; plain = (refl, refl) };
+}

@@ -7,11 +7,12 @@ use Rattle.sqlite.specs.State.{State, Shown}
 use Rattle.sqlite.specs.Listing.{understood}
 use Rattle.sqlite_tied.specs.Compute.{everything}
 use Rattle.sql_meaning.proofs.Scanning.{shown_of}
-use Rattle.sql_meaning.proofs.Reading.{Asks, reads_same, reads_one, finds_part}
-use Rattle.sql_meaning.proofs.RowidKeys.{by_number, has_number, each_numbered, few_numbered}
+use Rattle.sql_meaning.proofs.Reading.{Asks, finds_part}
+use Rattle.sql_meaning.proofs.RowidKeys.{by_number, has_number}
 use Rattle.office_tables.specs.Schema.{office_schema}
 use Rattle.office_rows.specs.Rows.{is_office_row, limits_in, limits_of}
 use Rattle.office_tables.specs.Tables.{IsOffice, tables_of, office_in, shown_limits}
+use Rattle.office_tables.proofs.RowsRead.{reads_numbered}
 
 abbrev pub limits_text : List ℕ
 limits_text = codes "SELECT max_deposits, max_holds FROM office WHERE id = ?1"
@@ -26,10 +27,5 @@ asks_limits = record { names = codes "max_deposits" ∷ codes "max_holds" ∷ []
 pub finds_limits : (old new : State) (rows : List Row) → IsOffice old.now → Shown limits_text (Int (pos 1) ∷ []) old new rows
     → (new.now ≡ old.now) × (limits_of (tables_of old.now) ≡ option_map shown_limits (slice_get rows 0))
 finds_limits old new rows office h =
-    let params : Row = Int (pos 1) ∷ [] in
-    let stored = old.now.trees 0 in
-    let is = reads_one office_schema limits_text 0 by_number limit_columns [] asks_limits params old new office.whole.schema_is rows h (has_number (pos 1))
-    (each_numbered (pos 1) [] stored office.whole.shaped.0) (few_numbered (pos 1) stored office.whole.shaped.0) in (
-      reads_same office_schema limits_text 0 by_number limit_columns [] asks_limits params old new office.whole.schema_is rows h,
-      finds_part stored rows (has_number (pos 1)) (shown_of params limit_columns) office_in is_office_row (λ r. refl) is limits_in shown_limits (λ r. refl),
-    )
+    let read = reads_numbered old new rows office asks_limits (pos 1) office.whole.shaped.0 h in
+    (read.0, finds_part (old.now.trees 0) rows (has_number (pos 1)) (shown_of (Int (pos 1) ∷ []) limit_columns) office_in is_office_row (λ r. refl) read.1 limits_in shown_limits (λ r. refl))

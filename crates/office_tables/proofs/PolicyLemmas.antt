@@ -15,15 +15,10 @@ use Rattle.sqlite_schema.specs.declared.schema.Constraint.TheVariants.{Datatype,
 use Rattle.sqlite_rules.specs.Lists.{Has}
 use Rattle.sqlite_rules.specs.Calls.{ids_of}
 use Rattle.sqlite_rules.proofs.ListLemmas.{all_from}
-use Rattle.sqlite_keyed.proofs.ListLemmas.{ascending_weaker, map-map}
-use Rattle.sqlite_catalog.proofs.ListFacts.{filter_all}
 use Rattle.sql_meaning.specs.Columns.{bytes_at}
 use Rattle.sql_meaning.proofs.Writing.{inserts}
-use Rattle.sql_meaning.proofs.Scanning.{shown_of}
-use Rattle.sql_meaning.proofs.Reading.{reads_same, reads_one, reads_rising, finds_part}
-use Rattle.sql_meaning.proofs.RowidKeys.{rising}
 use Rattle.sql_meaning.proofs.Keys.{none_pass}
-use Rattle.sql_meaning.proofs.TextKeys.{has_text, by_text, each_passes, few_named}
+use Rattle.sql_meaning.proofs.TextKeys.{has_text, few_named}
 use Rattle.sql_meaning.proofs.Typed.{text_at, all_both}
 use Rattle.sql_meaning.proofs.Edits.{appended, cast_null, cast_int}
 use Rattle.sql_meaning.proofs.Whole.{keeps_rule}
@@ -34,7 +29,9 @@ use Rattle.office_tables.specs.Tables.{IsOffice, Becomes, tables_of, caller_in, 
 use Rattle.office_tables.specs.ShownPolicy.{shown_rule}
 use Rattle.office_tables.proofs.Frames.{idle, becomes}
 use Rattle.office_tables.proofs.InOrder.{placed}
-use Rattle.office_tables.proofs.PolicyTexts.{role_text, role_columns, asks_role, rules_text, rule_columns, asks_rules, drop_callers_text, drop_callers_means, drop_rules_text, drop_rules_means, add_caller_text, caller_terms, add_caller_means, add_rule_text, rule_terms, add_rule_means}
+use Rattle.office_tables.proofs.PolicyTexts.{role_text, rules_text, drop_callers_text, drop_rules_text, add_caller_text, add_rule_text, rule_terms, policy_meanings}
+use Rattle.office_tables.proofs.Columns.{all_given}
+use Rattle.office_tables.proofs.RowsRead.{finds_named, lists_all}
 
 -- what is known of the callers: each name is a text, and at most one caller has it
 module _ (db : Database) (office : IsOffice db) (name : List ℕ) where
@@ -50,38 +47,25 @@ module _ (db : Database) (office : IsOffice db) (name : List ℕ) where
 pub finds_role : (old new : State) (name : List ℕ) (rows : List Row) → IsOffice old.now → Shown role_text (Text name ∷ []) old new rows
     → (new.now ≡ old.now) × (option_map (λ (c : CallerRow). c.role) (caller_named name (tables_of old.now).callers) ≡ option_map (λ row. bytes_at row 0) (slice_get rows 0))
 finds_role old new name rows office h =
-    let params : Row = Text name ∷ [] in
-    let db = old.now.trees in
-    let is = reads_one office_schema role_text 1 (by_text 1) role_columns [] asks_role params old new office.whole.schema_is rows h (has_text 1 name)
-    (each_passes 1 name [] (db 1) (named old.now office name)) (few old.now office name) in (
-      reads_same office_schema role_text 1 (by_text 1) role_columns [] asks_role params old new office.whole.schema_is rows h,
-      finds_part (db 1) rows (has_text 1 name) (shown_of params role_columns) caller_in (is_caller name) (λ r. refl) is (λ (c : CallerRow). c.role) (λ row. bytes_at row 0) (λ r. refl),
-    )
+    finds_named old new rows office 1 policy_meanings.asks_role name (named old.now office name) (few old.now office name) caller_in (is_caller name) (λ r. refl) (λ (c : CallerRow). c.role) (λ row. bytes_at row 0) (λ r. refl) h
 
 pub lists_rules : (old new : State) (rows : List Row) → IsOffice old.now → Shown rules_text [] old new rows
     → (new.now ≡ old.now) × ((tables_of old.now).rules ≡ map shown_rule rows)
 lists_rules old new rows office h =
-    let db = old.now.trees in
-    let up = ascending_weaker _ _ (λ a b lower. rw lower refl) (db 23) office.whole.shaped.1.1.1.1.1.1.1.1.1.1.0.0 in
-    let is = reads_rising office_schema rules_text 23 [] rule_columns rising asks_rules [] old new office.whole.schema_is rows h (λ r. true) (all_from _ (db 23) (λ r there. refl)) up in
-    let whole : rows ≡ map (shown_of [] rule_columns) (db 23) = is ∙ ap (map (shown_of [] rule_columns)) (filter_all (λ r. true) (db 23) (λ r there. refl)) in
-    let shows : map shown_rule (map (shown_of [] rule_columns) (db 23)) ≡ map rule_in (db 23) = map-map shown_rule (shown_of [] rule_columns) (db 23) in (
-      reads_same office_schema rules_text 23 [] rule_columns rising asks_rules [] old new office.whole.schema_is rows h,
-      sym shows ∙ ap (map shown_rule) (sym whole),
-    )
+    lists_all old new rows office policy_meanings.asks_rules office.whole.shaped.1.1.1.1.1.1.1.1.1.1.0 rule_in shown_rule (λ r. refl) h
 
 -- ---- none of the old rows
 
 pub drops_callers : (old new : State) (count : ℕ) → IsOffice old.now → Executes drop_callers_text [] old new (Ok count) → Becomes new.now (without_callers (tables_of old.now))
 drops_callers old new count office h =
     let db = old.now.trees in
-    let done = drops drop_callers_text [] old new office_schema office.whole.schema_is 1 caller_table refl idle office.whole.shaped.1.0 [] (col 1 0 ∷ []) (λ r. true) (all_from (λ r. true ≡ true) (db 1) (λ r there. refl)) drop_callers_means (λ r. refl) count h in
+    let done = drops drop_callers_text [] old new office_schema office.whole.schema_is 1 caller_table refl idle office.whole.shaped.1.0 [] (col 1 0 ∷ []) (λ r. true) (all_from (λ r. true ≡ true) (db 1) (λ r there. refl)) policy_meanings.drop_callers_means (λ r. refl) count h in
     becomes old new (edit_of db caller_table (ids_of done.answer) Given 0 []) count _ office (refl, (refl, tt)) done.change _ (ap (λ rows. record (tables_of old.now) { callers = rows }) (ap (map caller_in) (done.made ∙ none_pass (λ r. false) (db 1) (λ r there. refl))))
 
 pub drops_rules : (old new : State) (count : ℕ) → IsOffice old.now → Executes drop_rules_text [] old new (Ok count) → Becomes new.now (without_rules (tables_of old.now))
 drops_rules old new count office h =
     let db = old.now.trees in
-    let done = drops drop_rules_text [] old new office_schema office.whole.schema_is 10 rule_5_table refl idle office.whole.shaped.1.1.1.1.1.1.1.1.1.1.0 [] (col 1 0 ∷ []) (λ r. true) (all_from (λ r. true ≡ true) (db 23) (λ r there. refl)) drop_rules_means (λ r. refl) count h in
+    let done = drops drop_rules_text [] old new office_schema office.whole.schema_is 10 rule_5_table refl idle office.whole.shaped.1.1.1.1.1.1.1.1.1.1.0 [] (col 1 0 ∷ []) (λ r. true) (all_from (λ r. true ≡ true) (db 23) (λ r there. refl)) policy_meanings.drop_rules_means (λ r. refl) count h in
     becomes old new (edit_of db rule_5_table (ids_of done.answer) Given 0 []) count _ office (refl, (refl, tt)) done.change _ (ap (λ rows. record (tables_of old.now) { rules = rows }) (ap (map rule_in) (done.made ∙ none_pass (λ r. false) (db 23) (λ r there. refl))))
 
 -- ---- the new rows
@@ -92,7 +76,7 @@ adds_caller old new caller count office h =
     let db = old.now.trees in
     let source : Row = Null ∷ Text caller.name ∷ Text caller.role ∷ [] in
     let edit = edit_of db caller_table [] Chosen 0 (source ∷ []) in
-    let done = inserts add_caller_text (Text caller.name ∷ Text caller.role ∷ []) old new office_schema office.whole.schema_is 1 caller_table refl idle caller_terms 3 add_caller_means refl refl count h in
+    let done = inserts add_caller_text (Text caller.name ∷ Text caller.role ∷ []) old new office_schema office.whole.schema_is 1 caller_table refl idle (all_given 2) 3 policy_meanings.add_caller_means refl refl count h in
     let cast_is : cast_row caller_table source ≡ Null ∷ Text caller.name ∷ Text caller.role ∷ [] = rw cast_null refl in
     let end = appended db caller_table source (Text caller.name ∷ Text caller.role ∷ []) office.whole.shaped.1.0 cast_is in
     becomes old new edit count edit.news office (refl, (refl, tt)) done _ (ap (λ rows. record (tables_of old.now) { callers = rows }) (ap (map caller_in) end ∙ map-append caller_in (db 1) _))
@@ -108,7 +92,7 @@ pub adds_rule : (old new : State) (rule : RuleRow) (count : ℕ) → IsOffice ol
 adds_rule old new rule count office h =
     let row : Row = Int rule.place ∷ stored_of rule in
     let edit = edit_of old.now.trees rule_5_table [] Chosen 0 (row ∷ []) in
-    let done = inserts add_rule_text (params_of rule) old new office_schema office.whole.schema_is 10 rule_5_table refl idle rule_terms 9 add_rule_means refl refl count h in
+    let done = inserts add_rule_text (params_of rule) old new office_schema office.whole.schema_is 10 rule_5_table refl idle rule_terms 9 policy_meanings.add_rule_means refl refl count h in
     let cast_is : cast_row rule_5_table row ≡ row = rw (cast_null, cast_int rule.place, cast_int rule.effect, cast_int rule.first, cast_int rule.last) refl in
     becomes old new edit count edit.news office (refl, (refl, tt)) done _ (ap (λ rows. record (tables_of old.now) { rules = rows })
     (placed rule_in (λ (r : RuleRow). r.place) (λ r. refl) old new rule_5_table row (stored_of rule) rule.place count edit.news office.whole.shaped.1.1.1.1.1.1.1.1.1.1.0 cast_is done))

@@ -24,7 +24,8 @@ use Rattle.office_tables.specs.Releases.{is_outside, is_outside_of, is_over, is_
 use Rattle.office_tables.specs.Schema.{office_schema}
 use Rattle.office_tables.specs.Tables.{IsOffice, tables_of, hold_in}
 use Rattle.office_tables.proofs.HoldLemmas.{IsStoredHold, deposit_is, hold_rows, text_is}
-use Rattle.office_tables.proofs.HoldTexts.{asks_outside_of_class, asks_outside_on, asks_outside_within, number_column, outside_of, outside_of_class_text, outside_on_text, outside_within_text}
+use Rattle.office_tables.proofs.HoldTexts.{outside_of, outside_of_class_text, outside_on_text, outside_within_text, hold_meanings}
+use Rattle.office_tables.proofs.Columns.{only}
 
 -- ---- a day before the first or after the last
 
@@ -59,7 +60,7 @@ passes_outside : (place : ℕ) (v : Value) (named : Bool) (first last : ℤ) (r 
 passes_outside place v named first last r it is = ap₂ (λ a b. a && (b && true)) is (outside_is (column r 7) first last it.5) ∙ and_end _ _
 
 -- whether one passes, of the holds that are on this
-module _ (old new : State) (text : List ℕ) (place : ℕ) (asks : AsksSome office_schema text 19 (outside_of place) number_column) (v : Value) (first last : ℤ) (rows : List Row)
+module _ (old new : State) (text : List ℕ) (place : ℕ) (asks : AsksSome office_schema text 19 (outside_of place) (only 0)) (v : Value) (first last : ℤ) (rows : List Row)
     (office : IsOffice old.now) (h : Shown text (v ∷ Int first ∷ Int last ∷ []) old new rows) where
   tells_outside : (those : HoldRow → Bool) → ((r : Row) → IsStoredHold r → is_true (binary (Compare Eq Binary) (column r place) v) ≡ those (hold_in r))
       → (new.now ≡ old.now) × (list_any (is_outside_of those first last) (tables_of old.now).holds ≡ list_any (λ r. true) rows)
@@ -70,23 +71,23 @@ module _ (old new : State) (text : List ℕ) (place : ℕ) (asks : AsksSome offi
       let each = all_from (λ r. passes params (outside_of place) r ≡ p (hold_in r)) stored (λ r there.
       let it = all_has IsStoredHold stored r (hold_rows old.now office) there in
       passes_outside place v (those (hold_in r)) first last r it (names r it)) in
-      let some = reads_some office_schema text 19 (outside_of place) number_column asks params old new office.whole.schema_is rows h (λ r. p (hold_in r)) each in
+      let some = reads_some office_schema text 19 (outside_of place) (only 0) asks params old new office.whole.schema_is rows h (λ r. p (hold_in r)) each in
       (some.0, any_mapped hold_in (λ r. p (hold_in r)) p (λ r. refl) stored ∙ some.1)
 
 pub tells_outside_on : (old new : State) (n first last : ℤ) (rows : List Row) → IsOffice old.now → Shown outside_on_text (Int n ∷ Int first ∷ Int last ∷ []) old new rows
     → (new.now ≡ old.now) × (list_any (is_outside_of (holds_deposit n) first last) (tables_of old.now).holds ≡ list_any (λ r. true) rows)
 tells_outside_on old new n first last rows office h =
-    tells_outside old new outside_on_text 2 asks_outside_on (Int n) first last rows office h (holds_deposit n) (λ r it. deposit_is (column r 2) n it.0)
+    tells_outside old new outside_on_text 2 hold_meanings.asks_outside_on (Int n) first last rows office h (holds_deposit n) (λ r it. deposit_is (column r 2) n it.0)
 
 pub tells_outside_within : (old new : State) (c : List ℕ) (first last : ℤ) (rows : List Row) → IsOffice old.now → Shown outside_within_text (Text c ∷ Int first ∷ Int last ∷ []) old new rows
     → (new.now ≡ old.now) × (list_any (is_outside_of (holds_collection c) first last) (tables_of old.now).holds ≡ list_any (λ r. true) rows)
 tells_outside_within old new c first last rows office h =
-    tells_outside old new outside_within_text 3 asks_outside_within (Text c) first last rows office h (holds_collection c) (λ r it. text_is (column r 3) c it.1)
+    tells_outside old new outside_within_text 3 hold_meanings.asks_outside_within (Text c) first last rows office h (holds_collection c) (λ r it. text_is (column r 3) c it.1)
 
 pub tells_outside_of_class : (old new : State) (k : List ℕ) (first last : ℤ) (rows : List Row) → IsOffice old.now → Shown outside_of_class_text (Text k ∷ Int first ∷ Int last ∷ []) old new rows
     → (new.now ≡ old.now) × (list_any (is_outside_of (holds_class k) first last) (tables_of old.now).holds ≡ list_any (λ r. true) rows)
 tells_outside_of_class old new k first last rows office h =
-    tells_outside old new outside_of_class_text 4 asks_outside_of_class (Text k) first last rows office h (holds_class k) (λ r it. text_is (column r 4) k it.2)
+    tells_outside old new outside_of_class_text 4 hold_meanings.asks_outside_of_class (Text k) first last rows office h (holds_class k) (λ r it. text_is (column r 4) k it.2)
 
 -- ---- all of them
 

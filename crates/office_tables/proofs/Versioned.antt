@@ -29,7 +29,7 @@ use Rattle.office_tables.specs.Tables.{office_in}
 use Rattle.office_tables.specs.Moving.{AllRows, all_in_version, in_version, BecomesAt, rows_at}
 use Rattle.office_tables.specs.Versions.{schema_at}
 use Rattle.office_tables.specs.declared.version.TableVersion.TheVariants.{Fifth}
-use Rattle.office_tables.proofs.MovingTexts.{version_text, versioned, version_means}
+use Rattle.office_tables.proofs.MovingTexts.{version_text, versioned, moving_meanings}
 use Rattle.office_tables.proofs.MovedHolds.{keeps_int}
 use Rattle.office_tables.proofs.Frames.{idle}
 
@@ -61,7 +61,7 @@ sets_version old new version rows count was h =
     let whole = was.office.whole in
     let shaped = whole.shaped.0 in
     let done = revises version_text (Int (pos 1) ∷ Int version ∷ []) old new fifth whole.schema_is 0 office_table refl idle shaped by_number versioned
-    (has_number (pos 1)) (each_numbered (pos 1) (Int version ∷ []) (db 0) shaped) version_means (set_to version) (few_numbered (pos 1) (db 0) shaped)
+    (has_number (pos 1)) (each_numbered (pos 1) (Int version ∷ []) (db 0) shaped) moving_meanings.version_means (set_to version) (few_numbered (pos 1) (db 0) shaped)
     (λ r there. (refl, cast_set version r (all_has IsStored (db 0) r (stored_rows old.now whole) there) (all_has _ (db 0) r shaped.1 there), refl)) count h in
     let changed : Sets fifth 0 (map (λ r. if has_number (pos 1) r then set_to version r else r) (db 0)) old.now new.now = sets fifth old new (edit_of db office_table (ids_of done.answer) Given 1 done.answer) count _ done.change _ whole done.made in
     let e = changed.given_rows in

@@ -6,7 +6,7 @@ use Rattle.std.specs.Borrow.{MutBor}
 use Rattle.sqlite.specs.Store.{Ghosts}
 use Rattle.sqlite.specs.State.{HasCleanDisk}
 use Rattle.sqlite.specs.Held.{Held, state}
-use Rattle.sql_meaning.specs.Inside.{Stays, GoesOn, Stands}
+use Rattle.sql_meaning.specs.Inside.{Stays, GoesOn, GoesOnIfAny}
 use Rattle.office_rows.specs.Rows.{Tables}
 use Rattle.office_tables.specs.Faults.{IsFailure}
 use Rattle.office_tables.specs.declared.fault.TableFault.{TableFault}
@@ -24,7 +24,7 @@ Continues g old new result = HasCleanDisk (state g new) → OnOk result (GoesOn 
 
 -- the same of calls in turn, of which there may be none
 abbrev pub ContinuesInTurn : {S T E : Type 0} → Ghosts S → Held S → Held S → Result T E → Type 0
-ContinuesInTurn g old new result = HasCleanDisk (state g new) → OnOk result (Stands (state g old) (state g new))
+ContinuesInTurn g old new result = HasCleanDisk (state g new) → OnOk result (GoesOnIfAny (state g old) (state g new))
 
 -- what each call inside a transaction keeps, and how it fails
 pub record GoesOnInside {S T : Type 0} (g : Ghosts S) (old new : MutBor (Held S)) (result : Result T TableFault) : Type 0 where

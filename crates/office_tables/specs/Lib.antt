@@ -6,6 +6,7 @@ pub mod Tables
 pub mod Calls
 pub mod Contents
 pub mod Opening
+pub mod Found
 pub mod ShownHolds
 pub mod Releases
 pub mod ShownPolicy

@@ -35,16 +35,7 @@ abbrev pub last_day : ℤ
 last_day = pos 2859848
 
 abbrev pub old_rule_in : Row → RuleRow
-old_rule_in row = record {
-  place = int_at row 0;
-  effect = int_at row 2;
-  role = bytes_at row 3;
-  action = bytes_at row 4;
-  collection = bytes_at row 5;
-  class = bytes_at row 6;
-  first = first_day;
-  last = last_day;
-}
+old_rule_in row = record (rule_in row) { first = first_day; last = last_day }
 
 abbrev pub old_hold_in : Row → HoldRow
 old_hold_in row = record {

@@ -13,7 +13,9 @@ pub mod laws;
 mod moving;
 mod opening;
 mod policy;
+mod recovery;
 mod run;
+mod store_file;
 mod version;
 
 pub use classes::{class_of, has_collection, put_class, put_collection};
@@ -35,4 +37,6 @@ pub use kept::{ContentSize, contents};
 pub use moving::{move_holds, renew_fourth};
 pub use opening::{OfficeLimits, limits, open_tables, version_told};
 pub use policy::{CallerRow, RuleRow, match_rule, put_policy, role_of, rules};
+pub use recovery::{adopt, reopen, reopen_files, stop};
+pub use store_file::open_file;
 pub use version::TableVersion;

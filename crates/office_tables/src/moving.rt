@@ -1,87 +1,16 @@
 //! The tables of an older version: the newer ones are made beside them, and have their rows.
 
-ghost use Rattle.std.specs.Prelude.{◌≡◌, [], map, pos, OnOk};
+ghost use Rattle.std.specs.Prelude.{pos, OnOk};
 ghost use Rattle.sqlite.specs.State.{HasCleanDisk};
 ghost use Rattle.sqlite.specs.Held.{state};
-ghost use Rattle.sql_meaning.specs.Growing.{Grows};
-ghost use Rattle.sql_meaning.specs.Whole.{IsWhole, Sets};
 ghost use Rattle.office_tables.specs.Calls.{GoesOnInTurn, GoesOnInside};
-ghost use Rattle.office_tables.specs.Moving.{AllRows, all_in_version, BecomesAt, moved_hold, moved_rule, Moves};
-ghost use Rattle.office_tables.specs.Versions.{schema_at};
+ghost use Rattle.office_tables.specs.Moving.{AllRows, all_in_version, BecomesAt, Moves};
 ghost use Rattle.office_tables.specs.declared.version.TableVersion.TheVariants.{Third, Fourth, Fifth};
 
 use crate::creating::define;
 use crate::fault::TableFault;
 use crate::run::change;
 use sqlite::{Alter, Transaction, params};
-
-/// Makes the table of holds that may name a class.
-fn define_holds<S: Alter>(tx: &mut Transaction<'_, S>) -> Result<(), TableFault>
-    ensures inside { GoesOnInTurn S.Store tx.old.conn tx.new.conn result }
-    ensures grown { HasCleanDisk (state S.Store tx.new.conn.now)
-        → IsWhole (schema_at Third) (state S.Store tx.old.conn.now).now
-        → OnOk result
-        (Grows (schema_at Third) (schema_at Fourth) (state S.Store tx.old.conn.now).now
-        (state S.Store tx.new.conn.now).now) }
-{
-    define(
-        tx,
-        &[
-            "CREATE TABLE hold_4 (number INTEGER PRIMARY KEY, deposit INTEGER, collection TEXT, class TEXT, matter TEXT NOT NULL, placed INTEGER NOT NULL, released INTEGER) STRICT",
-            "CREATE INDEX hold_4_deposit ON hold_4 (deposit)",
-            "CREATE INDEX hold_4_collection ON hold_4 (collection)",
-            "CREATE INDEX hold_4_class ON hold_4 (class)",
-        ],
-    )
-}
-
-/// Makes the table of rules with days.
-fn define_rules<S: Alter>(tx: &mut Transaction<'_, S>) -> Result<(), TableFault>
-    ensures inside { GoesOnInTurn S.Store tx.old.conn tx.new.conn result }
-    ensures grown { HasCleanDisk (state S.Store tx.new.conn.now)
-        → IsWhole (schema_at Fourth) (state S.Store tx.old.conn.now).now
-        → OnOk result
-        (Grows (schema_at Fourth) (schema_at Fifth) (state S.Store tx.old.conn.now).now
-        (state S.Store tx.new.conn.now).now) }
-{
-    define(
-        tx,
-        &[
-            "CREATE TABLE rule_5 (place INTEGER PRIMARY KEY, effect INTEGER NOT NULL, role TEXT NOT NULL, action TEXT NOT NULL, collection TEXT NOT NULL, class TEXT NOT NULL, first INTEGER NOT NULL, last INTEGER NOT NULL) STRICT",
-        ],
-    )
-}
-
-/// Copies the holds into the table whose holds may name a class.
-fn copy_holds<S: Alter>(tx: &mut Transaction<'_, S>) -> Result<(), TableFault>
-    ensures inside { GoesOnInside S.Store tx.old.conn tx.new.conn result }
-    ensures copied { HasCleanDisk (state S.Store tx.new.conn.now)
-        → IsWhole (schema_at Fourth) (state S.Store tx.old.conn.now).now
-        → (state S.Store tx.old.conn.now).now.trees 19 ≡ []
-        → OnOk result
-        (Sets (schema_at Fourth) 19 (map moved_hold ((state S.Store tx.old.conn.now).now.trees 12))
-        (state S.Store tx.old.conn.now).now (state S.Store tx.new.conn.now).now) }
-{
-    change(
-        tx,
-        "INSERT INTO hold_4 (number, deposit, collection, class, matter, placed, released) SELECT number, deposit, collection, NULL, matter, placed, released FROM hold ORDER BY number",
-        &[],
-    )?;
-    Ok(())
-}
-
-/// Empties the table of holds that can't name a class.
-fn empty_holds<S: Alter>(tx: &mut Transaction<'_, S>) -> Result<(), TableFault>
-    ensures inside { GoesOnInside S.Store tx.old.conn tx.new.conn result }
-    ensures emptied { HasCleanDisk (state S.Store tx.new.conn.now)
-        → IsWhole (schema_at Fourth) (state S.Store tx.old.conn.now).now
-        → OnOk result
-        (Sets (schema_at Fourth) 12 [] (state S.Store tx.old.conn.now).now
-        (state S.Store tx.new.conn.now).now) }
-{
-    change(tx, "DELETE FROM hold", &[])?;
-    Ok(())
-}
 
 /// Makes the tables of version 4 of those of version 3: that of holds that may name a class, with the holds. The row of the
 /// office tells the older version still.
@@ -91,39 +20,21 @@ pub fn move_holds<S: Alter>(tx: &mut Transaction<'_, S>) -> Result<(), TableFaul
     ensures inside { GoesOnInTurn S.Store tx.old.conn tx.new.conn result }
     ensures moved { Moves S.Store Third Fourth tx.old.conn.now tx.new.conn.now result }
 {
-    define_holds(tx)?;
-    copy_holds(tx)?;
-    empty_holds(tx)
-}
-
-/// Copies the rules into the table whose rules have days.
-fn copy_rules<S: Alter>(tx: &mut Transaction<'_, S>) -> Result<(), TableFault>
-    ensures inside { GoesOnInside S.Store tx.old.conn tx.new.conn result }
-    ensures copied { HasCleanDisk (state S.Store tx.new.conn.now)
-        → IsWhole (schema_at Fifth) (state S.Store tx.old.conn.now).now
-        → (state S.Store tx.old.conn.now).now.trees 23 ≡ []
-        → OnOk result
-        (Sets (schema_at Fifth) 23 (map moved_rule ((state S.Store tx.old.conn.now).now.trees 3))
-        (state S.Store tx.old.conn.now).now (state S.Store tx.new.conn.now).now) }
-{
+    define(
+        tx,
+        &[
+            "CREATE TABLE hold_4 (number INTEGER PRIMARY KEY, deposit INTEGER, collection TEXT, class TEXT, matter TEXT NOT NULL, placed INTEGER NOT NULL, released INTEGER) STRICT",
+            "CREATE INDEX hold_4_deposit ON hold_4 (deposit)",
+            "CREATE INDEX hold_4_collection ON hold_4 (collection)",
+            "CREATE INDEX hold_4_class ON hold_4 (class)",
+        ],
+    )?;
     change(
         tx,
-        "INSERT INTO rule_5 (place, effect, role, action, collection, class, first, last) SELECT place, effect, role, action, collection, class, -25567, 2859848 FROM rule ORDER BY place",
+        "INSERT INTO hold_4 (number, deposit, collection, class, matter, placed, released) SELECT number, deposit, collection, NULL, matter, placed, released FROM hold ORDER BY number",
         &[],
     )?;
-    Ok(())
-}
-
-/// Empties the table of rules without days.
-fn empty_rules<S: Alter>(tx: &mut Transaction<'_, S>) -> Result<(), TableFault>
-    ensures inside { GoesOnInside S.Store tx.old.conn tx.new.conn result }
-    ensures emptied { HasCleanDisk (state S.Store tx.new.conn.now)
-        → IsWhole (schema_at Fifth) (state S.Store tx.old.conn.now).now
-        → OnOk result
-        (Sets (schema_at Fifth) 3 [] (state S.Store tx.old.conn.now).now
-        (state S.Store tx.new.conn.now).now) }
-{
-    change(tx, "DELETE FROM rule", &[])?;
+    change(tx, "DELETE FROM hold", &[])?;
     Ok(())
 }
 
@@ -132,9 +43,19 @@ fn move_rules<S: Alter>(tx: &mut Transaction<'_, S>) -> Result<(), TableFault>
     ensures inside { GoesOnInTurn S.Store tx.old.conn tx.new.conn result }
     ensures moved { Moves S.Store Fourth Fifth tx.old.conn.now tx.new.conn.now result }
 {
-    define_rules(tx)?;
-    copy_rules(tx)?;
-    empty_rules(tx)
+    define(
+        tx,
+        &[
+            "CREATE TABLE rule_5 (place INTEGER PRIMARY KEY, effect INTEGER NOT NULL, role TEXT NOT NULL, action TEXT NOT NULL, collection TEXT NOT NULL, class TEXT NOT NULL, first INTEGER NOT NULL, last INTEGER NOT NULL) STRICT",
+        ],
+    )?;
+    change(
+        tx,
+        "INSERT INTO rule_5 (place, effect, role, action, collection, class, first, last) SELECT place, effect, role, action, collection, class, -25567, 2859848 FROM rule ORDER BY place",
+        &[],
+    )?;
+    change(tx, "DELETE FROM rule", &[])?;
+    Ok(())
 }
 
 /// Notes the newest version in the row of the office.

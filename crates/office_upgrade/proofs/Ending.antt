@@ -17,7 +17,7 @@ use Rattle.office_tables.specs.declared.fault.TableFault.TheVariants.{NotAnOffic
 use Rattle.office_rows.specs.Rows.{version_of}
 use Rattle.office_tables.specs.Moving.{AllRows, BecomesAt, renewed}
 use Rattle.office_tables.specs.Versions.{version_number}
-use Rattle.office_upgrade.specs.Upgrading.{IsOfficeOf, IsOlder, IsRenewed, IsUpgrade, IsLeftAt, HasUnknownVersion, Tells}
+use Rattle.office_upgrade.specs.Upgrading.{IsOfficeOf, IsOlder, IsRenewed, IsUpgrade, IsLeftAt, HasUnknownVersion, TellsVersion}
 use Rattle.office_tables.specs.declared.version.TableVersion.{TableVersion}
 use Rattle.office_tables.specs.declared.version.TableVersion.TheVariants.{Fifth}
 use Rattle.office_tables.proofs.OpenLemmas.{tells_version}
@@ -84,7 +84,7 @@ module _ {S : Type 0} (g : Ghosts S) (first last end : Held S) (taken : Result B
 
 -- of an office of a known version nothing but a failure is said
 pub fails_only : (stopped : TableFault) (db : Database) → (stopped ≡ NotAnOffice → ShowsVersion db None) → (stopped ≡ OtherVersion → HasUnknownVersion db)
-    → (version : TableVersion) (rows : AllRows) → BecomesAt version db rows → Tells version rows → IsFailure stopped
+    → (version : TableVersion) (rows : AllRows) → BecomesAt version db rows → TellsVersion version rows → IsFailure stopped
 fails_only NotAnOffice db none other version rows becomes told =
     absurd (let none_told : None ≡ Some (version_number version) = sym (tells_version version db becomes.office.whole None (none refl)) ∙ ap (λ (r : AllRows). version_of r.tables) becomes.are ∙ told in cc)
 fails_only OtherVersion db none other version rows becomes told =

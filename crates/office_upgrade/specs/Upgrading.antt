@@ -13,8 +13,8 @@ use Rattle.office_tables.specs.declared.version.TableVersion.{TableVersion}
 use Rattle.office_tables.specs.declared.version.TableVersion.TheVariants.{Fifth}
 
 -- the rows tell the version
-abbrev pub Tells : TableVersion → AllRows → Type 0
-Tells version rows = version_of rows.tables ≡ Some (version_number version)
+abbrev pub TellsVersion : TableVersion → AllRows → Type 0
+TellsVersion version rows = version_of rows.tables ≡ Some (version_number version)
 
 -- if the rows tell a version, it is this one
 abbrev pub TellsNoOther : TableVersion → AllRows → Type 0
@@ -83,7 +83,7 @@ LeavesOffice old new = (version : TableVersion) (rows : AllRows) → TellsNoOthe
 
 -- whichever office of an older version stood there, kept or left by a crash, the store is open
 abbrev pub OpensOlder : State → State → Type 0
-OpensOlder old new = (version : TableVersion) (rows : AllRows) → version_number version ≢ version_number Fifth → Tells version rows → IsTrue old.is_open
+OpensOlder old new = (version : TableVersion) (rows : AllRows) → version_number version ≢ version_number Fifth → TellsVersion version rows → IsTrue old.is_open
     → IsLeftAt version rows old.now.trees → IsTrue new.is_open
 
 -- of tables that are the newest, a crash leaves no other trees than it could leave before

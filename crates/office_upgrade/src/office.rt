@@ -11,7 +11,7 @@ ghost use Rattle.office_tables.specs.Opening.{KeepsTables, HasVersion, has_offic
 ghost use Rattle.office_tables.specs.declared.fault.TableFault.TheVariants.{NotAnOffice, OtherVersion};
 ghost use Rattle.office_tables.specs.Moving.{AllRows, BecomesAt};
 ghost use Rattle.office_tables.specs.Versions.{IsOfficeAt, tables_at, version_number};
-ghost use Rattle.office_upgrade.specs.Upgrading.{IsOlder, IsUpgrade, IsLeftAt, Tells, TellsKnown, TellsUnknown, Upgrades, UpgradeLasts, TakesUp, KeepsOffice, LeavesOffice, GoesBack, OpensOlder, NewestSurvives, HasUnknownVersion};
+ghost use Rattle.office_upgrade.specs.Upgrading.{IsOlder, IsUpgrade, IsLeftAt, TellsVersion, TellsKnown, TellsUnknown, Upgrades, UpgradeLasts, TakesUp, KeepsOffice, LeavesOffice, GoesBack, OpensOlder, NewestSurvives, HasUnknownVersion};
 ghost use Rattle.office_tables.specs.declared.version.TableVersion.{TableVersion as Version};
 
 use crate::upgrading::upgrade;
@@ -103,10 +103,10 @@ pub fn upgrade_office<S: Alter>(
     // Of an office that tells its version, and of what was left of one, it says neither.
     ensures failure { IfErr result (λ e.
         HasCleanDisk (state S.Store e.0) → (version : Version) (rows : AllRows)
-        → BecomesAt version (state S.Store conn).now rows → Tells version rows → IsFailure e.1) }
+        → BecomesAt version (state S.Store conn).now rows → TellsVersion version rows → IsFailure e.1) }
     ensures left_failure { IfErr result (λ e.
         HasCleanDisk (state S.Store e.0) → IsTrue (state S.Store conn).is_open
-        → (version : Version) (rows : AllRows) → Tells version rows
+        → (version : Version) (rows : AllRows) → TellsVersion version rows
         → IsLeftAt version rows (state S.Store conn).now.trees → IsFailure e.1) }
 {
     // What the connection says of its state, and of its schema.

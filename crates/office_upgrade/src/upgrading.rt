@@ -14,7 +14,7 @@ ghost use Rattle.office_tables.specs.Opening.{shows_office, known_row, ShowsVers
 ghost use Rattle.office_tables.specs.declared.fault.TableFault.TheVariants as fault;
 ghost use Rattle.office_tables.specs.Moving.{AllRows, BecomesAt, renewed};
 ghost use Rattle.office_tables.specs.Versions.{version_number};
-ghost use Rattle.office_upgrade.specs.Upgrading.{IsOfficeOf, IsOlder, IsUpgrade, IsRenewed, IsLeftAt, HasUnknownVersion, Tells};
+ghost use Rattle.office_upgrade.specs.Upgrading.{IsOfficeOf, IsOlder, IsUpgrade, IsRenewed, IsLeftAt, HasUnknownVersion, TellsVersion};
 ghost use Rattle.office_tables.specs.declared.version.TableVersion.{TableVersion as Version};
 ghost use Rattle.office_tables.specs.declared.version.TableVersion.TheVariants.{Fifth};
 
@@ -169,7 +169,7 @@ pub fn upgrade<S: Alter>(conn: &mut Connection<S>) -> Result<(), TableFault>
     ensures failure { HasCleanDisk (state S.Store conn.new)
         → IfErr result (λ stopped.
         (version : Version) (rows : AllRows) → BecomesAt version (state S.Store conn.old).now rows
-        → Tells version rows → IsFailure stopped) }
+        → TellsVersion version rows → IsFailure stopped) }
 {
     // What the connection says of its state.
     let _is_settled = conn.is_autocommit();

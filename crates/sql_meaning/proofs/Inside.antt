@@ -10,7 +10,7 @@ use Rattle.sqlite_resolve.specs.declared.compiled.Compiled.{Compiled}
 use Rattle.sqlite_schema.specs.declared.command.Returning.{Returning}
 use Rattle.sqlite.proofs.StateLemmas.{survives_then}
 use Rattle.sqlite.proofs.Callers.{survives_begin}
-use Rattle.sql_meaning.specs.Inside.{Stays, GoesOn, Stands}
+use Rattle.sql_meaning.specs.Inside.{Stays, GoesOn, GoesOnIfAny}
 
 -- a call that answered was made inside the transaction
 pub is_inside : {A E X : Type 0} {a : A} {e : E} (b : Bool) → (b ≡ false → (◌≡◌ {A = Result A E} (Ok a) (Err e)) × X) → IsTrue b
@@ -70,13 +70,13 @@ module _ (sql : List ℕ) (row : Row) (old new : State) where
 pub goes_then : (a b c : State) → GoesOn a b → GoesOn b c → GoesOn a c
 goes_then a b c p q = record { was_open = p.was_open; is_open = q.is_open; inside = λ inside. q.inside (p.inside inside) }
 
-pub stands_then : (a b c : State) → Stands a b → GoesOn b c → Stands a c
+pub stands_then : (a b c : State) → GoesOnIfAny a b → GoesOn b c → GoesOnIfAny a c
 stands_then a b c p q = record { is_open = λ _. q.is_open; inside = λ inside. q.inside (p.inside inside) }
 
 pub keeps_then : (a b c : State) → KeepsCommit a b → KeepsCommit b c → KeepsCommit a c
 keeps_then a b c p q = record { was_open = λ now. p.was_open (q.was_open now); committed = λ now. q.committed now ∙ p.committed (q.was_open now) }
 
-pub stays_on : (a b c : State) → Stays a b → (HasCleanDisk b → Stands a b) → Stays b c → Stays a c
+pub stays_on : (a b c : State) → Stays a b → (HasCleanDisk b → GoesOnIfAny a b) → Stays b c → Stays a c
 stays_on a b c p goes q = record {
   survives = survives_then a b c _ _ (λ _. ⊥) (λ _ db none. none) (λ _ db none. none) p.survives q.survives;
   kept = λ clean inside. let early : HasCleanDisk b = omega (arith, q.survives.clean) in keeps_then a b c (p.kept early inside) (q.kept clean ((goes early).inside inside));

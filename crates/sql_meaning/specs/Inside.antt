@@ -14,6 +14,6 @@ pub record GoesOn (old new : State) : Type 0 where
   pub inside : IsTrue old.in_transaction → IsTrue new.in_transaction
 
 -- the same of calls in turn, of which there may be none
-pub record Stands (old new : State) : Type 0 where
+pub record GoesOnIfAny (old new : State) : Type 0 where
   pub is_open : IsTrue old.is_open → IsTrue new.is_open
   pub inside : IsTrue old.in_transaction → IsTrue new.in_transaction

@@ -1,4 +1,3 @@
-use Rattle.sqlite.specs.Held.{state}
 use Rattle.sql_meaning.proofs.Results.{on_ok}
 use Rattle.office_tables.proofs.CollectionLemmas.{adds_collection}
 use Rattle.office_tables.proofs.OnceLemmas.{add_collection_once}
@@ -6,7 +5,7 @@ use Rattle.office_tables.proofs.classes.add_collection.Goals as goal
 
 pub returns-clause-becomes : goal.returns-clause-becomes
 returns-clause-becomes g c clean office =
-    on_ok c.change.result (λ count h. adds_collection (state g.S.Store c.args.tx.now.conn.now) (state g.S.Store c.change.new.tx.conn.now) c.args.name.now count office h) (rw c.params-to_sql.ensures at (c.change.ensures.ran clean))
+    on_ok c.change.result (λ count h. adds_collection _ _ c.args.name.now count office h) (rw c.params-to_sql.ensures at (c.change.ensures.ran clean))
 
 pub returns-clause-once : goal.returns-clause-once
-returns-clause-once g c clean office kept = on_ok c.change.result (λ count h. add_collection_once _ (state g.S.Store c.args.tx.now.conn.now) (state g.S.Store c.change.new.tx.conn.now) count office h kept) (c.change.ensures.ran clean)
+returns-clause-once g c clean office kept = on_ok c.change.result (λ count h. add_collection_once _ _ _ count office h kept) (c.change.ensures.ran clean)

@@ -1,8 +1,9 @@
-use Rattle.std.proofs.Common.{arith, w64}
+use Rattle.std.proofs.Common.{w64}
 use Rattle.std.proofs.lemmas.Int.{to_z-of_z}
 use Rattle.sqlite.specs.State.{HasCleanDisk}
 use Rattle.sqlite.specs.Held.{state}
 use Rattle.office_tables.specs.Tables.{tables_of}
+use Rattle.office_tables.proofs.InTurn.{clean_first}
 use Rattle.office_tables.proofs.ClassLemmas.{puts_class}
 use Rattle.office_tables.proofs.classes.put_class.Goals as goal
 
@@ -10,8 +11,7 @@ pub returns-in_ok-add_class-clause-becomes : goal.returns-in_ok-add_class-clause
 returns-in_ok-add_class-clause-becomes g c clean office =
     let mid = (state g.S.Store c.revise_class.new.tx.conn.now).now in
     let years = to_z-of_z w64 c.args.years c.ranges.years in
-    let low = c.add_class.ensures.inside.stays.survives.clean in
-    let early : HasCleanDisk (state g.S.Store c.revise_class.new.tx.conn.now) = omega (arith, clean, low) in
+    let early : HasCleanDisk (state g.S.Store c.revise_class.new.tx.conn.now) = clean_first c.add_class.ensures.inside.stays clean in
     let first = rw years at (c.in_ok-revise_class.ensures.becomes early office) in
     let counted = c.in_ok-revise_class.ensures.counted early office in
     (puts_class (tables_of (state g.S.Store c.args.tx.now.conn.now).now) c.args.name.now c.args.years mid c.in_ok-revise_class.field-0 first counted).0 c.if-branch-eq0.true (state g.S.Store c.add_class.new.tx.conn.now).now (rw years at (c.in_ok-add_class.ensures.becomes clean first.office))

@@ -1,8 +1,7 @@
 use Rattle.std.proofs.lemmas.Result.{IfOk-weaker}
-use Rattle.sqlite.specs.Held.{state}
 use Rattle.office_tables.proofs.DueLemmas.{lists_beside}
 use Rattle.office_tables.proofs.dues.rows_beside.Goals as goal
 
 pub returns-clause-found : goal.returns-clause-found
 returns-clause-found g c clean office =
-    IfOk-weaker c.ask.result _ _ (λ rows h. lists_beside (state g.S.Store c.args.tx.now.conn.now) (state g.S.Store c.ask.new.tx.conn.now) rows.items office h) (c.ask.ensures.shown clean)
+    IfOk-weaker c.ask.result _ _ (λ rows h. lists_beside _ _ rows.items office h) (c.ask.ensures.shown clean)

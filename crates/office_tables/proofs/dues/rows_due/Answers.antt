@@ -1,11 +1,10 @@
 use Rattle.std.proofs.Common.{w64}
 use Rattle.std.proofs.lemmas.Int.{to_z-of_z}
 use Rattle.std.proofs.lemmas.Result.{IfOk-weaker}
-use Rattle.sqlite.specs.Held.{state}
 use Rattle.office_tables.proofs.DueLemmas.{lists_due}
 use Rattle.office_tables.proofs.dues.rows_due.Goals as goal
 
 pub returns-clause-found : goal.returns-clause-found
 returns-clause-found g c clean office =
     let day = to_z-of_z w64 c.args.day c.ranges.day in
-    IfOk-weaker c.ask.result _ _ (λ rows h. lists_due (state g.S.Store c.args.tx.now.conn.now) (state g.S.Store c.ask.new.tx.conn.now) c.args.day rows.items office h) (rw (c.params-to_sql.ensures, c.params-to_sql-2.ensures, day) at (c.ask.ensures.shown clean))
+    IfOk-weaker c.ask.result _ _ (λ rows h. lists_due _ _ c.args.day rows.items office h) (rw (c.params-to_sql.ensures, c.params-to_sql-2.ensures, day) at (c.ask.ensures.shown clean))

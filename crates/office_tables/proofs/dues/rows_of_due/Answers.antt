@@ -1,9 +1,8 @@
 use Rattle.std.proofs.Common.{pos}
 use Rattle.std.proofs.lemmas.Result.{IfOk-weaker}
-use Rattle.sqlite.specs.Held.{state}
 use Rattle.office_tables.proofs.DueLemmas.{finds_due}
 use Rattle.office_tables.proofs.dues.rows_of_due.Goals as goal
 
 pub returns-clause-found : goal.returns-clause-found
 returns-clause-found g c clean office =
-    IfOk-weaker c.ask.result _ _ (λ rows h. finds_due (state g.S.Store c.args.tx.now.conn.now) (state g.S.Store c.ask.new.tx.conn.now) (pos c.args.number) rows.items office h) (rw c.params-to_sql.ensures at (c.ask.ensures.shown clean))
+    IfOk-weaker c.ask.result _ _ (λ rows h. finds_due _ _ (pos c.args.number) rows.items office h) (rw c.params-to_sql.ensures at (c.ask.ensures.shown clean))

@@ -1,16 +1,11 @@
 use Rattle.std.proofs.Common.{pos, w64}
 use Rattle.std.proofs.lemmas.Int.{to_z-of_z}
-use Rattle.sqlite.specs.Held.{state}
 use Rattle.office_tables.proofs.DueLemmas.{sets_holds}
 use Rattle.office_tables.proofs.OnceLemmas.{set_holds_once}
 use Rattle.office_tables.proofs.dues.set_holds.Goals as goal
 
 pub returns-clause-becomes : goal.returns-clause-becomes
-returns-clause-becomes g c clean office =
-    let a = c.args in
-    let holds = to_z-of_z w64 a.holds c.ranges.holds in
-    let ran = rw (c.params-to_sql.ensures, c.params-to_sql-2.ensures, holds) at (c.in_ok-change.ensures.ran clean) in
-    sets_holds (state g.S.Store a.tx.now.conn.now) (state g.S.Store c.change.new.tx.conn.now) (pos a.number) a.holds c.in_ok-change.field-0 office ran
+returns-clause-becomes g c clean office = sets_holds _ _ (pos c.args.number) c.args.holds c.in_ok-change.field-0 office (rw (c.params-to_sql.ensures, c.params-to_sql-2.ensures, to_z-of_z w64 c.args.holds c.ranges.holds) at (c.in_ok-change.ensures.ran clean))
 
 pub returns-clause-once : goal.returns-clause-once
-returns-clause-once g c clean office kept = set_holds_once _ (state g.S.Store c.args.tx.now.conn.now) (state g.S.Store c.change.new.tx.conn.now) c.in_ok-change.field-0 office (c.in_ok-change.ensures.ran clean) kept
+returns-clause-once g c clean office kept = set_holds_once _ _ _ c.in_ok-change.field-0 office (c.in_ok-change.ensures.ran clean) kept

@@ -1,9 +1,8 @@
 use Rattle.std.proofs.Common.{pos}
 use Rattle.std.proofs.lemmas.Result.{IfOk-weaker}
-use Rattle.sqlite.specs.Held.{state}
 use Rattle.office_tables.proofs.FileLemmas.{drops_files}
 use Rattle.office_tables.proofs.files.drop_rows.Goals as goal
 
 pub returns-clause-dropped : goal.returns-clause-dropped
 returns-clause-dropped g c clean office =
-    IfOk-weaker c.change.result _ _ (λ count h. drops_files (state g.S.Store c.args.tx.now.conn.now) (state g.S.Store c.change.new.tx.conn.now) (pos c.args.number) count office h) (rw c.params-to_sql.ensures at (c.change.ensures.ran clean))
+    IfOk-weaker c.change.result _ _ (λ count h. drops_files _ _ (pos c.args.number) count office h) (rw c.params-to_sql.ensures at (c.change.ensures.ran clean))

@@ -1,4 +1,4 @@
-use Rattle.std.proofs.Common.{◌≡◌, arith, pos, map, Some, sym, subst}
+use Rattle.std.proofs.Common.{◌≡◌, pos, map, Some, sym, subst}
 use Rattle.std.proofs.lemmas.Result.{IfOk-weaker}
 use Rattle.sqlite.specs.Effect.{Database}
 use Rattle.sqlite.specs.State.{HasCleanDisk}
@@ -7,13 +7,14 @@ use Rattle.office_rows.specs.Rows.{file_at}
 use Rattle.office_tables.specs.Tables.{IsOffice, tables_of}
 use Rattle.office_tables.specs.Deposits.{shown_path}
 use Rattle.office_tables.proofs.FileLemmas.{gathers_files}
+use Rattle.office_tables.proofs.InTurn.{clean_first}
 use Rattle.office_tables.proofs.files.files_of.Goals as goal
 
 pub returns-clause-found : goal.returns-clause-found
 returns-clause-found g c clean office =
     let old = state g.S.Store c.args.tx.now.conn.now in
     let mid = state g.S.Store c.rows_of_paths.new.tx.conn.now in
-    let clean_mid : HasCleanDisk mid = omega (arith, clean, c.files_at.ensures.inside.stays.survives.clean) in
+    let clean_mid : HasCleanDisk mid = clean_first c.files_at.ensures.inside.stays clean in
     let paths = c.in_ok-rows.ensures.found clean_mid office in
     let found = rw c.deref.ensures.value at (c.files_at.ensures.found clean (subst IsOffice (sym paths.0) office)) in
     let n = pos c.args.number in

@@ -1,10 +1,9 @@
 use Rattle.std.proofs.Common.{pos}
 use Rattle.std.proofs.lemmas.Result.{IfOk-weaker}
-use Rattle.sqlite.specs.Held.{state}
 use Rattle.office_tables.proofs.FileLemmas.{finds_content}
 use Rattle.office_tables.proofs.files.rows_of_file.Goals as goal
 
 pub returns-clause-found : goal.returns-clause-found
 returns-clause-found g c clean office =
     let shown = rw (c.params-to_sql.ensures, c.params-to_sql-2.ensures) at (c.ask.ensures.shown clean) in
-    IfOk-weaker c.ask.result _ _ (λ rows h. finds_content (state g.S.Store c.args.tx.now.conn.now) (state g.S.Store c.ask.new.tx.conn.now) (pos c.args.number) c.args.path.now rows.items office h) shown
+    IfOk-weaker c.ask.result _ _ (λ rows h. finds_content _ _ (pos c.args.number) c.args.path.now rows.items office h) shown

@@ -1,9 +1,8 @@
 use Rattle.std.proofs.Common.{pos}
 use Rattle.std.proofs.lemmas.Result.{IfOk-weaker}
-use Rattle.sqlite.specs.Held.{state}
 use Rattle.office_tables.proofs.FileLemmas.{finds_contents}
 use Rattle.office_tables.proofs.files.rows_of_ids.Goals as goal
 
 pub returns-clause-found : goal.returns-clause-found
 returns-clause-found g c clean office =
-    IfOk-weaker c.ask.result _ _ (λ rows h. finds_contents (state g.S.Store c.args.tx.now.conn.now) (state g.S.Store c.ask.new.tx.conn.now) (pos c.args.number) rows.items office h) (rw c.params-to_sql.ensures at (c.ask.ensures.shown clean))
+    IfOk-weaker c.ask.result _ _ (λ rows h. finds_contents _ _ (pos c.args.number) rows.items office h) (rw c.params-to_sql.ensures at (c.ask.ensures.shown clean))

@@ -1,8 +1,10 @@
-use Rattle.std.proofs.Common.{ℕ, ℤ, pos, w64, refl, List, Option, None, option_map, Bor}
+use Rattle.std.proofs.Common.{ℕ, ℤ, pos, w64, refl, rules, List, Option, None, Ok, option_map, Bor}
 use Rattle.std.proofs.lemmas.Int.{to_z-of_z}
+use Rattle.sqlite.specs.State.{HasCleanDisk, Executes}
 use Rattle.sqlite.specs.Held.{state}
 use Rattle.office_rows.specs.Rows.{HoldRow}
-use Rattle.office_tables.proofs.HoldLemmas.{puts_hold, hold_was_new, bound_number, bound_text}
+use Rattle.office_tables.proofs.HoldLemmas.{params_of, puts_hold, hold_was_new, bound_number, bound_text}
+use Rattle.office_tables.proofs.HoldTexts.{put_text}
 use Rattle.office_tables.proofs.OnceLemmas.{add_hold_once}
 use Rattle.office_tables.proofs.holds.add_hold.Goals as goal
 
@@ -17,11 +19,14 @@ put number deposit collection class matter placed = record {
   released = None;
 }
 
-pub returns-clause-becomes : goal.returns-clause-becomes
-returns-clause-becomes g c clean office =
+pub returns : goal.returns
+returns g c =
     let a = c.args in
+    let old = state g.S.Store a.tx.now.conn.now in
+    let new = state g.S.Store c.change.new.tx.conn.now in
     let placed = to_z-of_z w64 a.placed c.ranges.placed in
-    let ran = rw (
+    let hold = put a.number a.deposit a.collection a.class a.matter.now a.placed in
+    let ran : HasCleanDisk new → Executes put_text (params_of hold) old new (Ok c.in_ok-change.field-0) = λ clean. rw (
       c.params-to_sql.ensures,
       c.params-to_sql-2.ensures,
       c.params-to_sql-3.ensures,
@@ -33,25 +38,9 @@ returns-clause-becomes g c clean office =
       bound_text a.collection,
       bound_text a.class,
     ) at (c.in_ok-change.ensures.ran clean) in
-    puts_hold (state g.S.Store a.tx.now.conn.now) (state g.S.Store c.change.new.tx.conn.now) (put a.number a.deposit a.collection a.class a.matter.now a.placed) refl c.in_ok-change.field-0 office ran
-
-pub returns-clause-new_number : goal.returns-clause-new_number
-returns-clause-new_number g c clean office =
-    let a = c.args in
-    let placed = to_z-of_z w64 a.placed c.ranges.placed in
-    let ran = rw (
-      c.params-to_sql.ensures,
-      c.params-to_sql-2.ensures,
-      c.params-to_sql-3.ensures,
-      c.params-to_sql-4.ensures,
-      c.params-to_sql-5.ensures,
-      c.params-to_sql-6.ensures,
-      placed,
-      bound_number a.deposit,
-      bound_text a.collection,
-      bound_text a.class,
-    ) at (c.in_ok-change.ensures.ran clean) in
-    hold_was_new (state g.S.Store a.tx.now.conn.now) (state g.S.Store c.change.new.tx.conn.now) (put a.number a.deposit a.collection a.class a.matter.now a.placed) refl c.in_ok-change.field-0 office ran
-
-pub returns-clause-once : goal.returns-clause-once
-returns-clause-once g c clean office kept = add_hold_once _ (state g.S.Store c.args.tx.now.conn.now) (state g.S.Store c.change.new.tx.conn.now) c.in_ok-change.field-0 office (c.in_ok-change.ensures.ran clean) kept
+    record {
+      inside = search rules;
+      becomes = λ clean office. puts_hold old new hold refl c.in_ok-change.field-0 office (ran clean);
+      new_number = λ clean office. hold_was_new old new hold refl c.in_ok-change.field-0 office (ran clean);
+      once = λ clean office kept. add_hold_once _ old new c.in_ok-change.field-0 office (ran clean) kept;
+    }

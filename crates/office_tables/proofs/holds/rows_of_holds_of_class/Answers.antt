@@ -1,11 +1,10 @@
 use Rattle.std.proofs.Common.{pos}
 use Rattle.std.proofs.lemmas.Result.{IfOk-weaker}
-use Rattle.sqlite.specs.Held.{state}
 use Rattle.office_tables.proofs.HoldLemmas.{lists_of_class}
 use Rattle.office_tables.proofs.holds.rows_of_holds_of_class.Goals as goal
 
 pub returns-clause-found : goal.returns-clause-found
 returns-clause-found g c clean office =
     let a = c.args in
-    IfOk-weaker c.ask.result _ _ (λ rows h. lists_of_class (state g.S.Store a.tx.now.conn.now) (state g.S.Store c.ask.new.tx.conn.now) (pos a.deposit) a.collection.now a.class.now rows.items office h)
+    IfOk-weaker c.ask.result _ _ (λ rows h. lists_of_class _ _ (pos a.deposit) a.collection.now a.class.now rows.items office h)
     (rw (c.params-to_sql.ensures, c.params-to_sql-2.ensures, c.params-to_sql-3.ensures) at (c.ask.ensures.shown clean))

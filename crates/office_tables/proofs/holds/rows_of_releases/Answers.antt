@@ -1,32 +1,20 @@
 use Rattle.std.proofs.Common.{pos, w64}
 use Rattle.std.proofs.lemmas.Int.{to_z-of_z}
 use Rattle.std.proofs.lemmas.Result.{IfOk-weaker}
-use Rattle.sqlite.specs.Held.{state}
 use Rattle.office_tables.proofs.ReleaseLemmas.{tells_outside_of_class, tells_outside_on, tells_outside_within}
 use Rattle.office_tables.proofs.holds.rows_of_releases.Goals as goal
 
 pub returns-in-Deposit-clause-found : goal.returns-in-Deposit-clause-found
 returns-in-Deposit-clause-found g c clean office =
-    let a = c.args in
-    let first = to_z-of_z w64 a.first c.ranges.first in
-    let last = to_z-of_z w64 a.last c.ranges.last in
-    rw c.in-Deposit.is (IfOk-weaker c.ask.result _ _ (λ rows h. tells_outside_on (state g.S.Store a.tx.now.conn.now) (state g.S.Store c.ask.new.tx.conn.now) (pos c.in-Deposit.number) a.first a.last rows.items office h)
-    (rw (c.params-to_sql.ensures, c.params-to_sql-in-Deposit.ensures, c.params-to_sql-in-Deposit-2.ensures, first, last) at (c.ask.ensures.shown clean)))
+    rw c.in-Deposit.is (IfOk-weaker c.ask.result _ _ (λ rows h. tells_outside_on _ _ (pos c.in-Deposit.number) c.args.first c.args.last rows.items office h)
+    (rw (c.params-to_sql.ensures, c.params-to_sql-in-Deposit.ensures, c.params-to_sql-in-Deposit-2.ensures, to_z-of_z w64 c.args.first c.ranges.first, to_z-of_z w64 c.args.last c.ranges.last) at (c.ask.ensures.shown clean)))
 
 pub returns-in-Collection-clause-found : goal.returns-in-Collection-clause-found
 returns-in-Collection-clause-found g c clean office =
-    let a = c.args in
-    let first = to_z-of_z w64 a.first c.ranges.first in
-    let last = to_z-of_z w64 a.last c.ranges.last in
-    rw c.in-Collection.is (IfOk-weaker c.ask-in-Collection.result _ _
-    (λ rows h. tells_outside_within (state g.S.Store a.tx.now.conn.now) (state g.S.Store c.ask-in-Collection.new.tx.conn.now) c.in-Collection.name.now a.first a.last rows.items office h)
-    (rw (c.params-to_sql-in-Collection.ensures, c.params-to_sql-in-Collection-2.ensures, c.params-to_sql-in-Collection-3.ensures, first, last) at (c.ask-in-Collection.ensures.shown clean)))
+    rw c.in-Collection.is (IfOk-weaker c.ask-in-Collection.result _ _ (λ rows h. tells_outside_within _ _ c.in-Collection.name.now c.args.first c.args.last rows.items office h)
+    (rw (c.params-to_sql-in-Collection.ensures, c.params-to_sql-in-Collection-2.ensures, c.params-to_sql-in-Collection-3.ensures, to_z-of_z w64 c.args.first c.ranges.first, to_z-of_z w64 c.args.last c.ranges.last) at (c.ask-in-Collection.ensures.shown clean)))
 
 pub returns-in-Class-clause-found : goal.returns-in-Class-clause-found
 returns-in-Class-clause-found g c clean office =
-    let a = c.args in
-    let first = to_z-of_z w64 a.first c.ranges.first in
-    let last = to_z-of_z w64 a.last c.ranges.last in
-    rw c.in-Class.is (IfOk-weaker c.ask-in-Class.result _ _
-    (λ rows h. tells_outside_of_class (state g.S.Store a.tx.now.conn.now) (state g.S.Store c.ask-in-Class.new.tx.conn.now) c.in-Class.name.now a.first a.last rows.items office h)
-    (rw (c.params-to_sql-in-Class.ensures, c.params-to_sql-in-Class-2.ensures, c.params-to_sql-in-Class-3.ensures, first, last) at (c.ask-in-Class.ensures.shown clean)))
+    rw c.in-Class.is (IfOk-weaker c.ask-in-Class.result _ _ (λ rows h. tells_outside_of_class _ _ c.in-Class.name.now c.args.first c.args.last rows.items office h)
+    (rw (c.params-to_sql-in-Class.ensures, c.params-to_sql-in-Class-2.ensures, c.params-to_sql-in-Class-3.ensures, to_z-of_z w64 c.args.first c.ranges.first, to_z-of_z w64 c.args.last c.ranges.last) at (c.ask-in-Class.ensures.shown clean)))

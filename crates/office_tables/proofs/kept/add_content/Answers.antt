@@ -1,7 +1,6 @@
 use Rattle.std.proofs.Common.{w64}
 use Rattle.std.proofs.lemmas.Int.{to_z-of_z}
 use Rattle.std.proofs.lemmas.Result.{IfOk-weaker}
-use Rattle.sqlite.specs.Held.{state}
 use Rattle.office_tables.proofs.ContentLemmas.{adds_content}
 use Rattle.office_tables.proofs.kept.add_content.Goals as goal
 
@@ -9,4 +8,4 @@ pub returns-clause-added : goal.returns-clause-added
 returns-clause-added g c clean office =
     let size = to_z-of_z w64 c.args.size c.ranges.size in
     let ran = rw (c.params-to_sql.ensures, c.params-to_sql-2.ensures, c.params-to_sql-3.ensures, size, c.requires.sized) at (c.change.ensures.ran clean) in
-    IfOk-weaker c.change.result _ _ (λ count h. adds_content (state g.S.Store c.args.tx.now.conn.now) (state g.S.Store c.change.new.tx.conn.now) c.args.mark.now c.args.bytes.now count office h) ran
+    IfOk-weaker c.change.result _ _ (λ count h. adds_content _ _ c.args.mark.now c.args.bytes.now count office h) ran

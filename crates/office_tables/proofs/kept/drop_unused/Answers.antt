@@ -1,4 +1,4 @@
-use Rattle.std.proofs.Common.{◌≡◌, true, arith, not, filter, rules, sym, subst, ◌∙◌, w64}
+use Rattle.std.proofs.Common.{◌≡◌, true, not, filter, rules, sym, subst, ◌∙◌, w64}
 use Rattle.sqlite.specs.Effect.{Database}
 use Rattle.sqlite.specs.State.{HasCleanDisk}
 use Rattle.std.proofs.lemmas.Int.{to_z-of_z}
@@ -7,6 +7,7 @@ use Rattle.office_rows.specs.Rows.{is_content}
 use Rattle.office_tables.specs.Tables.{IsOffice, contents_of}
 use Rattle.office_tables.specs.Contents.{KeepsFiles}
 use Rattle.office_tables.proofs.ContentLemmas.{tidies_used, tidies_removed}
+use Rattle.office_tables.proofs.InTurn.{clean_first}
 use Rattle.office_tables.proofs.kept.drop_unused.Goals as goal
 
 pub returns-in_ok-remove_content-clause-tidied : goal.returns-in_ok-remove_content-clause-tidied
@@ -14,7 +15,7 @@ returns-in_ok-remove_content-clause-tidied g c clean office ids =
     let old = (state g.S.Store c.args.tx.now.conn.now).now in
     let mid = state g.S.Store c.is_used.new.tx.conn.now in
     let new = (state g.S.Store c.remove_content.new.tx.conn.now).now in
-    let clean_mid : HasCleanDisk mid = omega (arith, clean, c.remove_content.ensures.inside.stays.survives.clean) in
+    let clean_mid : HasCleanDisk mid = clean_first c.remove_content.ensures.inside.stays clean in
     let id = to_z-of_z w64 c.args.id c.ranges.id in
     let used = rw id at (c.in_ok-is_used.ensures.found clean_mid office) in
     let still : IsOffice mid.now = subst IsOffice (sym used.0) office in

@@ -1,7 +1,6 @@
 use Rattle.std.proofs.Common.{w64}
 use Rattle.std.proofs.lemmas.Int.{to_z-of_z}
 use Rattle.std.proofs.lemmas.Result.{IfOk-weaker}
-use Rattle.sqlite.specs.Held.{state}
 use Rattle.office_tables.proofs.ContentLemmas.{removes_content}
 use Rattle.office_tables.proofs.kept.remove_content.Goals as goal
 
@@ -9,4 +8,4 @@ pub returns-clause-removed : goal.returns-clause-removed
 returns-clause-removed g c clean office =
     let id = to_z-of_z w64 c.args.id c.ranges.id in
     let ran = rw (c.params-to_sql.ensures, id) at (c.change.ensures.ran clean) in
-    IfOk-weaker c.change.result _ _ (λ count h. removes_content (state g.S.Store c.args.tx.now.conn.now) (state g.S.Store c.change.new.tx.conn.now) c.args.id count office h) ran
+    IfOk-weaker c.change.result _ _ (λ count h. removes_content _ _ c.args.id count office h) ran

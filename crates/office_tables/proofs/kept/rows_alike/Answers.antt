@@ -1,9 +1,8 @@
 use Rattle.std.proofs.lemmas.Result.{IfOk-weaker}
-use Rattle.sqlite.specs.Held.{state}
 use Rattle.office_tables.proofs.ContentLemmas.{finds_alike}
 use Rattle.office_tables.proofs.kept.rows_alike.Goals as goal
 
 pub returns-clause-found : goal.returns-clause-found
 returns-clause-found g c clean office =
     let shown = rw (c.params-to_sql.ensures, c.params-to_sql-2.ensures) at (c.ask.ensures.shown clean) in
-    IfOk-weaker c.ask.result _ _ (λ rows h. finds_alike (state g.S.Store c.args.tx.now.conn.now) (state g.S.Store c.ask.new.tx.conn.now) c.args.mark.now c.args.bytes.now rows.items office h) shown
+    IfOk-weaker c.ask.result _ _ (λ rows h. finds_alike _ _ c.args.mark.now c.args.bytes.now rows.items office h) shown

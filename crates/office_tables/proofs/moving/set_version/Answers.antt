@@ -1,9 +1,8 @@
 use Rattle.std.proofs.Common.{pos}
-use Rattle.sqlite.specs.Held.{state}
 use Rattle.office_tables.proofs.Versioned.{sets_version}
 use Rattle.office_tables.proofs.moving.set_version.Goals as goal
 
 pub returns-clause-told : goal.returns-clause-told
 returns-clause-told g c clean rows was =
     let ran = rw (c.params-to_sql.ensures, c.params-to_sql-2.ensures) at (c.in_ok-change.ensures.ran clean) in
-    sets_version (state g.S.Store c.args.tx.now.conn.now) (state g.S.Store c.change.new.tx.conn.now) (pos 5) rows c.in_ok-change.field-0 was ran
+    sets_version _ _ (pos 5) rows c.in_ok-change.field-0 was ran

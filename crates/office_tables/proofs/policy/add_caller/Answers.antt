@@ -1,4 +1,3 @@
-use Rattle.sqlite.specs.Held.{state}
 use Rattle.sql_meaning.proofs.Results.{on_ok}
 use Rattle.office_tables.proofs.PolicyLemmas.{adds_caller}
 use Rattle.office_tables.proofs.OnceLemmas.{add_caller_once}
@@ -6,8 +5,8 @@ use Rattle.office_tables.proofs.policy.add_caller.Goals as goal
 
 pub returns-clause-becomes : goal.returns-clause-becomes
 returns-clause-becomes g c clean office =
-    on_ok c.change.result (λ count h. adds_caller (state g.S.Store c.args.tx.now.conn.now) (state g.S.Store c.change.new.tx.conn.now) (record { name = c.args.name.now; role = c.args.role.now }) count office h)
+    on_ok c.change.result (λ count h. adds_caller _ _ (record { name = c.args.name.now; role = c.args.role.now }) count office h)
     (rw (c.params-to_sql.ensures, c.params-to_sql-2.ensures) at (c.change.ensures.ran clean))
 
 pub returns-clause-once : goal.returns-clause-once
-returns-clause-once g c clean office kept = on_ok c.change.result (λ count h. add_caller_once _ (state g.S.Store c.args.tx.now.conn.now) (state g.S.Store c.change.new.tx.conn.now) count office h kept) (c.change.ensures.ran clean)
+returns-clause-once g c clean office kept = on_ok c.change.result (λ count h. add_caller_once _ _ _ count office h kept) (c.change.ensures.ran clean)

@@ -1,20 +1,7 @@
-use Rattle.std.proofs.Common.{◌≡◌, drop}
-use Rattle.sqlite.specs.State.{HasCleanDisk}
-use Rattle.sqlite.specs.Held.{state}
-use Rattle.sql_meaning.specs.Inside.{Stays, Stands}
+use Rattle.std.proofs.Common.{drop}
 use Rattle.office_rows.specs.Rows.{with_rules}
-use Rattle.office_tables.specs.Tables.{IsOffice, tables_of}
-use Rattle.office_tables.specs.Contents.{KeepsOnce}
+use Rattle.office_tables.proofs.PuttingEach.{ArePut}
 use Rattle.office_tables.proofs.policy.add_rules.Given as goal
 
 abbrev pub invariant-loop-rule : goal.invariant-loop-rule
-invariant-loop-rule g l =
-    let old = state g.S.Store l.fn.tx.conn.now in
-    let now = state g.S.Store l.tx.conn.now in
-    record {
-      same_reference : l.tx.conn.ghost_name ≡ l.fn.tx.conn.ghost_name;
-      stays : Stays old now;
-      goes_on : HasCleanDisk now → Stands old now;
-      becomes : HasCleanDisk now → IsOffice old.now → IsOffice now.now × (with_rules (drop l.rule-index l.rules) (tables_of now.now) ≡ with_rules l.rules (tables_of old.now));
-      once : HasCleanDisk now → IsOffice old.now → KeepsOnce old.now → KeepsOnce now.now;
-    }
+invariant-loop-rule g l = ArePut g.S.Store with_rules l.rules (drop l.rule-index l.rules) l.fn.tx.conn l.tx.conn

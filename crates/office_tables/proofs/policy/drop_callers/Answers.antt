@@ -1,4 +1,3 @@
-use Rattle.sqlite.specs.Held.{state}
 use Rattle.sql_meaning.proofs.Results.{on_ok}
 use Rattle.office_tables.proofs.PolicyLemmas.{drops_callers}
 use Rattle.office_tables.proofs.OnceLemmas.{drop_callers_once}
@@ -6,7 +5,7 @@ use Rattle.office_tables.proofs.policy.drop_callers.Goals as goal
 
 pub returns-clause-becomes : goal.returns-clause-becomes
 returns-clause-becomes g c clean office =
-    on_ok c.change.result (λ count h. drops_callers (state g.S.Store c.args.tx.now.conn.now) (state g.S.Store c.change.new.tx.conn.now) count office h) (c.change.ensures.ran clean)
+    on_ok c.change.result (λ count h. drops_callers _ _ count office h) (c.change.ensures.ran clean)
 
 pub returns-clause-once : goal.returns-clause-once
-returns-clause-once g c clean office kept = on_ok c.change.result (λ count h. drop_callers_once _ (state g.S.Store c.args.tx.now.conn.now) (state g.S.Store c.change.new.tx.conn.now) count office h kept) (c.change.ensures.ran clean)
+returns-clause-once g c clean office kept = on_ok c.change.result (λ count h. drop_callers_once _ _ _ count office h kept) (c.change.ensures.ran clean)

@@ -1,8 +1,7 @@
 use Rattle.std.proofs.lemmas.Result.{IfOk-weaker}
-use Rattle.sqlite.specs.Held.{state}
 use Rattle.office_tables.proofs.PolicyLemmas.{lists_rules}
 use Rattle.office_tables.proofs.policy.rows_of_rules.Goals as goal
 
 pub returns-clause-found : goal.returns-clause-found
 returns-clause-found g c clean office =
-    IfOk-weaker c.ask.result _ _ (λ rows h. lists_rules (state g.S.Store c.args.tx.now.conn.now) (state g.S.Store c.ask.new.tx.conn.now) rows.items office h) (c.ask.ensures.shown clean)
+    IfOk-weaker c.ask.result _ _ (λ rows h. lists_rules _ _ rows.items office h) (c.ask.ensures.shown clean)

@@ -1,3 +1,0 @@
-pub mod FoundAgain
-pub mod Settled
-pub mod Reopened

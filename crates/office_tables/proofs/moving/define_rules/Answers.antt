@@ -1,8 +1,0 @@
-use Rattle.std.proofs.lemmas.Result.{on_ok_weaker}
-use Rattle.office_tables.specs.Versions.{schema_at}
-use Rattle.office_tables.specs.declared.version.TableVersion.TheVariants.{Fourth, Fifth}
-use Rattle.office_tables.proofs.CreateTexts.{builds_rule_5}
-use Rattle.office_tables.proofs.moving.define_rules.Goals as goal
-
-pub returns-clause-grown : goal.returns-clause-grown
-returns-clause-grown g c clean whole = on_ok_weaker c.define.result (λ grown. grown (schema_at Fourth) (schema_at Fifth) builds_rule_5 whole) (c.define.ensures.grown clean)

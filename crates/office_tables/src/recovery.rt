@@ -1,0 +1,154 @@
+//! An office that is found again: of what was left of one, its rows as they were. It speaks of databases, so of all that
+//! can be said of one.
+
+ghost use Rattle.std.specs.Prelude.{◌≡◌, ◌≤◌, Err, None, Some, false, IsTrue, IfOk, IfErr, IfSome};
+ghost use Rattle.sqlite.specs.State.{HasCleanDisk, Survives};
+ghost use Rattle.sqlite.specs.Held.{state};
+ghost use Rattle.sqlite.specs.Files.{file_state, image_of};
+ghost use Rattle.sqlite.specs.FileStore.{view, state as files_state};
+ghost use Rattle.sqlite.specs.Recovery.{Image};
+ghost use Rattle.sqlite.specs.View.{IsClean, doubt};
+ghost use Rattle.sqlite.specs.WalFiles.{image_at};
+ghost use Rattle.office_rows.specs.Rows.{Tables, this_version, version_of};
+ghost use Rattle.office_tables.specs.Faults.{IsFailure};
+ghost use Rattle.office_tables.specs.Opening as opening;
+ghost use Rattle.office_tables.specs.Opening.{HasOtherVersion, HasVersion, KeepsTables, IsKnownAsOther, IsLeft, has_office};
+ghost use Rattle.office_tables.specs.Versions.{IsOfficeAt, tables_at};
+ghost use Rattle.office_tables.specs.declared.version.TableVersion.{TableVersion};
+ghost use Rattle.office_tables.specs.declared.fault.TableFault.TheVariants.{NotAnOffice, OtherVersion};
+ghost use Rattle.office_tables.specs.Found.{GoesOnAs, HoldsWhere, PicksUp};
+
+use crate::fault::TableFault;
+use crate::opening::open_tables;
+use crate::store_file::open_file;
+use sqlite::{Alter, Connection, FileFrom, FileStore, Files, Options, Start};
+use sqlite_disk::Disk;
+use std::alloc::Global;
+
+/// Takes a connection that shows an office of this version. It doesn't test the rows of the other
+/// tables.
+///
+/// Fails as `open_tables` does, and hands the connection back.
+pub fn adopt<S: Alter>(
+    mut conn: Connection<S>,
+) -> Result<Connection<S>, (Connection<S>, TableFault)>
+    requires outside { (state S.Store conn).in_transaction ≡ false }
+    // The tables are as they were.
+    ensures outside { IfOk result (λ office. (state S.Store office).in_transaction ≡ false) }
+    ensures same { IfOk result (λ office.
+        HasCleanDisk (state S.Store office)
+        → KeepsTables (state S.Store conn) (state S.Store office)) }
+    ensures survives { IfOk result (λ office.
+        Survives (state S.Store conn) (state S.Store office) (λ _. ⊥)) }
+    ensures version { IfOk result (λ office.
+        HasCleanDisk (state S.Store office) → HasVersion (state S.Store conn).now this_version) }
+    ensures has_table { IfOk result (λ office.
+        HasCleanDisk (state S.Store office) → IsTrue (has_office (state S.Store conn).now.schema)) }
+    ensures known_as_this { IfOk result (λ office.
+        HasCleanDisk (state S.Store office) → (version : TableVersion)
+        → IsOfficeAt version (state S.Store conn).now
+        → version_of (tables_at version (state S.Store conn).now) ≡ Some this_version) }
+    // What was left of an office goes on as that office.
+    ensures found { IfOk result (λ office.
+        HasCleanDisk (state S.Store office)
+        → GoesOnAs (state S.Store conn) (state S.Store office)) }
+
+    // A refusal leaves them so too.
+    ensures refused_outside { IfErr result (λ e. (state S.Store e.0).in_transaction ≡ false) }
+    ensures refused_same { IfErr result (λ e.
+        HasCleanDisk (state S.Store e.0) → KeepsTables (state S.Store conn) (state S.Store e.0)) }
+    ensures refused_survives { IfErr result (λ e.
+        Survives (state S.Store conn) (state S.Store e.0) (λ _. ⊥)) }
+    ensures refused { IfErr result (λ e.
+        HasCleanDisk (state S.Store e.0) → GoesOnAs (state S.Store conn) (state S.Store e.0)) }
+    // It is no office, or one of another version, exactly where `open_tables` says so.
+    ensures not_office { IfErr result (λ e.
+        HasCleanDisk (state S.Store e.0) → e.1 ≡ NotAnOffice
+        → opening.NotAnOffice (state S.Store conn).now) }
+    ensures other_version { IfErr result (λ e.
+        HasCleanDisk (state S.Store e.0) → e.1 ≡ OtherVersion
+        → HasOtherVersion (state S.Store conn).now this_version) }
+    ensures no_table { has_office (state S.Store conn).now.schema ≡ false
+        → result ≡ Err (conn, NotAnOffice) }
+    // Where the tables are an office's of any known version, it says so of what they tell.
+    ensures unknown { IfErr result (λ e.
+        HasCleanDisk (state S.Store e.0) → (version : TableVersion)
+        → IsOfficeAt version (state S.Store conn).now → e.1 ≡ NotAnOffice
+        → version_of (tables_at version (state S.Store conn).now) ≡ None) }
+    ensures known_as_other { IfErr result (λ e.
+        HasCleanDisk (state S.Store e.0) → (version : TableVersion)
+        → IsOfficeAt version (state S.Store conn).now → e.1 ≡ OtherVersion
+        → IsKnownAsOther (tables_at version (state S.Store conn).now) this_version) }
+    // Of what was left of an office of this version it says neither.
+    ensures failure { IfErr result (λ e.
+        HasCleanDisk (state S.Store e.0) → IsTrue (state S.Store conn).is_open → (tables : Tables)
+        → IsLeft tables (state S.Store conn).now.trees → version_of tables ≡ Some this_version
+        → IsFailure e.1) }
+{
+    // What the connection says of its state, and of its schema.
+    let _is_settled = conn.is_autocommit();
+    let _schema = conn.schema();
+    match open_tables(&mut conn) {
+        Ok(()) => Ok(conn),
+        Err(stopped) => Err((conn, stopped)),
+    }
+}
+
+/// Opens the files of an office by a path of the host. They may be what a crash left. `None` where
+/// they can't be opened, or are no office of this version.
+pub fn reopen<S: Start>(
+    rt: &HostRuntime,
+    path: &str,
+    start: S,
+) -> Option<Connection<FileStore<FileFrom<S>>>>
+    ensures outside { IfSome result (λ office. (file_state office).in_transaction ≡ false) }
+    // It is an office of this version, and never any other database.
+    ensures version { IfSome result (λ office.
+        HasCleanDisk (file_state office) → IsTrue (file_state office).is_open
+        → HasVersion (file_state office).now this_version) }
+    ensures goes_on { IfSome result (λ office.
+        HasCleanDisk (file_state office) → PicksUp (image_at S.Start) (file_state office)) }
+{
+    let conn = match open_file(rt, path, start) {
+        Ok(conn) => conn,
+        Err(_) => return None,
+    };
+    match adopt(conn) {
+        Ok(office) => Some(office),
+        Err(_refused) => None,
+    }
+}
+
+/// The same over any two files.
+pub fn reopen_files<D: Disk + Drop>(
+    alloc: Global,
+    files: Files<D>,
+    options: Options,
+) -> Option<Connection<FileStore<D>>>
+    requires log { IsTrue (D.Disk.is_usable files.log) }
+    requires db { IsTrue (D.Disk.is_usable files.db) }
+    ensures outside { IfSome result (λ office. (file_state office).in_transaction ≡ false) }
+    ensures version { IfSome result (λ office.
+        HasCleanDisk (file_state office) → IsTrue (file_state office).is_open
+        → HasVersion (file_state office).now this_version) }
+    ensures goes_on { IfSome result (λ office.
+        HasCleanDisk (file_state office) → PicksUp (image_of D.Disk files) (file_state office)) }
+{
+    let conn = match Connection::open_files(alloc, files, options) {
+        Ok(conn) => conn,
+        Err(_) => return None,
+    };
+    match adopt(conn) {
+        Ok(office) => Some(office),
+        Err(_) => None,
+    }
+}
+
+/// The store of a connection, as it is when the program stops.
+pub fn stop<D: Disk + Drop>(office: Connection<FileStore<D>>) -> FileStore<D>
+    ensures clean { doubt (file_state office).is_clean ≤ doubt (view result).is_clean }
+    ensures holds { IsClean (view result) → (image : Image) → (files_state result).may_leave image
+        → HoldsWhere (file_state office).may_leave image }
+{
+    office.into_store()
+}
