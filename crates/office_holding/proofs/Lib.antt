@@ -1,3 +1,4 @@
+pub mod CallsTold
 pub mod HoldCount
 pub mod HoldPlaces
 pub mod CountTold
@@ -6,4 +7,5 @@ pub mod PlacedTold
 pub mod HoldAsked
 pub mod ReleasedTold
 pub mod HoldsByRows
+pub mod NamesTold
 pub mod OneAnswer

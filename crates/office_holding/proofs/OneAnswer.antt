@@ -1,6 +1,6 @@
 -- Where a hold is placed or released, the rows of an office tell one answer.
 use Rattle.std.proofs.Common.{◌≡◌, ℕ, ℤ, pos, Bool, true, false, List, Option, Some, None, Ok, Err, sym, ap, subst, ◌∙◌}
-use Rattle.std.specs.Prelude.{is_some, option_map}
+use Rattle.std.specs.Prelude.{option_map}
 use Rattle.std.specs.Result.{result_err}
 use Rattle.std.proofs.lemmas.Option.{same_Some}
 use Rattle.jiff.specs.Types.{Date}
@@ -8,61 +8,51 @@ use Rattle.office_core.specs.declared.action.Action.TheVariants as acts
 use Rattle.office_core.specs.declared.answer.Answer.TheVariants as answers
 use Rattle.office_core.specs.declared.refusal.Refusal.{Refusal}
 use Rattle.office_core.specs.declared.refusal.Refusal.TheVariants.{Released}
-use Rattle.office_rows.specs.Rows.{DepositRow, HoldRow, Limits, Tables, class_named, has_collection, hold_numbered, last_number}
+use Rattle.office_rows.specs.Rows.{DepositRow, HoldRow, Limits, Tables, hold_numbered, last_number}
+use Rattle.office_history.specs.Histories.{Target, OnDeposit, OnCollection, OnClass}
+use Rattle.office_history.specs.Pictures.{held_class, held_collection}
 use Rattle.office_history.proofs.Pictured.{same_days}
 use Rattle.office_asking.specs.ByRows.{IsDenialIn}
 use Rattle.office_asking.specs.Limits.{IsRefusedOr, answer_of_number}
 use Rattle.office_asking.proofs.OneAnswer.{HasAtMostOne, asked_is_one, denial_is_one, next_is_one, refused_or_is_one}
-use Rattle.office_holding.specs.ByRows.{IsClassDenial, IsClassHeldIn, IsClassPlaceIn, IsClassReleaseIn, IsCollectionDenial, IsCollectionHeldIn, IsCollectionPlaceIn, IsCollectionReleaseIn, IsDepositHeldIn, IsDepositPlaceIn, IsDepositReleaseIn, IsFirstOfRelease, IsNextHoldIn, IsReleasableIn, IsReleaseDayOf, IsReleaseDenialIn, IsReleaseRefusalIn, IsReleaseRefusalOf, IsReleasedIn, answer_of_release}
+use Rattle.office_holding.specs.ByRows.{IsClassHeldIn, IsCollectionHeldIn, IsDepositHeldIn, IsDepositReleaseIn, IsFirstOfRelease, IsHeldIn, IsHoldDenialIn, IsNameDenial, IsNameReleaseIn, IsNextHoldIn, IsPlaceIn, IsReleasableIn, IsReleaseDayOf, IsReleaseDenialIn, IsReleaseRefusalIn, IsReleaseRefusalOf, IsReleasedIn, answer_of_release, is_there_in}
 
 -- ---- a hold that is placed
 
 -- one number is given to the next hold, or one refusal stands
-pub place_is_one : (t : Tables) (why : Option Refusal) → HasAtMostOne (IsRefusedOr why (IsNextHoldIn t))
+place_is_one : (t : Tables) (why : Option Refusal) → HasAtMostOne (IsRefusedOr why (IsNextHoldIn t))
 place_is_one t why = refused_or_is_one why (IsNextHoldIn t) (next_is_one t (λ (l : Limits). l.max_holds) (last_number (λ (h : HoldRow). h.number) t.holds))
 
--- one number is that of a hold on a deposit, or one refusal stands first
-pub deposit_place_is_one : (t : Tables) (day : Date) (caller : List ℕ) (n : ℕ) → HasAtMostOne (IsDepositPlaceIn t day caller n)
-deposit_place_is_one t day caller n a b p q =
-    let asked : p.asked ≡ q.asked = asked_is_one t day caller acts.Hold n p.asked q.asked p.is_asked q.is_asked in
-    place_is_one t (result_err q.asked) a b (subst (λ r. IsRefusedOr (result_err r) (IsNextHoldIn t) a) asked p.is) q.is
+-- one refusal stands against a hold on what is there, or isn't, by the name, or none
+name_denial_is_one : (there : Bool) (t : Tables) (day : Date) (caller : List ℕ) (target : Target) → HasAtMostOne (IsNameDenial there t day caller target)
+name_denial_is_one false t day caller target a b p q = p ∙ sym q
+name_denial_is_one true t day caller target a b p q = denial_is_one t day caller acts.Hold (held_collection target) (held_class target) a b p q
 
--- one answer is given to a hold on a deposit
+-- and on what is named
+hold_denial_is_one : (t : Tables) (day : Date) (caller : List ℕ) (target : Target) → HasAtMostOne (IsHoldDenialIn t day caller target)
+hold_denial_is_one t day caller (OnDeposit n) a b p q = p.is ∙ ap result_err (asked_is_one t day caller acts.Hold n p.asked q.asked p.is_asked q.is_asked) ∙ sym q.is
+hold_denial_is_one t day caller (OnCollection name) a b p q = name_denial_is_one (is_there_in t (OnCollection name)) t day caller (OnCollection name) a b p q
+hold_denial_is_one t day caller (OnClass name) a b p q = name_denial_is_one (is_there_in t (OnClass name)) t day caller (OnClass name) a b p q
+
+-- one number is that of a hold, or one refusal stands first
+place_for_is_one : (t : Tables) (day : Date) (caller : List ℕ) (target : Target) → HasAtMostOne (IsPlaceIn t day caller target)
+place_for_is_one t day caller target a b p q =
+    let why : p.why ≡ q.why = hold_denial_is_one t day caller target p.why q.why p.denial q.denial in
+    place_is_one t q.why a b (subst (λ w. IsRefusedOr w (IsNextHoldIn t) a) why p.is) q.is
+
+-- one answer is given to a hold
+held_is_one : (t : Tables) (day : Date) (caller : List ℕ) (target : Target) → HasAtMostOne (IsHeldIn t day caller target)
+held_is_one t day caller target a b p q =
+    p.is ∙ ap (answer_of_number answers.HoldPlaced) (place_for_is_one t day caller target p.place q.place p.is_place q.is_place) ∙ sym q.is
+
 pub deposit_held_is_one : (t : Tables) (day : Date) (caller : List ℕ) (n : ℕ) → HasAtMostOne (IsDepositHeldIn t day caller n)
-deposit_held_is_one t day caller n a b p q =
-    p.is ∙ ap (answer_of_number answers.HoldPlaced) (deposit_place_is_one t day caller n p.place q.place p.is_place q.is_place) ∙ sym q.is
+deposit_held_is_one t day caller n = held_is_one t day caller (OnDeposit n)
 
--- one refusal stands against a hold on a collection that is there, or that isn't, or none
-pub collection_denial_is_one : (there : Bool) (t : Tables) (day : Date) (caller name : List ℕ) → HasAtMostOne (IsCollectionDenial there t day caller name)
-collection_denial_is_one false t day caller name a b p q = p ∙ sym q
-collection_denial_is_one true t day caller name a b p q = denial_is_one t day caller acts.Hold (Some name) None a b p q
-
--- one number is that of a hold on a collection, or one refusal stands first
-pub collection_place_is_one : (t : Tables) (day : Date) (caller name : List ℕ) → HasAtMostOne (IsCollectionPlaceIn t day caller name)
-collection_place_is_one t day caller name a b p q =
-    let why : p.why ≡ q.why = collection_denial_is_one (has_collection name t) t day caller name p.why q.why p.denial q.denial in
-    place_is_one t q.why a b (subst (λ w. IsRefusedOr w (IsNextHoldIn t) a) why p.is) q.is
-
--- one answer is given to a hold on a collection
 pub collection_held_is_one : (t : Tables) (day : Date) (caller name : List ℕ) → HasAtMostOne (IsCollectionHeldIn t day caller name)
-collection_held_is_one t day caller name a b p q =
-    p.is ∙ ap (answer_of_number answers.HoldPlaced) (collection_place_is_one t day caller name p.place q.place p.is_place q.is_place) ∙ sym q.is
+collection_held_is_one t day caller name = held_is_one t day caller (OnCollection name)
 
--- one refusal stands against a hold on a class that is there, or that isn't, or none
-pub class_denial_is_one : (there : Bool) (t : Tables) (day : Date) (caller name : List ℕ) → HasAtMostOne (IsClassDenial there t day caller name)
-class_denial_is_one false t day caller name a b p q = p ∙ sym q
-class_denial_is_one true t day caller name a b p q = denial_is_one t day caller acts.Hold None (Some name) a b p q
-
--- one number is that of a hold on a class, or one refusal stands first
-pub class_place_is_one : (t : Tables) (day : Date) (caller name : List ℕ) → HasAtMostOne (IsClassPlaceIn t day caller name)
-class_place_is_one t day caller name a b p q =
-    let why : p.why ≡ q.why = class_denial_is_one (is_some (class_named name t.classes)) t day caller name p.why q.why p.denial q.denial in
-    place_is_one t q.why a b (subst (λ w. IsRefusedOr w (IsNextHoldIn t) a) why p.is) q.is
-
--- one answer is given to a hold on a class
 pub class_held_is_one : (t : Tables) (day : Date) (caller name : List ℕ) → HasAtMostOne (IsClassHeldIn t day caller name)
-class_held_is_one t day caller name a b p q =
-    p.is ∙ ap (answer_of_number answers.HoldPlaced) (class_place_is_one t day caller name p.place q.place p.is_place q.is_place) ∙ sym q.is
+class_held_is_one t day caller name = held_is_one t day caller (OnClass name)
 
 -- ---- a hold that is released
 
@@ -73,19 +63,15 @@ deposit_release_is_one t day caller n a b p q =
     denial_is_one t day caller acts.Release (Some q.row.collection) (Some q.row.class) a b
     (subst (λ (r : DepositRow). IsDenialIn t day caller acts.Release (Some r.collection) (Some r.class) a) row p.is) q.is
 
--- and that of a hold on a collection
-pub collection_release_is_one : (t : Tables) (day : Date) (caller name : List ℕ) → HasAtMostOne (IsCollectionReleaseIn t day caller name)
-collection_release_is_one t day caller name a b p q = denial_is_one t day caller acts.Release (Some name) None a b p.is q.is
-
--- and that of a hold on a class
-pub class_release_is_one : (t : Tables) (day : Date) (caller name : List ℕ) → HasAtMostOne (IsClassReleaseIn t day caller name)
-class_release_is_one t day caller name a b p q = denial_is_one t day caller acts.Release None (Some name) a b p.is q.is
+-- and that of a hold on a collection or a class
+name_release_is_one : (t : Tables) (day : Date) (caller : List ℕ) (target : Target) → HasAtMostOne (IsNameReleaseIn t day caller target)
+name_release_is_one t day caller target a b p q = denial_is_one t day caller acts.Release (held_collection target) (held_class target) a b p.is q.is
 
 -- and that of a hold by what it is on
 pub release_denial_is_one : (t : Tables) (day : Date) (caller : List ℕ) (deposit : Option ℤ) (collection class : Option (List ℕ)) → HasAtMostOne (IsReleaseDenialIn t day caller deposit collection class)
 release_denial_is_one t day caller (Some n) None None a b p q = deposit_release_is_one t day caller n a b p q
-release_denial_is_one t day caller None (Some name) None a b p q = collection_release_is_one t day caller name a b p q
-release_denial_is_one t day caller None None (Some name) a b p q = class_release_is_one t day caller name a b p q
+release_denial_is_one t day caller None (Some name) None a b p q = name_release_is_one t day caller (OnCollection name) a b p q
+release_denial_is_one t day caller None None (Some name) a b p q = name_release_is_one t day caller (OnClass name) a b p q
 release_denial_is_one t day caller None None None a b p q = absurd p
 release_denial_is_one t day caller None (Some name) (Some class) a b p q = absurd p
 release_denial_is_one t day caller (Some n) None (Some class) a b p q = absurd p

@@ -1,25 +1,32 @@
 -- The rows of an office after a hold was placed.
-use Rattle.std.proofs.Common.{◌≡◌, ℕ, ◌+◌, pos, ◌+ℤ◌, List, [], ◌∷◌, ◌++◌, map, length, None, Less, refl, sym, ap, subst, ◌∙◌, arith, if◌then◌else◌}
+use Rattle.std.proofs.Common.{◌≡◌, ℕ, ◌+◌, pos, List, [], ◌∷◌, ◌++◌, length, None, Less, Result, OnOk, refl, sym, ap, subst, ◌∙◌, arith}
 use Rattle.std.specs.List.{AllByRecursion}
 use Rattle.std.specs.Ordering.{int_cmp}
 use Rattle.jiff.specs.Types.{Date}
+use Rattle.jiff.specs.Words.{epoch_day}
 use Rattle.sqlite.specs.Effect.{Database}
-use Rattle.office_rows.specs.Rows.{Tables, DueRow, HoldRow, is_due_of, is_of_class, is_within, more_holds, with_hold, with_holds, with_more_holds, with_more_holds_class, put_by, this_version}
+use Rattle.office_rows.specs.Rows.{Tables, DueRow, HoldRow, with_hold, put_by, this_version}
 use Rattle.office_rows.proofs.Order.{put_last}
 use Rattle.office_tables.specs.Tables.{Becomes, tables_of}
 use Rattle.office_tables.specs.Contents.{KeepsOnce}
-use Rattle.office_history.specs.Histories.{History, Change, PlacedHold, Hold, OnDeposit, OnCollection, OnClass, with_changes, holds, live_holds, release_day}
-use Rattle.office_history.specs.Pictures.{row_by_release, hold_row, hold_rows, deposit_rows, due_rows, picture}
+use Rattle.office_tables.specs.Dues.{FitMore}
+use Rattle.office_tables.specs.ShownHolds as shown
+use Rattle.office_tables.specs.declared.holds.HoldTarget.{HoldTarget}
+use Rattle.office_tables.specs.declared.holds.HoldTarget.TheVariants as targets
+use Rattle.office_history.specs.Histories.{History, Change, PlacedHold, Hold, Target, OnDeposit, OnCollection, OnClass, with_changes, holds, release_day}
+use Rattle.office_history.specs.Pictures.{row_by_release, hold_row, hold_rows, due_rows, picture}
 use Rattle.office_history.specs.Runs.{IsLegal}
 use Rattle.office_history.proofs.HistoryLemmas.{holds_grown}
 use Rattle.office_history.proofs.LegalReadings.{none_released}
 use Rattle.office_asking.specs.Pictures.{Pictures}
+use Rattle.office_asking.proofs.Counts.{fit_more}
+use Rattle.office_asking.proofs.InTurn.{on_both}
 use Rattle.office_asking.proofs.NumberedRows.{rows_from, rows_append, below, none_next}
 use Rattle.office_asking.proofs.HoldTold.{hold_rows_are}
 use Rattle.office_asking.proofs.DuesPlaced.{dues_placed, dues_placed_of_class}
 use Rattle.office_asking.proofs.Unchanged.{same_classes, same_collections, same_deposit_rows, same_file_rows, same_released, pictured_by}
-use Rattle.office_holding.specs.Holds.{IsNext, IsCounted}
-use Rattle.office_holding.proofs.CountTold.{counted_from}
+use Rattle.office_holding.specs.Holds.{IsNext, IsCountedOver, target_of}
+use Rattle.office_holding.proofs.CountTold.{CountsTo, counted_over}
 use Rattle.office_holding.proofs.DuesPlacedOn.{dues_placed_on}
 
 -- the row of a hold that is placed
@@ -58,47 +65,36 @@ module _ (h : History) (day : Date) (hold : Hold) (not_released : release_day h 
 not_yet : (h : History) → IsLegal h → release_day h (1 + length (holds h)) ≡ None
 not_yet h legal = none_released h legal (1 + length (holds h)) (none_next (holds h))
 
-module _ (h : History) (legal : IsLegal h) (day : Date) (hold : Hold) (k : ℕ) (next_is : IsNext h k) (old mid : Database) (pictured : Pictures h old) (put : Becomes mid (with_hold (new_hold k day hold) (tables_of old))) where
+-- the row that is put is that of the hold
+pub row_put : (k : ℕ) (day : Date) (target : HoldTarget) (matter : List ℕ)
+    → record { number = pos k; deposit = shown.held_deposit target; collection = shown.held_collection target; class = shown.held_class target; matter = matter; placed = epoch_day day; released = None }
+    ≡ new_hold k day (record { target = target_of target; matter = matter })
+row_put k day (targets.Deposit n) matter = refl
+row_put k day (targets.Collection name) matter = refl
+row_put k day (targets.Class name) matter = refl
+
+module _ {h : History} (legal : IsLegal h) (day : Date) (hold : Hold) (k : ℕ) (next_is : IsNext h k) {old mid : Database} (pictured : Pictures h old) (put : Becomes mid (with_hold (new_hold k day hold) (tables_of old))) where
   abbrev grown : History
   grown = with_changes h (PlacedHold day hold ∷ [])
 
+  abbrev between : Tables
+  between = with_hold (new_hold (1 + length (holds h)) day hold) (picture this_version h)
+
   -- the rows between the two writes
-  rows_between : tables_of mid ≡ with_hold (new_hold (1 + length (holds h)) day hold) (picture this_version h)
+  rows_between : tables_of mid ≡ between
   rows_between =
       let at : k ≡ 1 + length (holds h) = omega (arith, next_is) in
       put.are ∙ (λ i. with_hold (new_hold (at i) day hold) (pictured.are i))
 
-  pub dues_between : (tables_of mid).dues ≡ due_rows h
-  dues_between = ap (λ (t : Tables). t.dues) rows_between
+  fit_between : FitMore (pos 1) (tables_of mid).dues
+  fit_between = subst (λ (t : Tables). FitMore (pos 1) t.dues) (sym rows_between) (fit_more h legal)
 
-  -- a hold on a collection is put under the next number, and counts over each of its deposits
-  pub placed_on_collection : (name : List ℕ) → hold.target ≡ OnCollection name → (new : Database) → Becomes new (with_more_holds name (pos 1) (tables_of mid)) → KeepsOnce new → Pictures grown new
-  placed_on_collection name is new counted once = record {
-    office = counted.office;
-    are =
-        counted.are ∙ ap (with_more_holds name (pos 1)) rows_between
-        ∙ told_with h day hold (not_yet h legal) (more_holds (is_within name) (pos 1) (deposit_rows h) (due_rows h)) (dues_placed h day hold (not_yet h legal) name is);
-    once = once;
-  }
+  counts_to : (target : Target) → hold.target ≡ target → CountsTo h grown (pos 1) target
+  counts_to (OnDeposit n) is = dues_placed_on h day hold (not_yet h legal) n is
+  counts_to (OnCollection name) is = dues_placed h day hold (not_yet h legal) name is
+  counts_to (OnClass name) is = dues_placed_of_class h day hold (not_yet h legal) name is
 
-  -- a hold on a class is put under the next number, and counts over each of its deposits
-  pub placed_on_class : (name : List ℕ) → hold.target ≡ OnClass name → (new : Database) → Becomes new (with_more_holds_class name (pos 1) (tables_of mid)) → KeepsOnce new → Pictures grown new
-  placed_on_class name is new counted once = record {
-    office = counted.office;
-    are =
-        counted.are ∙ ap (with_more_holds_class name (pos 1)) rows_between
-        ∙ told_with h day hold (not_yet h legal) (more_holds (is_of_class name) (pos 1) (deposit_rows h) (due_rows h)) (dues_placed_of_class h day hold (not_yet h legal) name is);
-    once = once;
-  }
-
-  -- a hold on a deposit is put under the next number, and counts over that deposit
-  pub placed_on_deposit : (n : ℕ) → hold.target ≡ OnDeposit n → (new : Database) → IsCounted n (pos 1) mid new → KeepsOnce new → Pictures grown new
-  placed_on_deposit n is new counted once =
-      let found = counted_from h n (pos 1) mid new dues_between counted in
-      let count = pos (length (live_holds h n found.0.1)) +ℤ pos 1 in record {
-        office = found.2.office;
-        are =
-            found.2.are ∙ ap (with_holds (pos n) count) rows_between
-            ∙ told_with h day hold (not_yet h legal) (map (λ d. if is_due_of (pos n) d then record d { holds = count } else d) (due_rows h)) (dues_placed_on h day hold (not_yet h legal) n is found.0 found.1);
-        once = once;
-      }
+  -- a hold is put under the next number, and counts over each deposit that it reaches
+  pub placed : {T E : Type 0} (result : Result T E) (new : Database) → (FitMore (pos 1) (tables_of mid).dues → OnOk result (IsCountedOver hold.target (pos 1) mid new)) → OnOk result (KeepsOnce new) → OnOk result (Pictures grown new)
+  placed result new counted once =
+      on_both result (λ over kept. counted_over h grown (pos 1) between.holds (told_with h day hold (not_yet h legal)) mid new rows_between kept hold.target (counts_to hold.target refl) over) (counted fit_between) once

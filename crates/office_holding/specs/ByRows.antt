@@ -5,14 +5,18 @@ use Rattle.std.specs.Result.{result_err}
 use Rattle.jiff.specs.Types.{Date}
 use Rattle.jiff.specs.Words.{IsBetween, epoch_day}
 use Rattle.office_core.specs.Days.{IsDayNumber}
+use Rattle.office_core.specs.declared.action.Action.{Action}
 use Rattle.office_core.specs.declared.action.Action.TheVariants as acts
 use Rattle.office_core.specs.declared.answer.Answer.{Answer}
 use Rattle.office_core.specs.declared.answer.Answer.TheVariants as answers
 use Rattle.office_core.specs.declared.answer.LiveHold.{LiveHold}
 use Rattle.office_core.specs.declared.refusal.Refusal.{Refusal}
 use Rattle.office_core.specs.declared.refusal.Refusal.TheVariants.{NoSuch, Released}
+use Rattle.office_core.specs.declared.refusal.Subject.{Subject}
 use Rattle.office_core.specs.declared.refusal.Subject.TheVariants as subjects
 use Rattle.office_rows.specs.Rows.{DepositRow, DueRow, HoldRow, Limits, Tables, class_named, deposit_numbered, due_numbered, has_collection, hold_numbered, last_number, limits_of}
+use Rattle.office_history.specs.Histories.{Target, OnDeposit, OnCollection, OnClass}
+use Rattle.office_history.specs.Pictures.{held_class, held_collection, held_deposit}
 use Rattle.office_asking.specs.ByRows.{IsAskedIn, IsDenialIn}
 use Rattle.office_asking.specs.Holds.{IsHoldOf}
 use Rattle.office_asking.specs.Limits.{IsNextIn, IsRefusedOr, answer_of_number}
@@ -35,66 +39,73 @@ pub record IsCountable (limits : Option Limits) (dues : List DueRow) (n : ℤ) (
   pub before : IsBetween (pos 0) most.max_holds row.holds
   pub after : IsBetween (pos 0) most.max_holds (row.holds +ℤ by)
 
--- ---- a hold on a deposit
+-- what counting as many more needs of the deposit that a hold is on, if it is on one: of a collection or a class no count is read
+abbrev pub IsCountableOn : Tables → Option ℤ → ℤ → Type 0
+IsCountableOn t deposit by = IfSome deposit (λ n. IsCountable (limits_of t) t.dues n by)
 
--- the number of a hold on the deposit of that number, or what stands first against it
-pub record IsDepositPlaceIn (t : Tables) (day : Date) (caller : List ℕ) (n : ℕ) (place : Result ℕ Refusal) : Type 0 where
+-- ---- what is named
+
+-- what is named, as a refusal says that there is none
+abbrev pub subject_of : Target → Subject
+subject_of (OnDeposit n) = subjects.Deposit
+subject_of (OnCollection name) = subjects.Collection
+subject_of (OnClass name) = subjects.Class
+
+-- there is the deposit, the collection or the class that is named
+abbrev pub is_there_in : Tables → Target → Bool
+is_there_in t (OnDeposit n) = is_some (deposit_numbered (pos n) t.deposits)
+is_there_in t (OnCollection name) = has_collection name t
+is_there_in t (OnClass name) = is_some (class_named name t.classes)
+
+-- the refusal, if any, where the rules are asked by the name alone, of a class with no collection; none is asked for where there is nothing of
+-- that name
+abbrev pub IsSaidIn : Tables → Date → List ℕ → Action → Target → Option (Option Refusal) → Type 0
+IsSaidIn t day caller action target None = false ≡ is_there_in t target
+IsSaidIn t day caller action target (Some why) = (true ≡ is_there_in t target) × IsDenialIn t day caller action (held_collection target) (held_class target) why
+
+-- ---- a hold that is placed
+
+-- that there is no such collection or class, and where there is, the refusal of the rules, if any
+abbrev pub IsNameDenial : Bool → Tables → Date → List ℕ → Target → Option Refusal → Type 0
+IsNameDenial false t day caller target why = why ≡ Some (NoSuch (subject_of target))
+IsNameDenial true t day caller target why = IsDenialIn t day caller acts.Hold (held_collection target) (held_class target) why
+
+-- what stands first against a hold on the deposit of that number, if anything does
+pub record IsDepositDenialIn (t : Tables) (day : Date) (caller : List ℕ) (n : ℕ) (why : Option Refusal) : Type 0 where
   pub asked : Result DepositRow Refusal
   pub is_asked : IsAskedIn t day caller acts.Hold n asked
-  pub is : IsRefusedOr (result_err asked) (IsNextHoldIn t) place
+  pub is : why ≡ result_err asked
 
--- the answer to a hold on the deposit of that number, which counts as one more over it
-pub record IsDepositHeldIn (t : Tables) (day : Date) (caller : List ℕ) (n : ℕ) (answer : Answer) : Type 0 where
+-- the same of what is named, but that the office is full
+abbrev pub IsHoldDenialIn : Tables → Date → List ℕ → Target → Option Refusal → Type 0
+IsHoldDenialIn t day caller (OnDeposit n) why = IsDepositDenialIn t day caller n why
+IsHoldDenialIn t day caller (OnCollection name) why = IsNameDenial (is_there_in t (OnCollection name)) t day caller (OnCollection name) why
+IsHoldDenialIn t day caller (OnClass name) why = IsNameDenial (is_there_in t (OnClass name)) t day caller (OnClass name) why
+
+-- the number of a hold, or what stands first against it
+pub record IsPlaceIn (t : Tables) (day : Date) (caller : List ℕ) (target : Target) (place : Result ℕ Refusal) : Type 0 where
+  pub why : Option Refusal
+  pub denial : IsHoldDenialIn t day caller target why
+  pub is : IsRefusedOr why (IsNextHoldIn t) place
+
+-- the answer to a hold, which counts as one more over the deposit that it is on, if it is on one
+pub record IsHeldIn (t : Tables) (day : Date) (caller : List ℕ) (target : Target) (answer : Answer) : Type 0 where
   pub place : Result ℕ Refusal
-  pub is_place : IsDepositPlaceIn t day caller n place
-  pub counts : OnOk place (IsCountable (limits_of t) t.dues (pos n) (pos 1))
+  pub is_place : IsPlaceIn t day caller target place
+  pub counts : OnOk place (IsCountableOn t (held_deposit target) (pos 1))
   pub is : answer ≡ answer_of_number answers.HoldPlaced place
 
--- ---- a hold on a collection
-
--- that there is no such collection, and where there is, the refusal of the rules, if any
-abbrev pub IsCollectionDenial : Bool → Tables → Date → List ℕ → List ℕ → Option Refusal → Type 0
-IsCollectionDenial false t day caller name why = why ≡ Some (NoSuch subjects.Collection)
-IsCollectionDenial true t day caller name why = IsDenialIn t day caller acts.Hold (Some name) None why
-
--- the same by the rows of the collections
-abbrev pub IsCollectionDenialIn : Tables → Date → List ℕ → List ℕ → Option Refusal → Type 0
-IsCollectionDenialIn t day caller name why = IsCollectionDenial (has_collection name t) t day caller name why
-
--- the number of a hold on the collection of that name, or what stands first against it
-pub record IsCollectionPlaceIn (t : Tables) (day : Date) (caller name : List ℕ) (place : Result ℕ Refusal) : Type 0 where
-  pub why : Option Refusal
-  pub denial : IsCollectionDenialIn t day caller name why
-  pub is : IsRefusedOr why (IsNextHoldIn t) place
+-- the answer to a hold on the deposit of that number
+abbrev pub IsDepositHeldIn : Tables → Date → List ℕ → ℕ → Answer → Type 0
+IsDepositHeldIn t day caller n = IsHeldIn t day caller (OnDeposit n)
 
 -- the answer to a hold on the collection of that name
-pub record IsCollectionHeldIn (t : Tables) (day : Date) (caller name : List ℕ) (answer : Answer) : Type 0 where
-  pub place : Result ℕ Refusal
-  pub is_place : IsCollectionPlaceIn t day caller name place
-  pub is : answer ≡ answer_of_number answers.HoldPlaced place
-
--- ---- a hold on a class
-
--- that there is no such class, and where there is, the refusal of the rules, if any, which are asked with no collection
-abbrev pub IsClassDenial : Bool → Tables → Date → List ℕ → List ℕ → Option Refusal → Type 0
-IsClassDenial false t day caller name why = why ≡ Some (NoSuch subjects.Class)
-IsClassDenial true t day caller name why = IsDenialIn t day caller acts.Hold None (Some name) why
-
--- the same by the rows of the classes
-abbrev pub IsClassDenialIn : Tables → Date → List ℕ → List ℕ → Option Refusal → Type 0
-IsClassDenialIn t day caller name why = IsClassDenial (is_some (class_named name t.classes)) t day caller name why
-
--- the number of a hold on the class of that name, or what stands first against it
-pub record IsClassPlaceIn (t : Tables) (day : Date) (caller name : List ℕ) (place : Result ℕ Refusal) : Type 0 where
-  pub why : Option Refusal
-  pub denial : IsClassDenialIn t day caller name why
-  pub is : IsRefusedOr why (IsNextHoldIn t) place
+abbrev pub IsCollectionHeldIn : Tables → Date → List ℕ → List ℕ → Answer → Type 0
+IsCollectionHeldIn t day caller name = IsHeldIn t day caller (OnCollection name)
 
 -- the answer to a hold on the class of that name
-pub record IsClassHeldIn (t : Tables) (day : Date) (caller name : List ℕ) (answer : Answer) : Type 0 where
-  pub place : Result ℕ Refusal
-  pub is_place : IsClassPlaceIn t day caller name place
-  pub is : answer ≡ answer_of_number answers.HoldPlaced place
+abbrev pub IsClassHeldIn : Tables → Date → List ℕ → List ℕ → Answer → Type 0
+IsClassHeldIn t day caller name = IsHeldIn t day caller (OnClass name)
 
 -- ---- the rules of a release
 
@@ -104,21 +115,16 @@ pub record IsDepositReleaseIn (t : Tables) (day : Date) (caller : List ℕ) (n :
   pub there : Some row ≡ deposit_numbered n t.deposits
   pub is : IsDenialIn t day caller acts.Release (Some row.collection) (Some row.class) why
 
--- the refusal of the rules, if any, by the name of the collection that is held, which has to be there
-pub record IsCollectionReleaseIn (t : Tables) (day : Date) (caller name : List ℕ) (why : Option Refusal) : Type 0 where
-  pub there : true ≡ has_collection name t
-  pub is : IsDenialIn t day caller acts.Release (Some name) None why
-
--- the refusal of the rules, if any, by the name of the class that is held, which has to be there: they are asked with no collection
-pub record IsClassReleaseIn (t : Tables) (day : Date) (caller name : List ℕ) (why : Option Refusal) : Type 0 where
-  pub there : true ≡ is_some (class_named name t.classes)
-  pub is : IsDenialIn t day caller acts.Release None (Some name) why
+-- the refusal of the rules, if any, by the name of the collection or of the class that is held, which has to be there
+pub record IsNameReleaseIn (t : Tables) (day : Date) (caller : List ℕ) (target : Target) (why : Option Refusal) : Type 0 where
+  pub there : true ≡ is_there_in t target
+  pub is : IsDenialIn t day caller acts.Release (held_collection target) (held_class target) why
 
 -- the refusal of the rules, if any, by what a hold is on: a deposit, a collection or a class, and no two of them
 abbrev pub IsReleaseDenialIn : Tables → Date → List ℕ → Option ℤ → Option (List ℕ) → Option (List ℕ) → Option Refusal → Type 0
 IsReleaseDenialIn t day caller (Some n) None None why = IsDepositReleaseIn t day caller n why
-IsReleaseDenialIn t day caller None (Some name) None why = IsCollectionReleaseIn t day caller name why
-IsReleaseDenialIn t day caller None None (Some name) why = IsClassReleaseIn t day caller name why
+IsReleaseDenialIn t day caller None (Some name) None why = IsNameReleaseIn t day caller (OnCollection name) why
+IsReleaseDenialIn t day caller None None (Some name) why = IsNameReleaseIn t day caller (OnClass name) why
 IsReleaseDenialIn t day caller deposit collection class why = ⊥
 
 -- ---- a hold that is to be released
@@ -161,13 +167,9 @@ abbrev pub answer_of_release : ℕ → Date → Result HoldRow Refusal → Answe
 answer_of_release k day (Ok row) = answers.HoldReleased k day
 answer_of_release k day (Err why) = answers.Refused why
 
--- what a release needs of the deposit that the hold is on, if it is on one: it counts as one fewer over it
-abbrev pub CountsFewer : Tables → Option ℤ → Type 0
-CountsFewer t deposit = IfSome deposit (λ n. IsCountable (limits_of t) t.dues n (negsuc 0))
-
--- the answer to the release of the hold of that number
+-- the answer to the release of the hold of that number, which counts as one fewer over the deposit that it is on, if it is on one
 pub record IsReleasedIn (t : Tables) (day : Date) (caller : List ℕ) (k : ℕ) (answer : Answer) : Type 0 where
   pub asked : Result HoldRow Refusal
   pub is_asked : IsReleasableIn t day caller k asked
-  pub counts : IfOk asked (λ (row : HoldRow). CountsFewer t row.deposit)
+  pub counts : IfOk asked (λ (row : HoldRow). IsCountableOn t row.deposit (negsuc 0))
   pub is : answer ≡ answer_of_release k day asked

@@ -1,7 +1,9 @@
 //! Holds, and their release, over the tables.
 #![tactic(auto)]
 
+mod asking;
 mod counting;
+mod days;
 mod placing;
 mod releasing;
 

@@ -1,23 +1,22 @@
 //! Holds that are placed on deposits, collections and classes.
 
-ghost use Rattle.std.specs.Prelude.{◌≡◌, pos, [], ◌∷◌};
+ghost use Rattle.std.specs.Prelude.{◌≡◌, ◌++◌, pos, [], ◌∷◌};
 ghost use Rattle.office_core.specs.FirstOf.{first_some};
 ghost use Rattle.office_core.specs.declared.request.Request.TheVariants as requests;
-ghost use Rattle.office_rows.specs.Rows.{limits_of};
 ghost use Rattle.office_tables.specs.Calls.{GoesOnInside, Keeps, Tells};
-ghost use Rattle.office_history.specs.Histories.{OnClass, OnCollection, OnDeposit, PlacedHold, deposit_numbered};
-ghost use Rattle.office_history.specs.Refusals.{class_denials, class_hold_refusals, collection_denials, collection_hold_refusals, full_of_holds, hold_refusals, of_deposit};
+ghost use Rattle.office_tables.specs.ShownHolds.{held_deposit};
+ghost use Rattle.office_history.specs.Histories.{PlacedHold};
+ghost use Rattle.office_history.specs.Refusals.{full_of_holds};
 ghost use Rattle.office_asking.specs.Serving.{Accepts, Decides, Finds};
-ghost use Rattle.office_holding.specs.Holds.{IsNext, IsPlace};
-ghost use Rattle.office_holding.specs.ByRows.{IsClassDenialIn, IsClassHeldIn, IsClassPlaceIn, IsCollectionDenialIn, IsCollectionHeldIn, IsCollectionPlaceIn, IsDepositHeldIn, IsDepositPlaceIn, IsCountable, IsNextHoldIn};
+ghost use Rattle.office_holding.specs.Holds.{IsNext, IsNextOrRefused, hold_denials, hold_request, target_of};
+ghost use Rattle.office_holding.specs.ByRows.{IsClassHeldIn, IsCollectionHeldIn, IsCountableOn, IsDepositHeldIn, IsHeldIn, IsHoldDenialIn, IsNextHoldIn, IsPlaceIn, subject_of};
 
-use crate::counting::count_over_deposit;
-use office_asking::{denial, kept_deposit, number_after};
+use crate::asking::name_denial;
+use crate::counting::count_over;
+use crate::days::kept_day;
+use office_asking::{kept_deposit, number_after};
 use office_core::{Action, Answer, Day, Matter, Name, Refusal, Subject};
-use office_tables::{
-    HoldTarget, TableFault, add_holds, add_holds_class, class_of, has_collection, last_hold,
-    limits, put_hold,
-};
+use office_tables::{HoldTarget, TableFault, last_hold, limits, put_hold};
 use sqlite::{Alter, Transaction};
 
 /// The number of the next hold, where the office takes one more.
@@ -25,7 +24,7 @@ fn next_hold<S: Alter>(tx: &mut Transaction<'_, S>) -> Result<Result<u32, Refusa
     ensures inside { GoesOnInside S.Store tx.old.conn tx.new.conn result }
     ensures same { Keeps S.Store tx.old.conn.now tx.new.conn.now result }
     ensures next { Finds S.Store tx.old.conn.now tx.new.conn.now result (λ h place.
-        IsPlace h (full_of_holds h ∷ []) place) }
+        IsNextOrRefused h (full_of_holds h ∷ []) place) }
     ensures rows { Tells S.Store tx.old.conn.now tx.new.conn.now result IsNextHoldIn }
 {
     let limits = limits(tx)?;
@@ -33,160 +32,103 @@ fn next_hold<S: Alter>(tx: &mut Transaction<'_, S>) -> Result<Result<u32, Refusa
     Ok(number_after(last, limits.max_holds))
 }
 
-/// Places a hold on the collection, whose number is to be the next, and counts it over the deposits of
-/// the collection.
-fn place_on_collection<S: Alter>(
+/// Places a hold on the target, whose number is to be the next, and counts it over each deposit that it
+/// reaches.
+fn place<S: Alter>(
     tx: &mut Transaction<'_, S>,
     day: Day,
     number: u32,
-    collection: &str,
-    matter: &str,
-) -> Result<(), TableFault>
-    ensures inside { GoesOnInside S.Store tx.old.conn tx.new.conn result }
-    ensures placed { Accepts S.Store tx.old.conn.now tx.new.conn.now result (λ h.
-        IsNext h number)
-        (PlacedHold day
-        (record { target = OnCollection collection.now; matter = matter.now }) ∷ []) }
-{
-    let target = HoldTarget::Collection(collection);
-    put_hold(tx, number, target, matter, day.number() as i64)?;
-    add_holds(tx, collection, 1)
-}
-
-/// Places a hold on the class, whose number is to be the next, and counts it over the deposits of the class.
-fn place_on_class<S: Alter>(
-    tx: &mut Transaction<'_, S>,
-    day: Day,
-    number: u32,
-    class: &str,
+    target: HoldTarget<'_>,
     matter: &str,
 ) -> Result<(), TableFault>
     ensures inside { GoesOnInside S.Store tx.old.conn tx.new.conn result }
     ensures placed { Accepts S.Store tx.old.conn.now tx.new.conn.now result (λ h. IsNext h number)
-        (PlacedHold day (record { target = OnClass class.now; matter = matter.now }) ∷ []) }
-{
-    let target = HoldTarget::Class(class);
-    put_hold(tx, number, target, matter, day.number() as i64)?;
-    add_holds_class(tx, class, 1)
-}
-
-/// Places a hold on the deposit, whose number is to be the next, and counts it over the deposit.
-fn place_on_deposit<S: Alter>(
-    tx: &mut Transaction<'_, S>,
-    day: Day,
-    number: u32,
-    deposit: u32,
-    matter: &str,
-) -> Result<(), TableFault>
-    ensures inside { GoesOnInside S.Store tx.old.conn tx.new.conn result }
-    ensures placed { Accepts S.Store tx.old.conn.now tx.new.conn.now result (λ h. IsNext h number)
-        (PlacedHold day (record { target = OnDeposit deposit; matter = matter.now }) ∷ []) }
+        (PlacedHold day (record { target = target_of target.entry; matter = matter.now }) ∷ []) }
     ensures rows { Tells S.Store tx.old.conn.now tx.new.conn.now result (λ tables _.
-        IsCountable (limits_of tables) tables.dues (pos deposit) (pos 1)) }
+        IsCountableOn tables (held_deposit target.entry) (pos 1)) }
 {
-    let target = HoldTarget::Deposit(deposit);
-    put_hold(tx, number, target, matter, day.number() as i64)?;
-    count_over_deposit(tx, deposit, 1)
+    put_hold(tx, number, target, matter, kept_day(day))?;
+    count_over(tx, target, 1)
 }
 
-/// The refusal where there is no such collection, or the caller may not hold it.
-fn collection_denial<S: Alter>(
+/// What is named, as a refusal says that there is none.
+fn subject_of(target: HoldTarget<'_>) -> Subject
+    ensures { result ≡ subject_of (target_of target.entry) }
+{
+    match target {
+        HoldTarget::Deposit(_) => Subject::Deposit,
+        HoldTarget::Collection(_) => Subject::Collection,
+        HoldTarget::Class(_) => Subject::Class,
+    }
+}
+
+/// The refusal where there is nothing that is named so, the caller may not hold it, or it is a deposit that was
+/// destroyed.
+fn hold_denial<S: Alter>(
     tx: &mut Transaction<'_, S>,
     day: Day,
     caller: &str,
-    collection: &str,
+    target: HoldTarget<'_>,
 ) -> Result<Option<Refusal>, TableFault>
     ensures inside { GoesOnInside S.Store tx.old.conn tx.new.conn result }
     ensures same { Keeps S.Store tx.old.conn.now tx.new.conn.now result }
     ensures denied { Finds S.Store tx.old.conn.now tx.new.conn.now result (λ h why.
-        why ≡ first_some (collection_denials h day caller.now collection.now)) }
+        why ≡ first_some (hold_denials h day caller.now (target_of target.entry))) }
     ensures rows { Tells S.Store tx.old.conn.now tx.new.conn.now result (λ tables why.
-        IsCollectionDenialIn tables day caller.now collection.now why) }
+        IsHoldDenialIn tables day caller.now (target_of target.entry) why) }
 {
-    if !has_collection(tx, collection)? {
-        return Ok(Some(Refusal::NoSuch(Subject::Collection)));
+    match target {
+        HoldTarget::Deposit(number) => {
+            Ok(kept_deposit(tx, day, caller, Action::Hold, number)?.err())
+        }
+        HoldTarget::Collection(_) | HoldTarget::Class(_) => {
+            let said = name_denial(tx, day, caller, Action::Hold, target)?;
+            Ok(said.unwrap_or(Some(Refusal::NoSuch(subject_of(target)))))
+        }
     }
-    denial(tx, day, caller, Action::Hold, Some(collection), None)
 }
 
-/// The refusal where there is no such class, or the caller may not hold it.
-fn class_denial<S: Alter>(
+/// The number of a hold on the target, where nothing stands against it.
+fn place_for<S: Alter>(
     tx: &mut Transaction<'_, S>,
     day: Day,
     caller: &str,
-    class: &str,
-) -> Result<Option<Refusal>, TableFault>
-    ensures inside { GoesOnInside S.Store tx.old.conn tx.new.conn result }
-    ensures same { Keeps S.Store tx.old.conn.now tx.new.conn.now result }
-    ensures denied { Finds S.Store tx.old.conn.now tx.new.conn.now result (λ h why.
-        why ≡ first_some (class_denials h day caller.now class.now)) }
-    ensures rows { Tells S.Store tx.old.conn.now tx.new.conn.now result (λ tables why.
-        IsClassDenialIn tables day caller.now class.now why) }
-{
-    if class_of(tx, class)?.is_none() {
-        return Ok(Some(Refusal::NoSuch(Subject::Class)));
-    }
-    denial(tx, day, caller, Action::Hold, None, Some(class))
-}
-
-/// The number of a hold of that collection, where nothing stands against it.
-fn place_for_collection<S: Alter>(
-    tx: &mut Transaction<'_, S>,
-    day: Day,
-    caller: &str,
-    collection: &str,
+    target: HoldTarget<'_>,
 ) -> Result<Result<u32, Refusal>, TableFault>
     ensures inside { GoesOnInside S.Store tx.old.conn tx.new.conn result }
     ensures same { Keeps S.Store tx.old.conn.now tx.new.conn.now result }
     ensures found { Finds S.Store tx.old.conn.now tx.new.conn.now result (λ h place.
-        IsPlace h (collection_hold_refusals h day caller.now collection.now) place) }
+        IsNextOrRefused h
+        (hold_denials h day caller.now (target_of target.entry) ++ full_of_holds h ∷ []) place) }
     ensures rows { Tells S.Store tx.old.conn.now tx.new.conn.now result (λ tables place.
-        IsCollectionPlaceIn tables day caller.now collection.now place) }
+        IsPlaceIn tables day caller.now (target_of target.entry) place) }
 {
-    if let Some(why) = collection_denial(tx, day, caller, collection)? {
+    if let Some(why) = hold_denial(tx, day, caller, target)? {
         return Ok(Err(why));
     }
     next_hold(tx)
 }
 
-/// The number of a hold of that class, where nothing stands against it.
-fn place_for_class<S: Alter>(
+/// Holds the target: one on a collection or a class holds all its deposits, those that come later too.
+fn hold<S: Alter>(
     tx: &mut Transaction<'_, S>,
     day: Day,
     caller: &str,
-    class: &str,
-) -> Result<Result<u32, Refusal>, TableFault>
+    target: HoldTarget<'_>,
+    matter: &str,
+) -> Result<Answer, TableFault>
     ensures inside { GoesOnInside S.Store tx.old.conn tx.new.conn result }
-    ensures same { Keeps S.Store tx.old.conn.now tx.new.conn.now result }
-    ensures found { Finds S.Store tx.old.conn.now tx.new.conn.now result (λ h place.
-        IsPlace h (class_hold_refusals h day caller.now class.now) place) }
-    ensures rows { Tells S.Store tx.old.conn.now tx.new.conn.now result (λ tables place.
-        IsClassPlaceIn tables day caller.now class.now place) }
+    ensures decides { Decides S.Store tx.old.conn.now tx.new.conn.now result day caller.now
+        (hold_request (target_of target.entry) matter.now) }
+    ensures rows { Tells S.Store tx.old.conn.now tx.new.conn.now result (λ tables answer.
+        IsHeldIn tables day caller.now (target_of target.entry) answer) }
 {
-    if let Some(why) = class_denial(tx, day, caller, class)? {
-        return Ok(Err(why));
-    }
-    next_hold(tx)
-}
-
-/// The number of a hold of the deposit of that number, where nothing stands against it.
-fn place_for_deposit<S: Alter>(
-    tx: &mut Transaction<'_, S>,
-    day: Day,
-    caller: &str,
-    number: u32,
-) -> Result<Result<u32, Refusal>, TableFault>
-    ensures inside { GoesOnInside S.Store tx.old.conn tx.new.conn result }
-    ensures same { Keeps S.Store tx.old.conn.now tx.new.conn.now result }
-    ensures found { Finds S.Store tx.old.conn.now tx.new.conn.now result (λ h place.
-        IsPlace h
-        (of_deposit (deposit_numbered h number) (hold_refusals h day caller.now number)) place) }
-    ensures rows { Tells S.Store tx.old.conn.now tx.new.conn.now result (λ tables place.
-        IsDepositPlaceIn tables day caller.now number place) }
-{
-    match kept_deposit(tx, day, caller, Action::Hold, number)? {
-        Ok(_) => next_hold(tx),
-        Err(why) => Ok(Err(why)),
+    match place_for(tx, day, caller, target)? {
+        Ok(hold) => {
+            place(tx, day, hold, target, matter)?;
+            Ok(Answer::HoldPlaced { hold })
+        }
+        Err(why) => Ok(Answer::Refused(why)),
     }
 }
 
@@ -206,13 +148,8 @@ pub fn hold_collection<S: Alter>(
     ensures rows { Tells S.Store tx.old.conn.now tx.new.conn.now result (λ tables answer.
         IsCollectionHeldIn tables day caller.now name.now answer) }
 {
-    match place_for_collection(tx, day, caller, name.as_str())? {
-        Ok(hold) => {
-            place_on_collection(tx, day, hold, name.as_str(), matter.as_str())?;
-            Ok(Answer::HoldPlaced { hold })
-        }
-        Err(why) => Ok(Answer::Refused(why)),
-    }
+    let target = HoldTarget::Collection(name.as_str());
+    hold(tx, day, caller, target, matter.as_str())
 }
 
 /// Holds a class: all its deposits, those that come later too.
@@ -231,13 +168,8 @@ pub fn hold_class<S: Alter>(
     ensures rows { Tells S.Store tx.old.conn.now tx.new.conn.now result (λ tables answer.
         IsClassHeldIn tables day caller.now name.now answer) }
 {
-    match place_for_class(tx, day, caller, name.as_str())? {
-        Ok(hold) => {
-            place_on_class(tx, day, hold, name.as_str(), matter.as_str())?;
-            Ok(Answer::HoldPlaced { hold })
-        }
-        Err(why) => Ok(Answer::Refused(why)),
-    }
+    let target = HoldTarget::Class(name.as_str());
+    hold(tx, day, caller, target, matter.as_str())
 }
 
 /// Holds a deposit.
@@ -256,11 +188,6 @@ pub fn hold_deposit<S: Alter>(
     ensures rows { Tells S.Store tx.old.conn.now tx.new.conn.now result (λ tables answer.
         IsDepositHeldIn tables day caller.now number answer) }
 {
-    match place_for_deposit(tx, day, caller, number)? {
-        Ok(hold) => {
-            place_on_deposit(tx, day, hold, number, matter.as_str())?;
-            Ok(Answer::HoldPlaced { hold })
-        }
-        Err(why) => Ok(Answer::Refused(why)),
-    }
+    let target = HoldTarget::Deposit(number);
+    hold(tx, day, caller, target, matter.as_str())
 }

@@ -6,24 +6,22 @@ ghost use Rattle.office_core.specs.FirstOf.{first_some};
 ghost use Rattle.office_core.specs.declared.answer.LiveHold.{LiveHold};
 ghost use Rattle.office_core.specs.declared.refusal.Refusal.TheVariants.{Released};
 ghost use Rattle.office_core.specs.declared.request.Request.TheVariants as requests;
-ghost use Rattle.office_rows.specs.Rows.{limits_of};
 ghost use Rattle.office_tables.specs.Faults.{IsFailure};
 ghost use Rattle.office_tables.specs.Calls.{GoesOnInside, Keeps, Tells};
 ghost use Rattle.office_tables.specs.ShownHolds.{held_class, held_collection, held_deposit};
-ghost use Rattle.office_history.specs.Histories.{OnClass, OnCollection, OnDeposit, ReleasedHold};
+ghost use Rattle.office_history.specs.Histories.{OnDeposit, ReleasedHold};
 ghost use Rattle.office_history.specs.Refusals.{release_denial};
 ghost use Rattle.office_asking.specs.Serving.{Accepts, Decides, Finds};
 ghost use Rattle.office_asking.specs.Holds.{IsHoldOf};
-ghost use Rattle.office_holding.specs.ByRows.{CountsFewer, IsClassReleaseIn, IsCollectionReleaseIn, IsCountable, IsDepositReleaseIn, IsReleasableIn, IsReleaseDenialIn, IsReleasedIn, IsRowUnless};
+ghost use Rattle.office_holding.specs.ByRows.{IsCountableOn, IsDepositReleaseIn, IsReleasableIn, IsReleaseDenialIn, IsReleasedIn, IsRowUnless};
 ghost use Rattle.office_holding.specs.Holds.{IsLiveOn, IsReleaseAsked, IsUnless, target_of};
 
-use crate::counting::count_over_deposit;
-use office_asking::{check_there, denial, hold_in, named_in, optional_day_numbered, there};
+use crate::asking::name_denial;
+use crate::counting::count_over;
+use crate::days::kept_day;
+use office_asking::{denial, hold_in, named_in, optional_day_numbered, there};
 use office_core::{Action, Answer, Day, Refusal, Subject};
-use office_tables::{
-    HoldRow, HoldTarget, TableFault, add_holds, add_holds_class, class_of, deposit_row, end_hold,
-    has_collection, hold_row,
-};
+use office_tables::{HoldRow, HoldTarget, TableFault, deposit_row, end_hold, hold_row};
 use sqlite::{Alter, Transaction};
 use std::alloc::Global;
 
@@ -56,49 +54,9 @@ fn deposit_release_denial<S: Alter>(
     )
 }
 
-/// The refusal where the caller may not release a hold of the collection of that name.
-///
-/// Fails with `Memory` or `Store`: with `Store` where there is no such collection.
-fn collection_release_denial<S: Alter>(
-    tx: &mut Transaction<'_, S>,
-    day: Day,
-    caller: &str,
-    collection: &str,
-) -> Result<Option<Refusal>, TableFault>
-    ensures inside { GoesOnInside S.Store tx.old.conn tx.new.conn result }
-    ensures same { Keeps S.Store tx.old.conn.now tx.new.conn.now result }
-    ensures denied { Finds S.Store tx.old.conn.now tx.new.conn.now result (λ h why.
-        why ≡ release_denial h day caller.now (OnCollection collection.now)) }
-    ensures rows { Tells S.Store tx.old.conn.now tx.new.conn.now result (λ tables why.
-        IsCollectionReleaseIn tables day caller.now collection.now why) }
-{
-    let found = has_collection(tx, collection)?;
-    check_there(found)?;
-    denial(tx, day, caller, Action::Release, Some(collection), None)
-}
-
-/// The refusal where the caller may not release a hold of the class of that name.
-///
-/// Fails with `Memory` or `Store`: with `Store` where there is no such class.
-fn class_release_denial<S: Alter>(
-    tx: &mut Transaction<'_, S>,
-    day: Day,
-    caller: &str,
-    class: &str,
-) -> Result<Option<Refusal>, TableFault>
-    ensures inside { GoesOnInside S.Store tx.old.conn tx.new.conn result }
-    ensures same { Keeps S.Store tx.old.conn.now tx.new.conn.now result }
-    ensures denied { Finds S.Store tx.old.conn.now tx.new.conn.now result (λ h why.
-        why ≡ release_denial h day caller.now (OnClass class.now)) }
-    ensures rows { Tells S.Store tx.old.conn.now tx.new.conn.now result (λ tables why.
-        IsClassReleaseIn tables day caller.now class.now why) }
-{
-    let found = class_of(tx, class)?;
-    check_there(found.is_some())?;
-    denial(tx, day, caller, Action::Release, None, Some(class))
-}
-
 /// The refusal where the caller may not release a hold of what is named.
+///
+/// Fails with `Memory` or `Store`: with `Store` where there is nothing that is named so.
 fn release_denial<S: Alter>(
     tx: &mut Transaction<'_, S>,
     day: Day,
@@ -115,8 +73,10 @@ fn release_denial<S: Alter>(
 {
     match target {
         HoldTarget::Deposit(number) => deposit_release_denial(tx, day, caller, number),
-        HoldTarget::Collection(name) => collection_release_denial(tx, day, caller, name),
-        HoldTarget::Class(name) => class_release_denial(tx, day, caller, name),
+        HoldTarget::Collection(_) | HoldTarget::Class(_) => {
+            let said = name_denial(tx, day, caller, Action::Release, target)?;
+            there(said)
+        }
     }
 }
 
@@ -170,56 +130,8 @@ fn releasable_hold<S: Alter>(
     unless_refused(alloc, hold, denied)
 }
 
-/// Ends the live hold of that number, which is on the collection, and counts it no more over the
-/// deposits of the collection.
-fn end_collection<S: Alter>(
-    tx: &mut Transaction<'_, S>,
-    day: Day,
-    number: u32,
-    collection: &str,
-) -> Result<(), TableFault>
-    ensures inside { GoesOnInside S.Store tx.old.conn tx.new.conn result }
-    ensures ended { Accepts S.Store tx.old.conn.now tx.new.conn.now result (λ h.
-        IsLiveOn h number (OnCollection collection.now)) (ReleasedHold day number ∷ []) }
-{
-    end_hold(tx, number, day.number() as i64)?;
-    add_holds(tx, collection, -1)
-}
-
-/// Ends the live hold of that number, which is on the class, and counts it no more over the deposits of the
-/// class.
-fn end_class<S: Alter>(
-    tx: &mut Transaction<'_, S>,
-    day: Day,
-    number: u32,
-    class: &str,
-) -> Result<(), TableFault>
-    ensures inside { GoesOnInside S.Store tx.old.conn tx.new.conn result }
-    ensures ended { Accepts S.Store tx.old.conn.now tx.new.conn.now result (λ h.
-        IsLiveOn h number (OnClass class.now)) (ReleasedHold day number ∷ []) }
-{
-    end_hold(tx, number, day.number() as i64)?;
-    add_holds_class(tx, class, -1)
-}
-
-/// Ends the live hold of that number, which is on the deposit, and counts it no more over the deposit.
-fn end_deposit<S: Alter>(
-    tx: &mut Transaction<'_, S>,
-    day: Day,
-    number: u32,
-    deposit: u32,
-) -> Result<(), TableFault>
-    ensures inside { GoesOnInside S.Store tx.old.conn tx.new.conn result }
-    ensures ended { Accepts S.Store tx.old.conn.now tx.new.conn.now result (λ h.
-        IsLiveOn h number (OnDeposit deposit)) (ReleasedHold day number ∷ []) }
-    ensures rows { Tells S.Store tx.old.conn.now tx.new.conn.now result (λ tables _.
-        IsCountable (limits_of tables) tables.dues (pos deposit) (negsuc 0)) }
-{
-    end_hold(tx, number, day.number() as i64)?;
-    count_over_deposit(tx, deposit, -1)
-}
-
-/// Ends the live hold of that number, which is on what is named.
+/// Ends the live hold of that number, which is on the target, and counts it no more over the deposits that it
+/// reached.
 fn end<S: Alter>(
     tx: &mut Transaction<'_, S>,
     day: Day,
@@ -230,13 +142,10 @@ fn end<S: Alter>(
     ensures ended { Accepts S.Store tx.old.conn.now tx.new.conn.now result (λ h.
         IsLiveOn h number (target_of target.entry)) (ReleasedHold day number ∷ []) }
     ensures rows { Tells S.Store tx.old.conn.now tx.new.conn.now result (λ tables _.
-        CountsFewer tables (held_deposit target.entry)) }
+        IsCountableOn tables (held_deposit target.entry) (negsuc 0)) }
 {
-    match target {
-        HoldTarget::Deposit(deposit) => end_deposit(tx, day, number, deposit),
-        HoldTarget::Collection(name) => end_collection(tx, day, number, name),
-        HoldTarget::Class(name) => end_class(tx, day, number, name),
-    }
+    end_hold(tx, number, kept_day(day))?;
+    count_over(tx, target, -1)
 }
 
 /// Releases a hold.

@@ -1,45 +1,38 @@
-use Rattle.std.proofs.Common.{length, unwrap_or, ◌≡◌, pos, option_map, rules}
-use Rattle.sqlite.specs.State.{HasCleanDisk}
+use Rattle.std.proofs.Common.{length, unwrap_or, ◌≡◌, pos, option_map}
 use Rattle.sqlite.specs.Held.{state}
 use Rattle.office_history.specs.Histories.{holds}
 use Rattle.office_asking.proofs.LimitsTold.{limits_told, number_told}
 use Rattle.office_asking.proofs.Readings.{pictured_still}
 use Rattle.office_holding.proofs.HoldCount.{count_told}
+use Rattle.office_holding.proofs.CallsTold.{told_then}
 use Rattle.office_holding.proofs.HoldPlaces.{next_placed}
-use Rattle.office_asking.proofs.InTurn.{clean_before, goes_twice, same_twice}
-use Rattle.sql_meaning.proofs.Inside.{stays_then}
 use Rattle.office_tables.specs.Tables.{tables_of}
 use Rattle.office_rows.specs.Rows.{HoldRow, last_number}
 use Rattle.office_holding.proofs.HoldsByRows.{next_told}
-use Rattle.office_asking.proofs.RowsTold.{office_still, told_before}
+use Rattle.office_tables.proofs.InTurn.{clean_first, same_then}
 use Rattle.office_holding.proofs.placing.next_hold.Goals as goal
 
 pub returns-clause-next : goal.returns-clause-next
 returns-clause-next g c clean h legal pictured =
-    let old = state g.S.Store c.args.tx.now.conn.now in
-    let mid = state g.S.Store c.limits.new.tx.conn.now in
-    let new = state g.S.Store c.last_hold.new.tx.conn.now in
-    let early : HasCleanDisk mid = clean_before mid new c.last_hold.ensures.inside.stays clean in
-    let still = pictured_still h old.now pictured mid.now (c.in_ok-limits.ensures.same early pictured.office) in
+    let early = clean_first c.last_hold.ensures.inside.stays clean in
+    let still = pictured_still pictured (c.in_ok-limits.ensures.same early pictured.office) in
     let most = c.in_ok-limits.limits in
-    let limit = (limits_told h old.now pictured most.max_deposits most.max_holds (c.in_ok-limits.ensures.found early pictured.office)).1 in
+    let limit = (limits_told pictured most.max_deposits most.max_holds (c.in_ok-limits.ensures.found early pictured.office)).1 in
     let last = c.in_ok-last.last in
-    let count = count_told h mid.now still last (c.in_ok-last.ensures.found clean still.office) in
+    let count = count_told still last (c.in_ok-last.ensures.found clean still.office) in
     let number = c.number_after.result in (
-      pictured_still h mid.now still new.now (c.in_ok-last.ensures.same clean still.office),
+      pictured_still still (c.in_ok-last.ensures.same clean still.office),
       next_placed h number (number_told (unwrap_or last 0) most.max_holds (length (holds h)) h.max_holds count limit number c.number_after.ensures),
     )
 
 pub returns-clause-rows : goal.returns-clause-rows
 returns-clause-rows g c clean office =
     let old = state g.S.Store c.args.tx.now.conn.now in
-    let mid = state g.S.Store c.limits.new.tx.conn.now in
-    let early : HasCleanDisk mid = clean_before mid (state g.S.Store c.last_hold.new.tx.conn.now) c.last_hold.ensures.inside.stays clean in
-    let same : mid.now ≡ old.now = c.in_ok-limits.ensures.same early office in
+    let early = clean_first c.last_hold.ensures.inside.stays clean in
     let most = c.in_ok-limits.limits in
     let last = c.in_ok-last.last in
-    let told = told_before old.now mid.now same (λ t. option_map pos last ≡ last_number (λ (h : HoldRow). h.number) t.holds) (c.in_ok-last.ensures.found clean (office_still old.now mid.now same office)) in
+    let told = told_then c.in_ok-limits.ensures.inside c.in_ok-last.ensures.inside c.in_ok-limits.ensures.same (λ t found. option_map pos found ≡ last_number (λ (h : HoldRow). h.number) t.holds) c.in_ok-last.ensures.found clean office in
     next_told (tables_of old.now) most.max_deposits most.max_holds (c.in_ok-limits.ensures.found early office) last told c.number_after.result c.number_after.ensures
 
 pub returns-clause-same : goal.returns-clause-same
-returns-clause-same g c = same_twice (state g.S.Store c.args.tx.now.conn.now) (state g.S.Store c.limits.new.tx.conn.now) (state g.S.Store c.last_hold.new.tx.conn.now) c.last_hold.ensures.inside.stays c.in_ok-limits.ensures.same c.in_ok-last.ensures.same
+returns-clause-same g c = same_then c.in_ok-limits.ensures.inside c.in_ok-last.ensures.inside c.in_ok-limits.ensures.same c.in_ok-last.ensures.same

@@ -1,7 +1,5 @@
 use Rattle.std.proofs.Common.{rules, ◌≡◌, ◌∙◌, Some, option_map}
-use Rattle.std.proofs.lemmas.Result.{IfOk-weaker, on_ok_weaker}
-use Rattle.sqlite.specs.State.{HasCleanDisk}
-use Rattle.sqlite.specs.Held.{state}
+use Rattle.std.proofs.lemmas.Result.{IfOk-weaker}
 use Rattle.office_core.specs.declared.action.Action.TheVariants as acts
 use Rattle.office_tables.specs.declared.fault.TableFault.TheVariants.{Store}
 use Rattle.office_history.specs.Histories.{deposit_numbered}
@@ -10,20 +8,17 @@ use Rattle.office_history.specs.Refusals.{denial}
 use Rattle.office_asking.proofs.Readings.{pictured_still}
 use Rattle.office_asking.proofs.DepositAsked.{deposit_read}
 use Rattle.office_holding.proofs.HoldAsked.{asked_of_deposit}
-use Rattle.office_asking.proofs.InTurn.{clean_before, on_after}
-use Rattle.sql_meaning.proofs.Inside.{stays_then, goes_then}
 use Rattle.office_asking.specs.ByRows.{IsDenialIn}
 use Rattle.office_asking.proofs.RowsTold.{office_still, there_is, told_before}
+use Rattle.office_tables.proofs.InTurn.{clean_first, same_then}
 use Rattle.office_holding.proofs.releasing.deposit_release_denial.Goals as goal
 
 pub returns-clause-denied : goal.returns-clause-denied
 returns-clause-denied g c clean h legal pictured =
     let a = c.args in
-    let old = state g.S.Store a.tx.now.conn.now in
-    let mid = state g.S.Store c.deposit_row.new.tx.conn.now in
-    let early : HasCleanDisk mid = clean_before mid (state g.S.Store c.denial.new.tx.conn.now) c.denial.ensures.inside.stays clean in
-    let read = deposit_read h old.now pictured a.number c.in_ok-found.found (c.in_ok-found.ensures.found early pictured.office) in
-    let still = pictured_still h old.now pictured mid.now (c.in_ok-found.ensures.same early pictured.office) in
+    let early = clean_first c.denial.ensures.inside.stays clean in
+    let read = deposit_read pictured a.number c.in_ok-found.found (c.in_ok-found.ensures.found early pictured.office) in
+    let still = pictured_still pictured (c.in_ok-found.ensures.same early pictured.office) in
     let row = c.in_ok-deposit.deposit in
     let some : Some row ≡ option_map (deposit_row h a.number) (deposit_numbered h a.number) = there_is c.in_ok-found.found Store row c.in_ok-deposit.ensures ∙ read in
     let collection : c.deref.result.now ≡ row.collection = search rules in
@@ -33,21 +28,14 @@ returns-clause-denied g c clean h legal pictured =
 pub returns-clause-rows : goal.returns-clause-rows
 returns-clause-rows g c clean office =
     let a = c.args in
-    let old = state g.S.Store a.tx.now.conn.now in
-    let mid = state g.S.Store c.deposit_row.new.tx.conn.now in
-    let early : HasCleanDisk mid = clean_before mid (state g.S.Store c.denial.new.tx.conn.now) c.denial.ensures.inside.stays clean in
-    let same : mid.now ≡ old.now = c.in_ok-found.ensures.same early office in
+    let early = clean_first c.denial.ensures.inside.stays clean in
+    let same = c.in_ok-found.ensures.same early office in
     let row = c.in_ok-deposit.deposit in
     let there = there_is c.in_ok-found.found Store row c.in_ok-deposit.ensures ∙ c.in_ok-found.ensures.found early office in
     let collection : c.deref.result.now ≡ row.collection = search rules in
     let class : c.deref-2.result.now ≡ row.class = search rules in
-    IfOk-weaker c.denial.result _ _ (λ why is. record { row = row; there = there; is = told_before old.now mid.now same (λ t. IsDenialIn t a.day a.caller.now acts.Release (Some row.collection) (Some row.class) why) (rw (collection, class) at is) })
-    (c.denial.ensures.rows clean (office_still old.now mid.now same office))
+    IfOk-weaker c.denial.result _ _ (λ why is. record { row = row; there = there; is = told_before same (λ t. IsDenialIn t a.day a.caller.now acts.Release (Some row.collection) (Some row.class) why) (rw (collection, class) at is) })
+    (c.denial.ensures.rows clean (office_still same office))
 
 pub returns-clause-same : goal.returns-clause-same
-returns-clause-same g c clean office =
-    let old = state g.S.Store c.args.tx.now.conn.now in
-    let mid = state g.S.Store c.deposit_row.new.tx.conn.now in
-    let early : HasCleanDisk mid = clean_before mid (state g.S.Store c.denial.new.tx.conn.now) c.denial.ensures.inside.stays clean in
-    let same : mid.now ≡ old.now = c.in_ok-found.ensures.same early office in
-    on_ok_weaker c.denial.result (λ e. e ∙ same) (c.denial.ensures.same clean (office_still old.now mid.now same office))
+returns-clause-same g c = same_then c.in_ok-found.ensures.inside c.denial.ensures.inside c.in_ok-found.ensures.same c.denial.ensures.same

@@ -1,39 +1,29 @@
-use Rattle.std.proofs.Common.{subst, OnOk, sym}
-use Rattle.office_holding.specs.Holds.{IsLiveOn, target_of}
+use Rattle.std.proofs.Common.{rules, w64, negsuc, subst}
+use mir.Val.{SFits}
+use Rattle.std.proofs.lemmas.Int.{to_z-of_z}
+use Rattle.std.proofs.lemmas.Result.{on_ok_weaker}
 use Rattle.sqlite.specs.Held.{state}
-use Rattle.office_tables.specs.Tables.{tables_of}
-use Rattle.std.proofs.lemmas.Result.{IfOk-weaker}
+use Rattle.office_rows.specs.Rows.{Tables}
 use Rattle.office_tables.specs.ShownHolds.{held_deposit}
-use Rattle.office_tables.specs.declared.holds.HoldTarget.{HoldTarget}
-use Rattle.office_holding.specs.ByRows.{CountsFewer}
+use Rattle.office_tables.proofs.InTurn.{clean_first, inside_then}
+use Rattle.office_holding.specs.ByRows.{IsCountableOn}
+use Rattle.office_holding.specs.Holds.{target_of}
+use Rattle.office_holding.proofs.ReleasedTold.{released}
 use Rattle.office_holding.proofs.releasing.end.Goals as goal
 
-pub returns-in-Deposit-clause-ended : goal.returns-in-Deposit-clause-ended
-returns-in-Deposit-clause-ended g c clean h legal pictured was =
+pub returns-clause-ended : goal.returns-clause-ended
+returns-clause-ended g c clean h legal pictured was =
     let a = c.args in
-    c.end_deposit.ensures.ended clean h legal pictured (subst (λ target. IsLiveOn h a.number (target_of target)) c.in-Deposit.is was)
+    let early = clean_first c.count_over.ensures.inside.stays clean in
+    let fits : SFits w64 c.kept_day.result = search rules in
+    let ended = rw (to_z-of_z w64 c.kept_day.result fits, c.kept_day.ensures) at (c.in_ok-end_hold.ensures.becomes early pictured.office) in
+    released h a.day a.number was.live legal was.found was.there pictured ended (target_of a.target) was.named c.count_over.result (state g.S.Store c.count_over.new.tx.conn.now).now
+    (c.count_over.ensures.counted clean ended.office) (c.count_over.ensures.once clean ended.office (c.in_ok-end_hold.ensures.once early pictured.office pictured.once))
 
-pub returns-in-Collection-clause-ended : goal.returns-in-Collection-clause-ended
-returns-in-Collection-clause-ended g c clean h legal pictured was =
-    let a = c.args in
-    c.end_collection.ensures.ended clean h legal pictured (subst (λ target. IsLiveOn h a.number (target_of target)) c.in-Collection.is was)
+pub returns-clause-rows : goal.returns-clause-rows
+returns-clause-rows g c clean office =
+    let ended = c.in_ok-end_hold.ensures.becomes (clean_first c.count_over.ensures.inside.stays clean) office in
+    on_ok_weaker c.count_over.result (subst (λ (t : Tables). IsCountableOn t (held_deposit c.args.target) (negsuc 0)) ended.are) (c.count_over.ensures.rows clean ended.office)
 
-pub returns-in-Deposit-clause-rows : goal.returns-in-Deposit-clause-rows
-returns-in-Deposit-clause-rows g c clean office =
-    let t = tables_of (state g.S.Store c.args.tx.now.conn.now).now in
-    subst (λ (named : HoldTarget). OnOk c.end_deposit.result (CountsFewer t (held_deposit named))) (sym c.in-Deposit.is) (c.end_deposit.ensures.rows clean office)
-
-pub returns-in-Collection-clause-rows : goal.returns-in-Collection-clause-rows
-returns-in-Collection-clause-rows g c clean office =
-    let t = tables_of (state g.S.Store c.args.tx.now.conn.now).now in
-    subst (λ (named : HoldTarget). OnOk c.end_collection.result (CountsFewer t (held_deposit named))) (sym c.in-Collection.is) (IfOk-weaker c.end_collection.result _ _ (λ _ _. tt) (c.end_collection.ensures.inside.goes_on clean))
-
-pub returns-in-Class-clause-ended : goal.returns-in-Class-clause-ended
-returns-in-Class-clause-ended g c clean h legal pictured was =
-    let a = c.args in
-    c.end_class.ensures.ended clean h legal pictured (subst (λ target. IsLiveOn h a.number (target_of target)) c.in-Class.is was)
-
-pub returns-in-Class-clause-rows : goal.returns-in-Class-clause-rows
-returns-in-Class-clause-rows g c clean office =
-    let t = tables_of (state g.S.Store c.args.tx.now.conn.now).now in
-    subst (λ (named : HoldTarget). OnOk c.end_class.result (CountsFewer t (held_deposit named))) (sym c.in-Class.is) (IfOk-weaker c.end_class.result _ _ (λ _ _. tt) (c.end_class.ensures.inside.goes_on clean))
+pub returns-clause-inside : goal.returns-clause-inside
+returns-clause-inside g c = inside_then c.in_ok-end_hold.ensures.inside c.count_over.ensures.inside

@@ -1,0 +1,68 @@
+//! What the rules say of a collection or a class by its name, where there is one.
+
+ghost use Rattle.std.specs.Prelude.{◌≡◌, option_copied};
+ghost use Rattle.office_tables.specs.Calls.{GoesOnInside, Keeps, Tells};
+ghost use Rattle.office_history.specs.Pictures.{held_class, held_collection};
+ghost use Rattle.office_asking.specs.Serving.{Finds};
+ghost use Rattle.office_holding.specs.ByRows.{IsSaidIn, is_there_in};
+ghost use Rattle.office_holding.specs.Holds.{IsSaidOf, target_of};
+
+use office_asking::denial;
+use office_core::{Action, Day, Refusal};
+use office_tables::{HoldTarget, TableFault, class_of, deposit_row, has_collection};
+use sqlite::{Alter, Transaction};
+
+/// Whether there is the deposit, the collection or the class that is named.
+fn is_there<S: Alter>(
+    tx: &mut Transaction<'_, S>,
+    target: HoldTarget<'_>,
+) -> Result<bool, TableFault>
+    ensures inside { GoesOnInside S.Store tx.old.conn tx.new.conn result }
+    ensures same { Keeps S.Store tx.old.conn.now tx.new.conn.now result }
+    ensures found { Tells S.Store tx.old.conn.now tx.new.conn.now result (λ tables found.
+        found ≡ is_there_in tables (target_of target.entry)) }
+{
+    match target {
+        HoldTarget::Deposit(number) => Ok(deposit_row(tx, number)?.is_some()),
+        HoldTarget::Collection(name) => has_collection(tx, name),
+        HoldTarget::Class(name) => Ok(class_of(tx, name)?.is_some()),
+    }
+}
+
+/// The name of the collection, or of the class, by which the rules are asked.
+fn names_of<'a>(target: HoldTarget<'a>) -> (Option<&'a str>, Option<&'a str>)
+    ensures collection { option_copied result.0 ≡ held_collection (target_of target.entry) }
+    ensures class { option_copied result.1 ≡ held_class (target_of target.entry) }
+{
+    match target {
+        HoldTarget::Deposit(_) => (None, None),
+        HoldTarget::Collection(name) => (Some(name), None),
+        HoldTarget::Class(name) => (None, Some(name)),
+    }
+}
+
+/// The refusal, if any, where the rules are asked for that action by the name of the collection or of the class alone;
+/// `None` where there is none of that name.
+///
+/// Fails with `Memory` or `Store`.
+pub(crate) fn name_denial<S: Alter>(
+    tx: &mut Transaction<'_, S>,
+    day: Day,
+    caller: &str,
+    action: Action,
+    target: HoldTarget<'_>,
+) -> Result<Option<Option<Refusal>>, TableFault>
+    ensures inside { GoesOnInside S.Store tx.old.conn tx.new.conn result }
+    ensures same { Keeps S.Store tx.old.conn.now tx.new.conn.now result }
+    ensures denied { Finds S.Store tx.old.conn.now tx.new.conn.now result (λ h said.
+        IsSaidOf h day caller.now action (target_of target.entry) said) }
+    ensures rows { Tells S.Store tx.old.conn.now tx.new.conn.now result (λ tables said.
+        IsSaidIn tables day caller.now action (target_of target.entry) said) }
+{
+    if !is_there(tx, target)? {
+        return Ok(None);
+    }
+    let (collection, class) = names_of(target);
+    let why = denial(tx, day, caller, action, collection, class)?;
+    Ok(Some(why))
+}
