@@ -1,11 +1,11 @@
 -- The deposit of an accession, and the next number, by the rows.
-use Rattle.std.proofs.Common.{◌≡◌, ℕ, suc, ◌+◌, ℤ, pos, Bool, true, false, not, List, [], ◌∷◌, length, Option, Some, None, option_map, unwrap_or, refl, sym, ap, ◌∙◌, arith, cond, one-add}
+use Rattle.std.proofs.Common.{◌≡◌, ℕ, suc, ◌+◌, ℤ, pos, Bool, true, false, not, List, [], ◌∷◌, length, Option, Some, None, option_map, unwrap_or, Result, refl, sym, ap, ◌∙◌, arith, cond, one-add}
 use Rattle.std.specs.Prelude.{bytes_eq, find, position, nat_lt}
 use Rattle.std.specs.List.{prefix_len}
 use Rattle.std.proofs.lemmas.Bool.Decides.{nat_tests}
 use Rattle.jiff.specs.Types.{Date}
 use Rattle.sqlite.specs.Effect.{Database}
-use Rattle.office_rows.specs.Rows.{DepositRow, deposit_by, has_accession, last_number}
+use Rattle.office_rows.specs.Rows.{DepositRow, deposit_by, has_accession, last_number, limits_of}
 use Rattle.office_tables.specs.Tables.{tables_of}
 use Rattle.office_history.specs.Histories.{History, Deposit, deposits, accession_of}
 use Rattle.office_history.specs.Pictures.{deposit_row, deposit_rows}
@@ -13,6 +13,9 @@ use Rattle.office_asking.specs.Pictures.{Pictures}
 use Rattle.office_asking.proofs.DepositTold.{deposit_rows_are}
 use Rattle.office_asking.proofs.NumberedRows.{rows_from, count_is}
 use Rattle.office_asking.proofs.Readings.{in_picture}
+use Rattle.office_asking.proofs.LimitsTold.{limits_told, number_told}
+use Rattle.office_asking.specs.Limits.{IsNumberAfter}
+use Rattle.office_core.specs.declared.refusal.Refusal.{Refusal}
 
 lt_next : (p n : ℕ) → nat_lt (suc p) (suc n) ≡ nat_lt p n
 lt_next p n = by (nat_lt (suc p) (suc n)) (nat_lt p n) refl refl
@@ -76,7 +79,14 @@ accession_told h accession =
     by (Some p) = let one : 1 + p ≡ p + 1 = omega arith in ap (λ k. Some (pos k)) one
 
 -- the last number is how many deposits there are
-pub count_told : (h : History) (db : Database) → Pictures h db → (o : Option ℕ) → option_map pos o ≡ last_number (λ (d : DepositRow). d.number) (tables_of db).deposits → unwrap_or o 0 ≡ length (deposits h)
-count_told h db pictured o e =
+count_told : {h : History} {db : Database} → Pictures h db → (o : Option ℕ) → option_map pos o ≡ last_number (λ (d : DepositRow). d.number) (tables_of db).deposits → unwrap_or o 0 ≡ length (deposits h)
+count_told {h = h} {db = db} pictured o e =
     count_is (deposit_row h) (λ d. d.number) (λ m x. refl) (deposits h) o
-    (e ∙ in_picture h db pictured (λ t. last_number (λ (d : DepositRow). d.number) t.deposits) ∙ ap (last_number (λ (d : DepositRow). d.number)) (deposit_rows_are h))
+    (e ∙ in_picture pictured (λ t. last_number (λ (d : DepositRow). d.number) t.deposits) ∙ ap (last_number (λ (d : DepositRow). d.number)) (deposit_rows_are h))
+
+-- the number after the last that the rows have is the next of the history
+pub next_told : {h : History} {before after : Database} → Pictures h before → Pictures h after → (deposits_at holds_at : ℕ) → limits_of (tables_of before) ≡ Some (record { max_deposits = pos deposits_at; max_holds = pos holds_at })
+    → (last : Option ℕ) → option_map pos last ≡ last_number (λ (d : DepositRow). d.number) (tables_of after).deposits
+    → (number : Result ℕ Refusal) → IsNumberAfter (unwrap_or last 0) deposits_at number → IsNumberAfter (length (deposits h)) h.max_deposits number
+next_told {h = h} pictured still deposits_at holds_at limits last is_last number =
+    number_told (unwrap_or last 0) deposits_at (length (deposits h)) h.max_deposits (count_told still last is_last) (limits_told pictured deposits_at holds_at limits).0 number

@@ -3,18 +3,26 @@ use Rattle.std.proofs.Common.{◌≡◌, ℕ, zero, suc, ◌+◌, ◌<◌, ℤ, 
 use Rattle.std.specs.List.{flat_map, range_with_len, AllByRecursion}
 use Rattle.std.specs.Option.{option_map_or}
 use Rattle.std.specs.Ordering.{int_cmp}
+use Rattle.std.specs.Prelude.{Ok}
+use Rattle.std.specs.Borrow.{MutBor}
 use Rattle.std.proofs.lemmas.List.{at_drop_more, length_push}
 use Rattle.std.proofs.Common.{drop, get_or, Bor}
 use Rattle.bag_text.specs.TransferReading as pairs
 use Rattle.office_tables.specs.Tables.{IsOffice, Becomes, tables_of}
-use Rattle.office_tables.specs.Contents.{KeepsOnce}
+use Rattle.office_tables.specs.Contents.{KeepsOnce, LeavesOnce}
+use Rattle.sqlite.specs.Store.{Ghosts}
+use Rattle.sqlite.specs.State.{HasCleanDisk}
+use Rattle.sqlite.specs.Held.{Held, state}
+use Rattle.office_tables.specs.Calls.{GoesOnInTurn, GoesOnInside, Writes}
+use Rattle.office_tables.specs.declared.fault.TableFault.{TableFault}
+use Rattle.office_tables.proofs.InTurn.{clean_first}
 use Rattle.std.proofs.lemmas.List.Elements.{filter-append}
 use Rattle.std.proofs.lemmas.List.Concat.{flat_map-append}
 use Rattle.jiff.specs.Types.{Date}
 use Rattle.sqlite.specs.Effect.{Database}
 use Rattle.bag_text.specs.TransferForm.{File}
 use Rattle.office_rows.proofs.Order.{put_last}
-use Rattle.office_rows.specs.Rows.{Tables, DepositRow, FileRow, put_by, with_deposit, with_due, with_holds, with_file, this_version}
+use Rattle.office_rows.specs.Rows.{Tables, DepositRow, FileRow, put_by, with_file, this_version}
 use Rattle.office_history.specs.Lists.{item_numbered, numbers}
 use Rattle.office_history.specs.Histories.{History, Change, Deposited, Deposit, with_changes, deposits, destruction_day, due, live_holds}
 use Rattle.office_history.specs.Pictures.{row_by_gone, deposit_row, deposit_rows, due_number, file_row, file_rows, picture}
@@ -110,21 +118,26 @@ module _ (h : History) (day : Date) (d : Deposit) (not_gone : destruction_day h 
       ∙ pictured_by h more refl (sym (same_classes h more refl (λ name. refl))) (sym (same_collections h more refl))
       deposits_told (dues_deposited h day d) files_told (sym (same_hold_rows h more refl (λ k. refl)))
 
--- one file after another
-pub next_file : (n : ℤ) (fs : List (Bor (List ℕ) × Bor (List ℕ))) (i : ℕ) (d : Bor (List ℕ) × Bor (List ℕ)) → i < length fs → (t : Tables) (now new : Database)
-    → Becomes new (with_file (record { deposit = n; path = (get_or fs i d).0.now; content = (get_or fs i d).1.now }) (tables_of now))
-    → with_files n (pairs.files_of (drop i fs)) (tables_of now) ≡ with_files n (pairs.files_of fs) t → IsOffice new × (with_files n (pairs.files_of (drop (i + 1) fs)) (tables_of new) ≡ with_files n (pairs.files_of fs) t)
-next_file n fs i d low t now new added there =
-    let here : with_files n (pairs.files_of (drop i fs)) (tables_of now) ≡ with_files n (pairs.files_of (get_or fs i d ∷ drop (i + 1) fs)) (tables_of now) = at_drop_more (λ more. with_files n (pairs.files_of more) (tables_of now)) fs i d low in
-    (added.office, ap (with_files n (pairs.files_of (drop (i + 1) fs))) added.are ∙ sym here ∙ there)
+-- ---- one file after another
 
--- a deposit's row, its due day and its count of holds, one after another
-pub row_put : (row : DepositRow) (due : Option ℤ) (holds : ℤ) (old first second new : Database) → Becomes first (with_deposit row (tables_of old)) → Becomes second (with_due row.number due (tables_of first))
-    → Becomes new (with_holds row.number holds (tables_of second)) → Becomes new (with_kept row due holds (tables_of old))
-row_put row due holds old first second new put set counted = record {
-  office = counted.office;
-  are = counted.are ∙ ap (with_holds row.number holds) (set.are ∙ ap (with_due row.number due) put.are);
-}
+-- of these files, those before that place are there
+abbrev pub Adds : {S : Type 0} → Ghosts S → Held S → Held S → ℤ → List (Bor (List ℕ) × Bor (List ℕ)) → ℕ → Type 0
+Adds g old now n fs i =
+    HasCleanDisk (state g now) → IsOffice (state g old).now
+    → IsOffice (state g now).now × (with_files n (pairs.files_of (drop i fs)) (tables_of (state g now).now) ≡ with_files n (pairs.files_of fs) (tables_of (state g old).now))
+
+module _ {S A B : Type 0} {g : Ghosts S} {old mid new : MutBor (Held S)} {x : A} {y : B} (before : GoesOnInTurn g old mid (Ok x)) (after : GoesOnInside g mid new (Ok y)) (n : ℤ) (fs : List (Bor (List ℕ) × Bor (List ℕ))) (i : ℕ) (there : Adds g old.now mid.now n fs i) where
+  pub next_file : (d : Bor (List ℕ) × Bor (List ℕ)) → i < length fs → Writes {E = TableFault} g mid.now new.now (Ok y) (with_file (record { deposit = n; path = (get_or fs i d).0.now; content = (get_or fs i d).1.now })) → Adds g old.now new.now n fs (i + 1)
+  next_file d low writes clean office =
+      let rest = there (clean_first after.stays clean) office in
+      let added = writes clean rest.0 in
+      let here = at_drop_more (λ more. with_files n (pairs.files_of more) (tables_of (state g mid.now).now)) fs i d low in
+      (added.office, ap (with_files n (pairs.files_of (drop (i + 1) fs))) added.are ∙ sym here ∙ rest.1)
+
+  pub still_once : LeavesOnce {E = TableFault} g old.now mid.now (Ok x) → LeavesOnce {E = TableFault} g mid.now new.now (Ok y) → LeavesOnce {E = TableFault} g old.now new.now (Ok y)
+  still_once kept keeps clean office once =
+      let early = clean_first after.stays clean in
+      keeps clean (there early office).0 (kept early office once)
 
 -- a deposit's row with what is kept beside it, and then its files
 pub kept_deposit : (h : History) → IsLegal h → (day : Date) (d : Deposit) (n : ℕ) (due_is : Option ℤ) (holds : ℤ) (old mid new : Database) → n ≡ length (deposits h) + 1

@@ -7,10 +7,6 @@ use Rattle.jiff.specs.Types.{Date}
 use Rattle.jiff.specs.Words.{epoch_day}
 use Rattle.bag_text.specs.TransferForm.{File}
 use Rattle.office_rows.specs.Rows.{DepositRow, FileRow, is_deposit, is_file_of, with_gone, without_files, this_version}
-use Rattle.office_tables.specs.Tables.{Becomes, tables_of}
-use Rattle.office_tables.specs.Contents.{KeepsOnce}
-use Rattle.sqlite.specs.Effect.{Database}
-use Rattle.office_asking.specs.Pictures.{Pictures}
 use Rattle.office_history.specs.Lists.{item_numbered, numbers}
 use Rattle.office_history.specs.Histories.{History, Change, Destroyed, Deposit, with_changes, deposits, destruction_day}
 use Rattle.office_history.specs.Stocks.{files_of}
@@ -96,11 +92,3 @@ module _ (h : History) (day : Date) (n : ℕ) (kept_before : destruction_day h n
   gone_told =
       pictured_by h more refl (sym (same_classes h more refl (λ name. refl))) (sym (same_collections h more refl))
       deposits_told (sym (same_due_rows h more refl (λ name. refl) refl (λ k. refl))) files_told (sym (same_hold_rows h more refl (λ k. refl)))
-
-  -- so do the two changes of the tables
-  pub destroyed : (old mid new : Database) → Pictures h old → Becomes mid (with_gone (pos n) (epoch_day day) (tables_of old)) → Becomes new (without_files (pos n) (tables_of mid)) → KeepsOnce new → Pictures longer new
-  destroyed old mid new pictured marked became once = record {
-    office = became.office;
-    are = became.are ∙ ap (without_files (pos n)) (marked.are ∙ ap (with_gone (pos n) (epoch_day day)) pictured.are) ∙ gone_told;
-    once = once;
-  }

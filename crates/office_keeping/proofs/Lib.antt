@@ -5,3 +5,4 @@ pub mod DepositedTold
 pub mod AskedFor
 pub mod RowsTold
 pub mod OneAnswer
+pub mod Written

@@ -13,7 +13,7 @@ use Rattle.office_history.specs.Refusals.{bad_bag, closed_ahead_refusal, refusal
 use Rattle.office_asking.specs.ByRows.{IsDenialIn}
 use Rattle.office_asking.specs.Limits.{IsRefusedOr, answer_of_number}
 use Rattle.office_asking.proofs.OneAnswer.{HasAtMostOne, denial_is_one, facts_are_one, next_is_one, number_back, refused_or_is_one}
-use Rattle.office_keeping.specs.ByRows.{DepositAsked, IsAccessionRefusalIn, IsAskedOfDeposit, IsDepositedIn, IsDisposalRefusalIn, IsDisposalRefusalOf, IsDisposedIn, IsNextDepositIn, IsPlaceRefusalIn, IsRefusalBeforeTheBag, IsTakenIn, IsThisOr, IsVerdictIn, no_class, no_collection}
+use Rattle.office_keeping.specs.ByRows.{AskedValues, IsAccessionRefusalIn, IsAskedOfDeposit, IsDepositedIn, IsDisposalRefusalIn, IsDisposalRefusalOf, IsDisposedIn, IsNextDepositIn, IsPlaceRefusalIn, IsRefusalBeforeTheBag, IsTakenIn, IsThisOr, IsVerdictIn, no_class, no_collection}
 
 -- ---- a bag that is deposited
 
@@ -41,14 +41,14 @@ accession_refusal_is_one t day accession closed a b p q =
     this_or_is_one q.taken ahead (λ x y u v. u ∙ sym v) a b (subst (λ o. IsThisOr o ahead a) taken p.first) q.first
 
 -- one refusal stands before the bag is read, or none
-pub refusal_before_the_bag_is_one : (t : Tables) (asked : DepositAsked) → HasAtMostOne (IsRefusalBeforeTheBag t asked)
+pub refusal_before_the_bag_is_one : (t : Tables) (asked : AskedValues) → HasAtMostOne (IsRefusalBeforeTheBag t asked)
 refusal_before_the_bag_is_one t asked a b p q =
     let next : Option Refusal → Type 0 = IsAccessionRefusalIn t asked.day asked.accession asked.closed in
     let place : p.place ≡ q.place = place_refusal_is_one t asked.day asked.caller asked.collection asked.class p.place q.place p.of_place q.of_place in
     this_or_is_one q.place next (accession_refusal_is_one t asked.day asked.accession asked.closed) a b (subst (λ o. IsThisOr o next a) place p.first) q.first
 
 -- one number is that of the deposit, or one refusal stands first
-pub asked_of_deposit_is_one : (t : Tables) (asked : DepositAsked) (text : List ℕ) → HasAtMostOne (IsAskedOfDeposit t asked text)
+pub asked_of_deposit_is_one : (t : Tables) (asked : AskedValues) (text : List ℕ) → HasAtMostOne (IsAskedOfDeposit t asked text)
 asked_of_deposit_is_one t asked text a b p q =
     let next : Result ℕ Refusal → Type 0 = IsRefusedOr (bad_bag text) (IsNextDepositIn t) in
     let before : p.before ≡ q.before = refusal_before_the_bag_is_one t asked p.before q.before p.is_before q.is_before in
@@ -56,7 +56,7 @@ asked_of_deposit_is_one t asked text a b p q =
     refused_or_is_one q.before next (refused_or_is_one (bad_bag text) (IsNextDepositIn t) number) a b (subst (λ o. IsRefusedOr o next a) before p.first) q.first
 
 -- one answer is given where a bag is deposited
-pub deposited_is_one : (t : Tables) (asked : DepositAsked) (text : List ℕ) → HasAtMostOne (IsDepositedIn t asked text)
+pub deposited_is_one : (t : Tables) (asked : AskedValues) (text : List ℕ) → HasAtMostOne (IsDepositedIn t asked text)
 deposited_is_one t asked text a b p q =
     p.answer ∙ ap (answer_of_number answers.Deposited) (asked_of_deposit_is_one t asked text p.next q.next p.is_next q.is_next) ∙ sym q.answer
 

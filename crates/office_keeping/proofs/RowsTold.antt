@@ -1,38 +1,18 @@
 -- What the rows tell of deposits and disposals by the calls that read them, whichever rows they are.
-use Rattle.std.proofs.Common.{◌≡◌, ℕ, ℤ, pos, true, false, not, List, Option, Some, None, option_map, is_some, is_none, Result, OnOk, IfOk, refl, sym, ap, subst, ◌∙◌}
+use Rattle.std.proofs.Common.{◌≡◌, ℕ, ℤ, pos, true, false, not, List, Option, Some, None, option_map, is_some, is_none, Result, refl, sym, ap, subst, ◌∙◌}
 use Rattle.std.proofs.lemmas.Bool.Decides.{Decides-int_eq}
-use Rattle.std.proofs.lemmas.Result.{on_ok_weaker}
 use Rattle.jiff.specs.Types.{Date}
-use Rattle.sqlite.specs.State.{State, HasCleanDisk}
-use Rattle.sql_meaning.specs.Inside.{Stays}
 use Rattle.office_core.specs.FirstOf.{answer_if}
 use Rattle.office_core.specs.declared.action.Action.TheVariants as acts
 use Rattle.office_core.specs.declared.refusal.Refusal.{Refusal}
 use Rattle.office_core.specs.declared.refusal.Refusal.TheVariants.{NoSuch}
 use Rattle.office_core.specs.declared.refusal.Subject.TheVariants as subjects
 use Rattle.office_rows.specs.Rows.{Tables, ClassRow, DepositRow, class_named, deposit_numbered, has_collection, is_deposit}
-use Rattle.office_tables.specs.Tables.{IsOffice, tables_of}
 use Rattle.office_tables.proofs.OrderLemmas.{first_passes}
+use Rattle.office_history.specs.Refusals.{closed_ahead_refusal}
 use Rattle.office_asking.specs.ByRows.{IsDenialIn}
 use Rattle.office_asking.specs.Limits.{IsRefusedOr}
-use Rattle.office_asking.proofs.InTurn.{clean_before}
-use Rattle.office_asking.proofs.RowsTold.{office_still, told_before}
-use Rattle.office_keeping.specs.ByRows.{IsThisOr, IsPlaceRefusalIn, no_class}
-
--- ---- two calls in turn, of which the first changes no row
-
-module _ (a b c : State) (stays : Stays b c) (first : HasCleanDisk b → IsOffice a.now → b.now ≡ a.now) where
-  -- where the second changes none, both change none
-  pub same_after : {E V : Type 0} (result : Result V E) → (HasCleanDisk c → IsOffice b.now → OnOk result (c.now ≡ b.now)) → HasCleanDisk c → IsOffice a.now → OnOk result (c.now ≡ a.now)
-  same_after result second clean office =
-      let same = first (clean_before b c stays clean) office in
-      on_ok_weaker result (λ again. again ∙ same) (second clean (office_still a.now b.now same office))
-
-  -- what the second tells is told of the rows before both
-  pub told_after : {E V : Type 0} (result : Result V E) (is_so : Tables → V → Type 0) → (HasCleanDisk c → IsOffice b.now → IfOk result (is_so (tables_of b.now))) → HasCleanDisk c → IsOffice a.now → IfOk result (is_so (tables_of a.now))
-  told_after result is_so second clean office =
-      let same = first (clean_before b c stays clean) office in
-      told_before a.now b.now same (λ t. IfOk result (is_so t)) (second clean (office_still a.now b.now same office))
+use Rattle.office_keeping.specs.ByRows.{AskedValues, IsPlaceRefusalIn, IsRefusalBeforeTheBag, IsTakenIn, IsThisOr, no_class}
 
 -- ---- the place of a deposit
 
@@ -61,6 +41,17 @@ module _ (t : Tables) (day : Date) (caller collection class : List ℕ) where
     both_there e why denial =
         in_collection why
         (subst (λ b. IsThisOr (answer_if b (NoSuch subjects.Class)) denied why) (ap not e ∙ is_there (class_named class t.classes) found read) denial)
+
+-- ---- the accession of a deposit, and its closing day
+
+-- where nothing is refused of the place
+pub of_accession : (t : Tables) (asked : AskedValues) (place : Option Refusal) → IsPlaceRefusalIn t asked.day asked.caller asked.collection asked.class place → place ≡ None → (taken : Option Refusal) → IsTakenIn t asked.accession taken
+    → (stands : Option Refusal) → taken ≡ stands → (why : Option Refusal) → IsThisOr stands (λ ahead. ahead ≡ closed_ahead_refusal asked.day asked.closed) why → IsRefusalBeforeTheBag t asked why
+of_accession t asked place is_place none taken is_taken stands is why first = record {
+  place = None;
+  of_place = subst (IsPlaceRefusalIn t asked.day asked.caller asked.collection asked.class) none is_place;
+  first = record { taken = stands; is_taken = subst (IsTakenIn t asked.accession) is is_taken; first = first };
+}
 
 -- ---- the number of a deposit
 

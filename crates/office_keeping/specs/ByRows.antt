@@ -16,15 +16,27 @@ use Rattle.office_history.specs.Answers.{answer_unless}
 use Rattle.office_history.specs.Refusals.{bad_bag, closed_ahead_refusal, refusal_of}
 use Rattle.office_asking.specs.ByRows.{AreFactsIn, AreReleasedOnDays, IsDenialIn, IsDueIn}
 use Rattle.office_asking.specs.Limits.{IsNextIn, IsRefusedOr, answer_of_number}
+use Rattle.office_keeping.specs.declared.asked.DepositAsked.{DepositAsked}
 
 -- what a deposit is asked for, and by whom, before its bag is looked at
-pub record DepositAsked : Type 0 where
+pub record AskedValues : Type 0 where
   pub day : Date
   pub caller : List ℕ
   pub collection : List ℕ
   pub class : List ℕ
   pub accession : List ℕ
   pub closed : Date
+
+-- of what the code is handed
+abbrev pub values_of : DepositAsked → AskedValues
+values_of asked = record {
+  day = asked.day;
+  caller = asked.caller.now;
+  collection = asked.collection.now;
+  class = asked.class.now;
+  accession = asked.accession.now;
+  closed = asked.closed;
+}
 
 -- ---- where a bag is deposited
 
@@ -59,7 +71,7 @@ pub record IsAccessionRefusalIn (t : Tables) (day : Date) (accession : List ℕ)
   pub first : IsThisOr taken (λ ahead. ahead ≡ closed_ahead_refusal day closed) why
 
 -- of the place, and else of the accession and the closing day
-pub record IsRefusalBeforeTheBag (t : Tables) (asked : DepositAsked) (why : Option Refusal) : Type 0 where
+pub record IsRefusalBeforeTheBag (t : Tables) (asked : AskedValues) (why : Option Refusal) : Type 0 where
   pub place : Option Refusal
   pub of_place : IsPlaceRefusalIn t asked.day asked.caller asked.collection asked.class place
   pub first : IsThisOr place (IsAccessionRefusalIn t asked.day asked.accession asked.closed) why
@@ -71,7 +83,7 @@ abbrev pub IsNextDepositIn : Tables → Result ℕ Refusal → Type 0
 IsNextDepositIn t = IsNextIn t (λ l. l.max_deposits) (last_number (λ (d : DepositRow). d.number) t.deposits)
 
 -- the number that the deposit gets of the bag whose transfer form the text is, or the refusal that stands first
-pub record IsAskedOfDeposit (t : Tables) (asked : DepositAsked) (text : List ℕ) (given : Result ℕ Refusal) : Type 0 where
+pub record IsAskedOfDeposit (t : Tables) (asked : AskedValues) (text : List ℕ) (given : Result ℕ Refusal) : Type 0 where
   pub before : Option Refusal
   pub is_before : IsRefusalBeforeTheBag t asked before
   pub first : IsRefusedOr before (IsRefusedOr (bad_bag text) (IsNextDepositIn t)) given
@@ -80,7 +92,7 @@ pub record IsAskedOfDeposit (t : Tables) (asked : DepositAsked) (text : List ℕ
 
 -- a bag is deposited unless a refusal stands: a new deposit is given a due day by the years of its class, and each
 -- hold over it was released on a day of the office or not at all
-pub record IsDepositedIn (t : Tables) (asked : DepositAsked) (text : List ℕ) (given : Answer) : Type 0 where
+pub record IsDepositedIn (t : Tables) (asked : AskedValues) (text : List ℕ) (given : Answer) : Type 0 where
   pub next : Result ℕ Refusal
   pub is_next : IsAskedOfDeposit t asked text next
   pub due : IfOk next (λ number. (due : Due) × IsDueIn t asked.class asked.closed due)

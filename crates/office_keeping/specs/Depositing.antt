@@ -1,6 +1,5 @@
 -- What is asked before a bag is kept; its deposit's row, with what is kept beside it; and its files, which are added one after another.
 use Rattle.std.specs.Prelude.{◌≡◌, ℕ, ◌+◌, ℤ, List, [], ◌∷◌, ◌++◌, length, Option, None, Some, Result, Ok, Err}
-use Rattle.jiff.specs.Types.{Date}
 use Rattle.bag_text.specs.TransferForm.{File}
 use Rattle.office_core.specs.FirstOf.{first_some}
 use Rattle.office_core.specs.declared.refusal.Refusal.{Refusal}
@@ -8,28 +7,29 @@ use Rattle.office_rows.specs.Rows.{Tables, DepositRow, with_deposit, with_due, w
 use Rattle.office_history.specs.Histories.{History, deposits}
 use Rattle.office_history.specs.Bags.{bag_of}
 use Rattle.office_history.specs.Refusals.{place_refusals, taken_refusal, closed_ahead_refusal}
+use Rattle.office_keeping.specs.ByRows.{AskedValues}
 use Rattle.office_keeping.specs.declared.depositing.NewBag.{NewBag}
 
 -- those of the place, of the accession and of the closing day
-abbrev pub refusals_before_the_bag : History → Date → List ℕ → List ℕ → List ℕ → List ℕ → Date → List (Option Refusal)
-refusals_before_the_bag h day caller collection class accession closed =
-    place_refusals h day caller collection class ++ taken_refusal h accession ∷ closed_ahead_refusal day closed ∷ []
+abbrev pub refusals_before_the_bag : History → AskedValues → List (Option Refusal)
+refusals_before_the_bag h asked =
+    place_refusals h asked.day asked.caller asked.collection asked.class ++ taken_refusal h asked.accession ∷ closed_ahead_refusal asked.day asked.closed ∷ []
 
 -- the bag of the text, which gets the next number, where none of these refusals stands
-pub record IsNext (h : History) (text : List ℕ) (these : List (Option Refusal)) (new : NewBag) : Type 0 where
+pub record IsNextBag (h : History) (text : List ℕ) (these : List (Option Refusal)) (new : NewBag) : Type 0 where
   pub bag : bag_of text ≡ Ok new.bag
   pub number : new.number ≡ length (deposits h) + 1
   pub free : first_some these ≡ None
 
 -- the bag, or the first of these refusals that stands
 abbrev pub IsAskedFor : History → List ℕ → List (Option Refusal) → Result NewBag Refusal → Type 0
-IsAskedFor h text these (Ok new) = IsNext h text these new
+IsAskedFor h text these (Ok new) = IsNextBag h text these new
 IsAskedFor h text these (Err why) = Some why ≡ first_some these
 
 -- the number of the bag that is to be kept, or the refusal
-abbrev pub number_of : Result NewBag Refusal → Result ℕ Refusal
-number_of (Ok new) = Ok new.number
-number_of (Err why) = Err why
+abbrev pub number_for : Result NewBag Refusal → Result ℕ Refusal
+number_for (Ok new) = Ok new.number
+number_for (Err why) = Err why
 
 -- the deposit is in its place by number; it falls due on that day or never, and so many live holds cover it
 abbrev pub with_kept : DepositRow → Option ℤ → ℤ → Tables → Tables

@@ -10,13 +10,14 @@ ghost use Rattle.office_history.specs.Refusals as refusals;
 ghost use Rattle.office_history.specs.Refusals.{place_refusals, bad_bag, closed_ahead_refusal, full_of_deposits};
 ghost use Rattle.office_asking.specs.Limits.{IsNumberAfter, IsRefusedOr};
 ghost use Rattle.office_asking.specs.Serving.{Finds, Decides};
-ghost use Rattle.office_keeping.specs.ByRows.{IsAskedOfDeposit, IsDepositedIn, IsNextDepositIn, IsPlaceRefusalIn, IsRefusalBeforeTheBag, IsTakenIn};
-ghost use Rattle.office_keeping.specs.Depositing.{IsAskedFor, number_of, refusals_before_the_bag};
+ghost use Rattle.office_keeping.specs.ByRows.{IsAskedOfDeposit, IsDepositedIn, IsNextDepositIn, IsPlaceRefusalIn, IsRefusalBeforeTheBag, IsTakenIn, values_of};
+ghost use Rattle.office_keeping.specs.Depositing.{IsAskedFor, number_for, refusals_before_the_bag};
 
+use crate::asked::DepositAsked;
 use crate::keeping::keep;
 use bag_text::BagSet;
 use office_asking::{denial, number_after};
-use office_core::{Accession, Action, Answer, Day, Name, Refusal, Subject};
+use office_core::{Accession, Action, Answer, Day, Refusal, Subject};
 use office_history::judging::valid_bag;
 use office_tables::{TableFault, by_accession, class_of, has_collection, last_deposit, limits};
 use sqlite::{Alter, Transaction};
@@ -26,18 +27,21 @@ use std::alloc::Global;
 /// the caller may not deposit there.
 fn place_refusal<S: Alter>(
     tx: &mut Transaction<'_, S>,
-    day: Day,
-    caller: &str,
-    collection: &str,
-    class: &str,
+    asked: &DepositAsked<'_>,
 ) -> Result<Option<Refusal>, TableFault>
     ensures inside { GoesOnInside S.Store tx.old.conn tx.new.conn result }
     ensures refusal { Finds S.Store tx.old.conn.now tx.new.conn.now result (λ h why.
-        why ≡ first_some (place_refusals h day caller.now collection.now class.now)) }
+        why
+        ≡ first_some
+        (place_refusals h asked.now.day asked.now.caller.now asked.now.collection.now
+        asked.now.class.now)) }
     ensures same { Keeps S.Store tx.old.conn.now tx.new.conn.now result }
     ensures rows { Tells S.Store tx.old.conn.now tx.new.conn.now result (λ tables why.
-        IsPlaceRefusalIn tables day caller.now collection.now class.now why) }
+        IsPlaceRefusalIn tables asked.now.day asked.now.caller.now asked.now.collection.now
+        asked.now.class.now why) }
 {
+    let collection = asked.collection.as_str();
+    let class = asked.class.as_str();
     if !has_collection(tx, collection)? {
         return Ok(Some(Refusal::NoSuch(Subject::Collection)));
     }
@@ -46,8 +50,8 @@ fn place_refusal<S: Alter>(
     }
     denial(
         tx,
-        day,
-        caller,
+        asked.day,
+        asked.caller,
         Action::Deposit,
         Some(collection),
         Some(class),
@@ -57,7 +61,7 @@ fn place_refusal<S: Alter>(
 /// The refusal where a deposit, kept or destroyed, has the accession.
 fn taken_refusal<S: Alter>(
     tx: &mut Transaction<'_, S>,
-    accession: &str,
+    accession: &Accession<'_>,
 ) -> Result<Option<Refusal>, TableFault>
     ensures inside { GoesOnInside S.Store tx.old.conn tx.new.conn result }
     ensures taken { Finds S.Store tx.old.conn.now tx.new.conn.now result (λ h why.
@@ -66,7 +70,7 @@ fn taken_refusal<S: Alter>(
     ensures rows { Tells S.Store tx.old.conn.now tx.new.conn.now result (λ tables why.
         IsTakenIn tables accession.now why) }
 {
-    match by_accession(tx, accession)? {
+    match by_accession(tx, accession.as_str())? {
         Some(deposit) => Ok(Some(Refusal::Taken(deposit.number))),
         None => Ok(None),
     }
@@ -85,36 +89,22 @@ fn closed_ahead(day: Day, closed: Day) -> Option<Refusal>
 /// The refusal that stands first before the bag is looked at, if one stands.
 fn refusal_before_the_bag<S: Alter>(
     tx: &mut Transaction<'_, S>,
-    day: Day,
-    caller: &str,
-    collection: &str,
-    class: &str,
-    accession: &str,
-    closed: Day,
+    asked: &DepositAsked<'_>,
 ) -> Result<Option<Refusal>, TableFault>
     ensures inside { GoesOnInside S.Store tx.old.conn tx.new.conn result }
     ensures refusal { Finds S.Store tx.old.conn.now tx.new.conn.now result (λ h why.
-        why
-        ≡ first_some
-        (refusals_before_the_bag h day caller.now collection.now class.now accession.now closed)) }
+        why ≡ first_some (refusals_before_the_bag h (values_of asked.now))) }
     ensures same { Keeps S.Store tx.old.conn.now tx.new.conn.now result }
     ensures rows { Tells S.Store tx.old.conn.now tx.new.conn.now result (λ tables why.
-        IsRefusalBeforeTheBag tables (record {
-          day = day;
-          caller = caller.now;
-          collection = collection.now;
-          class = class.now;
-          accession = accession.now;
-          closed = closed;
-        }) why) }
+        IsRefusalBeforeTheBag tables (values_of asked.now) why) }
 {
-    if let Some(why) = place_refusal(tx, day, caller, collection, class)? {
+    if let Some(why) = place_refusal(tx, asked)? {
         return Ok(Some(why));
     }
-    if let Some(why) = taken_refusal(tx, accession)? {
+    if let Some(why) = taken_refusal(tx, asked.accession)? {
         return Ok(Some(why));
     }
-    Ok(closed_ahead(day, closed))
+    Ok(closed_ahead(asked.day, asked.closed))
 }
 
 /// The number of the next deposit, where the office takes one more.
@@ -149,7 +139,7 @@ fn judged_bag<'a>(
         → IsNumberAfter (length (deposits h)) h.max_deposits number
         → IsAskedFor h text.entry.now (bad_bag text.entry.now ∷ full_of_deposits h ∷ []) asked) }
     ensures numbered { IfOk result (λ asked.
-        IsRefusedOr (bad_bag text.entry.now) (λ next. next ≡ number) (number_of asked)) }
+        IsRefusedOr (bad_bag text.entry.now) (λ next. next ≡ number) (number_for asked)) }
 {
     let bag = match valid_bag(alloc, text)? {
         Ok(bag) => bag,
@@ -173,7 +163,7 @@ fn numbered_bag<'a, S: Alter>(
         IsAskedFor h text.entry.now (bad_bag text.entry.now ∷ full_of_deposits h ∷ []) asked) }
     ensures same { Keeps S.Store tx.old.conn.now tx.new.conn.now result }
     ensures rows { Tells S.Store tx.old.conn.now tx.new.conn.now result (λ tables asked.
-        IsRefusedOr (bad_bag text.entry.now) (IsNextDepositIn tables) (number_of asked)) }
+        IsRefusedOr (bad_bag text.entry.now) (IsNextDepositIn tables) (number_for asked)) }
 {
     let number = next_number(tx)?;
     judged_bag(alloc, text, number)
@@ -183,33 +173,20 @@ fn numbered_bag<'a, S: Alter>(
 fn new_bag<'a, S: Alter>(
     alloc: Global,
     tx: &mut Transaction<'_, S>,
-    day: Day,
-    caller: &str,
-    collection: &str,
-    class: &str,
-    accession: &str,
-    closed: Day,
+    asked: &DepositAsked<'_>,
     text: &'a [u8],
 ) -> Result<Result<NewBag<'a>, Refusal>, TableFault>
     ensures inside { GoesOnInside S.Store tx.old.conn tx.new.conn result }
-    ensures asked { Finds S.Store tx.old.conn.now tx.new.conn.now result (λ h asked.
+    ensures asked { Finds S.Store tx.old.conn.now tx.new.conn.now result (λ h given.
         IsAskedFor h text.entry.now
-        (refusals.refusals h day caller.now
-        (requests.Deposit collection.now class.now accession.now closed text.entry)) asked) }
+        (refusals.refusals h asked.now.day asked.now.caller.now
+        (requests.Deposit asked.now.collection.now asked.now.class.now asked.now.accession.now
+        asked.now.closed text.entry)) given) }
     ensures same { Keeps S.Store tx.old.conn.now tx.new.conn.now result }
-    ensures rows { Tells S.Store tx.old.conn.now tx.new.conn.now result (λ tables asked.
-        IsAskedOfDeposit tables (record {
-          day = day;
-          caller = caller.now;
-          collection = collection.now;
-          class = class.now;
-          accession = accession.now;
-          closed = closed;
-        }) text.entry.now (number_of asked)) }
+    ensures rows { Tells S.Store tx.old.conn.now tx.new.conn.now result (λ tables given.
+        IsAskedOfDeposit tables (values_of asked.now) text.entry.now (number_for given)) }
 {
-    if let Some(why) = refusal_before_the_bag(
-        tx, day, caller, collection, class, accession, closed,
-    )? {
+    if let Some(why) = refusal_before_the_bag(tx, asked)? {
         return Ok(Err(why));
     }
     numbered_bag(alloc, tx, text)
@@ -223,39 +200,22 @@ fn new_bag<'a, S: Alter>(
 pub fn deposit<S: Alter>(
     alloc: Global,
     tx: &mut Transaction<'_, S>,
-    day: Day,
-    caller: &str,
-    collection: &Name<'_>,
-    class: &Name<'_>,
-    accession: &Accession<'_>,
-    closed: Day,
+    asked: &DepositAsked<'_>,
     bag: &[u8],
 ) -> Result<Answer, TableFault>
     ensures inside { GoesOnInside S.Store tx.old.conn tx.new.conn result }
-    ensures decides { Decides S.Store tx.old.conn.now tx.new.conn.now result day caller.now
-        (requests.Deposit collection.now class.now accession.now closed bag.entry) }
+    ensures decides { Decides S.Store tx.old.conn.now tx.new.conn.now result
+        asked.now.day asked.now.caller.now
+        (requests.Deposit asked.now.collection.now asked.now.class.now asked.now.accession.now
+        asked.now.closed bag.entry) }
     ensures rows { Tells S.Store tx.old.conn.now tx.new.conn.now result (λ tables given.
-        IsDepositedIn tables (record {
-          day = day;
-          caller = caller.now;
-          collection = collection.now;
-          class = class.now;
-          accession = accession.now;
-          closed = closed;
-        }) bag.entry.now given) }
+        IsDepositedIn tables (values_of asked.now) bag.entry.now given) }
 {
-    let collection = collection.as_str();
-    let class = class.as_str();
-    let accession = accession.as_str();
-    let new = match new_bag(
-        alloc, tx, day, caller, collection, class, accession, closed, bag,
-    )? {
+    let new = match new_bag(alloc, tx, asked, bag)? {
         Ok(new) => new,
         Err(why) => return Ok(Answer::Refused(why)),
     };
-    keep(
-        alloc, tx, day, new.number, collection, class, accession, closed, &new.bag,
-    )?;
+    keep(alloc, tx, asked, new.number, &new.bag)?;
     Ok(Answer::Deposited {
         deposit: new.number,
     })

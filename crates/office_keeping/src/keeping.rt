@@ -15,10 +15,10 @@ ghost use Rattle.office_asking.specs.ByRows.{AreReleasedOnDays, IsDueIn};
 ghost use Rattle.office_asking.specs.Serving.{Accepts, Finds};
 ghost use Rattle.office_keeping.specs.Depositing.{with_files, with_kept};
 
+use crate::asked::DepositAsked;
 use bag_check::count_payload;
 use bag_text::BagSet;
 use office_asking::{due_day, live_count};
-use office_core::Day;
 use office_tables::{NewDeposit, TableFault, put_deposit, put_file, set_due, set_holds};
 use sqlite::{Alter, Transaction};
 use std::alloc::Global;
@@ -80,27 +80,31 @@ struct Beside {
 fn beside_row<S: Alter>(
     alloc: Global,
     tx: &mut Transaction<'_, S>,
+    asked: &DepositAsked<'_>,
     number: u32,
-    collection: &str,
-    class: &str,
-    closed: Day,
 ) -> Result<Beside, TableFault>
     ensures inside { GoesOnInside S.Store tx.old.conn tx.new.conn result }
     ensures due { Finds S.Store tx.old.conn.now tx.new.conn.now result (λ h beside.
-        (deposit : Deposit) → deposit.class ≡ class.now → deposit.closed ≡ closed
+        (deposit : Deposit) → deposit.class ≡ asked.now.class.now
+        → deposit.closed ≡ asked.now.closed
         → beside.due ≡ due_number (due h deposit)) }
     ensures holds { Finds S.Store tx.old.conn.now tx.new.conn.now result (λ h beside.
-        (deposit : Deposit) → deposit.collection ≡ collection.now → deposit.class ≡ class.now
+        (deposit : Deposit) → deposit.collection ≡ asked.now.collection.now
+        → deposit.class ≡ asked.now.class.now
         → beside.holds ≡ pos (length (live_holds h number deposit))) }
     ensures rows { Tells S.Store tx.old.conn.now tx.new.conn.now result (λ tables beside.
-        (due : Due) × IsDueIn tables class.now closed due × (beside.due ≡ due_number due)) }
+        (due : Due) × IsDueIn tables asked.now.class.now asked.now.closed due
+        × (beside.due ≡ due_number due)) }
     ensures counted { Tells S.Store tx.old.conn.now tx.new.conn.now result (λ tables beside.
-        beside.holds
-        ≡ pos (length (rows.live_holds (pos number) collection.now class.now tables))) }
-    ensures released { Tells S.Store tx.old.conn.now tx.new.conn.now result (λ tables _.
-        AreReleasedOnDays tables number collection.now class.now) }
+        (beside.holds
+        ≡ pos
+        (length
+        (rows.live_holds (pos number) asked.now.collection.now asked.now.class.now tables)))
+        × AreReleasedOnDays tables number asked.now.collection.now asked.now.class.now) }
 {
-    let due = due_day(tx, class, closed)?;
+    let collection = asked.collection.as_str();
+    let class = asked.class.as_str();
+    let due = due_day(tx, class, asked.closed)?;
     let holds = live_count(alloc, tx, number, collection, class)?;
     Ok(Beside {
         due: due.number(),
@@ -131,39 +135,35 @@ fn put_row<S: Alter>(
 pub(crate) fn keep<S: Alter>(
     alloc: Global,
     tx: &mut Transaction<'_, S>,
-    day: Day,
+    asked: &DepositAsked<'_>,
     number: u32,
-    collection: &str,
-    class: &str,
-    accession: &str,
-    closed: Day,
     bag: &BagSet<'_>,
 ) -> Result<(), TableFault>
     ensures inside { GoesOnInside S.Store tx.old.conn tx.new.conn result }
     ensures kept { Accepts S.Store tx.old.conn.now tx.new.conn.now result (λ h.
         number ≡ length (deposits h) + 1)
-        (Deposited day
+        (Deposited asked.now.day
         (record {
-          collection = collection.now;
-          class = class.now;
-          accession = accession.now;
-          closed = closed;
+          collection = asked.now.collection.now;
+          class = asked.now.class.now;
+          accession = asked.now.accession.now;
+          closed = asked.now.closed;
           bag = bag.now;
         }) ∷ []) }
     ensures rows { Tells S.Store tx.old.conn.now tx.new.conn.now result (λ tables _.
-        (due : Due) × IsDueIn tables class.now closed due) }
+        (due : Due) × IsDueIn tables asked.now.class.now asked.now.closed due) }
     ensures released { Tells S.Store tx.old.conn.now tx.new.conn.now result (λ tables _.
-        AreReleasedOnDays tables number collection.now class.now) }
+        AreReleasedOnDays tables number asked.now.collection.now asked.now.class.now) }
 {
-    let beside = beside_row(alloc, tx, number, collection, class, closed)?;
+    let beside = beside_row(alloc, tx, asked, number)?;
     let payload = count_payload(bag);
     let new = NewDeposit {
         number,
-        accession,
-        collection,
-        class,
-        closed: closed.number() as i64,
-        deposited: day.number() as i64,
+        accession: asked.accession.as_str(),
+        collection: asked.collection.as_str(),
+        class: asked.class.as_str(),
+        closed: asked.closed.number() as i64,
+        deposited: asked.day.number() as i64,
         files: row_count(payload.files)?,
         bytes: row_count(payload.bytes)?,
     };

@@ -1,63 +1,40 @@
-use Rattle.std.proofs.Common.{◌≡◌, length, pos, option_map, unwrap_or, refl, rules}
-use Rattle.sqlite.specs.State.{HasCleanDisk}
-use Rattle.sqlite.specs.Held.{state}
-use Rattle.office_history.specs.Histories.{deposits}
-use Rattle.office_asking.proofs.LimitsTold.{limits_told, number_told}
+use Rattle.std.proofs.Common.{◌≡◌, pos, option_map, refl, rules}
 use Rattle.office_asking.proofs.Readings.{pictured_still}
-use Rattle.office_keeping.proofs.AccessionTold.{count_told}
+use Rattle.office_keeping.proofs.AccessionTold.{next_told}
 use Rattle.office_rows.specs.Rows.{DepositRow, last_number}
-use Rattle.office_asking.proofs.InTurn.{clean_before, goes_twice, same_twice}
-use Rattle.office_asking.proofs.RowsTold.{office_still, told_before}
-use Rattle.sql_meaning.proofs.Inside.{stays_then}
+use Rattle.office_keeping.proofs.Written.{tells_then}
+use Rattle.office_tables.proofs.InTurn.{clean_first, inside_after, inside_failed, same_then}
 use Rattle.office_keeping.proofs.depositing.next_number.Goals as goal
 
 pub returns-clause-next : goal.returns-clause-next
 returns-clause-next g c clean h legal pictured =
-    let old = state g.S.Store c.args.tx.now.conn.now in
-    let mid = state g.S.Store c.limits.new.tx.conn.now in
-    let new = state g.S.Store c.last_deposit.new.tx.conn.now in
-    let early : HasCleanDisk mid = clean_before mid new c.last_deposit.ensures.inside.stays clean in
-    let still = pictured_still h old.now pictured mid.now (c.in_ok-limits.ensures.same early pictured.office) in
-    let most = c.in_ok-limits.limits in
-    let limit = (limits_told h old.now pictured most.max_deposits most.max_holds (c.in_ok-limits.ensures.found early pictured.office)).0 in
-    let last = c.in_ok-last.last in
-    let count = count_told h mid.now still last (c.in_ok-last.ensures.found clean still.office) in (
-      pictured_still h mid.now still new.now (c.in_ok-last.ensures.same clean still.office),
-      number_told (unwrap_or last 0) most.max_deposits (length (deposits h)) h.max_deposits count limit c.number_after.result c.number_after.ensures,
+    let limits = c.in_ok-limits.ensures in
+    let last = c.in_ok-last.ensures in
+    let early = clean_first last.inside.stays clean in
+    let still = pictured_still pictured (limits.same early pictured.office) in (
+      pictured_still still (last.same clean still.office),
+      next_told pictured still c.in_ok-limits.limits.max_deposits c.in_ok-limits.limits.max_holds (limits.found early pictured.office) c.in_ok-last.last (last.found clean still.office) c.number_after.result c.number_after.ensures,
     )
 
 pub returns-clause-same : goal.returns-clause-same
-returns-clause-same g c = same_twice (state g.S.Store c.args.tx.now.conn.now) (state g.S.Store c.limits.new.tx.conn.now) (state g.S.Store c.last_deposit.new.tx.conn.now) c.last_deposit.ensures.inside.stays c.in_ok-limits.ensures.same c.in_ok-last.ensures.same
+returns-clause-same g c = same_then c.in_ok-limits.ensures.inside c.in_ok-last.ensures.inside c.in_ok-limits.ensures.same c.in_ok-last.ensures.same
 
 pub returns-clause-rows : goal.returns-clause-rows
 returns-clause-rows g c clean office =
-    let old = state g.S.Store c.args.tx.now.conn.now in
-    let mid = state g.S.Store c.limits.new.tx.conn.now in
-    let early : HasCleanDisk mid = clean_before mid (state g.S.Store c.last_deposit.new.tx.conn.now) c.last_deposit.ensures.inside.stays clean in
-    let same : mid.now ≡ old.now = c.in_ok-limits.ensures.same early office in
-    let last = told_before old.now mid.now same (λ t. option_map pos c.in_ok-last.last ≡ last_number (λ (d : DepositRow). d.number) t.deposits) (c.in_ok-last.ensures.found clean (office_still old.now mid.now same office)) in
+    let limits = c.in_ok-limits.ensures in
+    let last = c.in_ok-last.ensures in
     record {
       limits = record { max_deposits = pos c.in_ok-limits.limits.max_deposits; max_holds = pos c.in_ok-limits.limits.max_holds };
-      are = c.in_ok-limits.ensures.found early office;
+      are = limits.found (clean_first last.inside.stays clean) office;
       most = c.in_ok-limits.limits.max_deposits;
       is_most = refl;
       last = c.in_ok-last.last;
-      is_last = last;
+      is_last = tells_then limits.inside last.inside limits.same (λ t last. option_map pos last ≡ last_number (λ (d : DepositRow). d.number) t.deposits) last.found clean office;
       comes_to = c.number_after.ensures;
     }
 
 pub returns-in_err-last-clause-inside : goal.returns-in_err-last-clause-inside
-returns-in_err-last-clause-inside g c = record {
-  same_reference = search rules;
-  stays = stays_then (state g.S.Store c.args.tx.now.conn.now) (state g.S.Store c.limits.new.tx.conn.now) (state g.S.Store c.last_deposit.new.tx.conn.now) c.limits.ensures.inside.stays c.in_ok-limits.ensures.inside.goes_on c.last_deposit.ensures.inside.stays;
-  goes_on = search rules;
-  failure = search rules;
-}
+returns-in_err-last-clause-inside g c = inside_failed c.in_ok-limits.ensures.inside c.last_deposit.ensures.inside _ (search rules) (search rules)
 
 pub returns-clause-inside : goal.returns-clause-inside
-returns-clause-inside g c = record {
-  same_reference = search rules;
-  stays = stays_then (state g.S.Store c.args.tx.now.conn.now) (state g.S.Store c.limits.new.tx.conn.now) (state g.S.Store c.last_deposit.new.tx.conn.now) c.limits.ensures.inside.stays c.in_ok-limits.ensures.inside.goes_on c.last_deposit.ensures.inside.stays;
-  goes_on = goes_twice (state g.S.Store c.args.tx.now.conn.now) (state g.S.Store c.limits.new.tx.conn.now) (state g.S.Store c.last_deposit.new.tx.conn.now) c.last_deposit.ensures.inside.stays c.in_ok-limits.ensures.inside.goes_on c.in_ok-last.ensures.inside.goes_on;
-  failure = search rules;
-}
+returns-clause-inside g c = inside_after c.in_ok-limits.ensures.inside c.in_ok-last.ensures.inside _ (search rules)

@@ -3,7 +3,7 @@ use Rattle.sqlite.specs.Held.{state}
 use Rattle.office_history.specs.Refusals.{bad_bag}
 use Rattle.office_tables.specs.Tables.{tables_of}
 use Rattle.office_keeping.specs.ByRows.{IsNextDepositIn}
-use Rattle.office_keeping.specs.Depositing.{number_of}
+use Rattle.office_keeping.specs.Depositing.{number_for}
 use Rattle.office_keeping.proofs.RowsTold.{refused_or}
 use Rattle.office_keeping.proofs.depositing.numbered_bag.Goals as goal
 
@@ -21,4 +21,4 @@ pub returns-clause-rows : goal.returns-clause-rows
 returns-clause-rows g c clean office =
     let t = tables_of (state g.S.Store c.args.tx.now.conn.now).now in
     let next = c.in_ok-number.ensures.rows clean office in
-    IfOk-weaker c.judged_bag.result _ _ (λ asked is. refused_or (bad_bag c.args.text.now) (IsNextDepositIn t) c.in_ok-number.number (number_of asked) next is) c.judged_bag.ensures.numbered
+    IfOk-weaker c.judged_bag.result _ _ (λ asked is. refused_or (bad_bag c.args.text.now) (IsNextDepositIn t) c.in_ok-number.number (number_for asked) next is) c.judged_bag.ensures.numbered

@@ -1,5 +1,4 @@
 use Rattle.std.proofs.Common.{rules, ◌≡◌, pos, ap, refl, sym, subst, ◌∙◌, Some, None, option_map}
-use Rattle.sqlite.specs.State.{HasCleanDisk}
 use Rattle.sqlite.specs.Held.{state}
 use Rattle.office_core.specs.Verdicts.{verdict_of}
 use Rattle.office_core.specs.declared.action.Action.TheVariants as acts
@@ -13,32 +12,26 @@ use Rattle.office_core.specs.declared.refusal.Subject.TheVariants as subjects
 use Rattle.office_rows.specs.Rows.{deposit_numbered}
 use Rattle.office_tables.specs.Tables.{tables_of}
 use Rattle.office_asking.specs.ByRows.{AreFactsIn, IsAskerIn}
-use Rattle.office_asking.proofs.InTurn.{clean_before, goes_twice, stays_thrice}
 use Rattle.office_asking.proofs.RowsTold.{office_still, told_before}
 use Rattle.office_keeping.specs.ByRows.{IsDisposalRefusalOf, IsVerdictIn}
 use Rattle.office_keeping.proofs.RowsTold.{row_number}
-use Rattle.sql_meaning.proofs.Inside.{stays_then}
+use Rattle.office_tables.proofs.InTurn.{clean_first, inside_after, inside_failed, inside_then}
 use Rattle.office_keeping.proofs.disposing.disposal_refusal.Goals as goal
 
 pub returns-in_default-clause-refusal : goal.returns-in_default-clause-refusal
 returns-in_default-clause-refusal g c clean h legal pictured =
     let a = c.args in
-    let old = state g.S.Store a.tx.now.conn.now in
-    let new = state g.S.Store c.deposit_row.new.tx.conn.now in
-    let read = deposit_read h old.now pictured a.number c.in_ok-deposit.field-0 (c.in_ok-deposit.ensures.found clean pictured.office) in
+    let read = deposit_read pictured a.number c.in_ok-deposit.field-0 (c.in_ok-deposit.ensures.found clean pictured.office) in
     let none : None ≡ option_map (deposit_row h a.number) (histories.deposit_numbered h a.number) = search (rules, read) in
-    (pictured_still h old.now pictured new.now (c.in_ok-deposit.ensures.same clean pictured.office), none_there h a.number (disposal_refusals h a.day a.caller.now a.number) none)
+    (pictured_still pictured (c.in_ok-deposit.ensures.same clean pictured.office), none_there h a.number (disposal_refusals h a.day a.caller.now a.number) none)
 
 pub returns-clause-refusal : goal.returns-clause-refusal
 returns-clause-refusal g c clean h legal pictured =
     let a = c.args in
-    let old = state g.S.Store a.tx.now.conn.now in
-    let s1 = state g.S.Store c.deposit_row.new.tx.conn.now in
-    let s2 = state g.S.Store c.read.new.tx.conn.now in
-    let clean2 : HasCleanDisk s2 = clean_before s2 (state g.S.Store c.disposal_facts.new.tx.conn.now) c.disposal_facts.ensures.inside.stays clean in
-    let clean1 : HasCleanDisk s1 = clean_before s1 s2 c.read.ensures.inside.stays clean2 in
-    let read = deposit_read h old.now pictured a.number c.in_ok-deposit.field-0 (c.in_ok-deposit.ensures.found clean1 pictured.office) in
-    let still = pictured_still h old.now pictured s1.now (c.in_ok-deposit.ensures.same clean1 pictured.office) in
+    let clean2 = clean_first c.disposal_facts.ensures.inside.stays clean in
+    let clean1 = clean_first c.read.ensures.inside.stays clean2 in
+    let read = deposit_read pictured a.number c.in_ok-deposit.field-0 (c.in_ok-deposit.ensures.found clean1 pictured.office) in
+    let still = pictured_still pictured (c.in_ok-deposit.ensures.same clean1 pictured.office) in
     let row = c.in-Some.deposit in
     let some : Some row ≡ option_map (deposit_row h a.number) (histories.deposit_numbered h a.number) = sym c.in-Some.is ∙ read in
     let found = there h a.day a.caller.now acts.Dispose a.number row some in
@@ -59,53 +52,24 @@ pub returns-clause-rows : goal.returns-clause-rows
 returns-clause-rows g c clean office =
     let a = c.args in
     let old = state g.S.Store a.tx.now.conn.now in
-    let s1 = state g.S.Store c.deposit_row.new.tx.conn.now in
-    let s2 = state g.S.Store c.read.new.tx.conn.now in
-    let clean2 : HasCleanDisk s2 = clean_before s2 (state g.S.Store c.disposal_facts.new.tx.conn.now) c.disposal_facts.ensures.inside.stays clean in
-    let clean1 : HasCleanDisk s1 = clean_before s1 s2 c.read.ensures.inside.stays clean2 in
-    let same1 : s1.now ≡ old.now = c.in_ok-deposit.ensures.same clean1 office in
-    let office1 = office_still old.now s1.now same1 office in
-    let same2 : s2.now ≡ s1.now = c.in_ok-asker.ensures.same clean2 office1 in
+    let clean2 = clean_first c.disposal_facts.ensures.inside.stays clean in
+    let clean1 = clean_first c.read.ensures.inside.stays clean2 in
+    let same1 = c.in_ok-deposit.ensures.same clean1 office in
+    let office1 = office_still same1 office in
+    let same2 = c.in_ok-asker.ensures.same clean2 office1 in
     let row = c.in-Some.deposit in
     let found : Some row ≡ deposit_numbered (pos a.number) (tables_of old.now).deposits = sym c.in-Some.is ∙ c.in_ok-deposit.ensures.found clean1 office in
     let asker = subst (λ db. IsAskerIn (tables_of db) a.day a.caller.now c.in_ok-asker.asker) (sym same2) (c.in_ok-asker.ensures.rows clean2 office1) in
-    let facts = c.in_ok-facts.ensures.rows clean (office_still s1.now s2.now same2 office1) a.day a.caller.now asker a.number (row_number (tables_of old.now) a.number row found) in
+    let facts = c.in_ok-facts.ensures.rows clean (office_still same2 office1) a.day a.caller.now asker a.number (row_number (tables_of old.now) a.number row found) in
     let told : c.refusal_of.result ≡ refusal_of (verdict_of c.in_ok-facts.facts a.day) = search rules in
-    let verdict : IsVerdictIn (tables_of old.now) a.day a.caller.now a.number row c.refusal_of.result = record { facts = c.in_ok-facts.facts; are = told_before old.now s2.now (same2 ∙ same1) (λ t. AreFactsIn t a.day a.caller.now a.number row c.in_ok-facts.facts) facts; comes_to = told } in
+    let verdict : IsVerdictIn (tables_of old.now) a.day a.caller.now a.number row c.refusal_of.result = record { facts = c.in_ok-facts.facts; are = told_before (same2 ∙ same1) (λ t. AreFactsIn t a.day a.caller.now a.number row c.in_ok-facts.facts) facts; comes_to = told } in
     subst (λ o. IsDisposalRefusalOf (tables_of old.now) a.day a.caller.now a.number o c.refusal_of.result) found verdict
 
 pub returns-in_err-asker-clause-inside : goal.returns-in_err-asker-clause-inside
-returns-in_err-asker-clause-inside g c = record {
-  same_reference = search rules;
-  stays = stays_then (state g.S.Store c.args.tx.now.conn.now) (state g.S.Store c.deposit_row.new.tx.conn.now) (state g.S.Store c.read.new.tx.conn.now) c.deposit_row.ensures.inside.stays c.in_ok-deposit.ensures.inside.goes_on c.read.ensures.inside.stays;
-  goes_on = search rules;
-  failure = search rules;
-}
+returns-in_err-asker-clause-inside g c = inside_failed c.in_ok-deposit.ensures.inside c.read.ensures.inside _ (search rules) (search rules)
 
 pub returns-in_err-facts-clause-inside : goal.returns-in_err-facts-clause-inside
-returns-in_err-facts-clause-inside g c = record {
-  same_reference = search rules;
-  stays = (
-      let s0 = state g.S.Store c.args.tx.now.conn.now in
-      let s1 = state g.S.Store c.deposit_row.new.tx.conn.now in
-      let s2 = state g.S.Store c.read.new.tx.conn.now in
-      stays_thrice s0 s1 s2 (state g.S.Store c.disposal_facts.new.tx.conn.now) c.deposit_row.ensures.inside.stays c.in_ok-deposit.ensures.inside.goes_on c.read.ensures.inside.stays c.in_ok-asker.ensures.inside.goes_on c.disposal_facts.ensures.inside.stays);
-  goes_on = search rules;
-  failure = search rules;
-}
+returns-in_err-facts-clause-inside g c = inside_failed (inside_then c.in_ok-deposit.ensures.inside c.in_ok-asker.ensures.inside) c.disposal_facts.ensures.inside _ (search rules) (search rules)
 
 pub returns-clause-inside : goal.returns-clause-inside
-returns-clause-inside g c = record {
-  same_reference = search rules;
-  stays = (
-      let s0 = state g.S.Store c.args.tx.now.conn.now in
-      let s1 = state g.S.Store c.deposit_row.new.tx.conn.now in
-      let s2 = state g.S.Store c.read.new.tx.conn.now in
-      stays_thrice s0 s1 s2 (state g.S.Store c.disposal_facts.new.tx.conn.now) c.deposit_row.ensures.inside.stays c.in_ok-deposit.ensures.inside.goes_on c.read.ensures.inside.stays c.in_ok-asker.ensures.inside.goes_on c.disposal_facts.ensures.inside.stays);
-  goes_on = (
-      let s0 = state g.S.Store c.args.tx.now.conn.now in
-      let s1 = state g.S.Store c.deposit_row.new.tx.conn.now in
-      let s2 = state g.S.Store c.read.new.tx.conn.now in
-      goes_twice s0 s2 (state g.S.Store c.disposal_facts.new.tx.conn.now) c.disposal_facts.ensures.inside.stays (goes_twice s0 s1 s2 c.read.ensures.inside.stays c.in_ok-deposit.ensures.inside.goes_on c.in_ok-asker.ensures.inside.goes_on) c.in_ok-facts.ensures.inside.goes_on);
-  failure = search rules;
-}
+returns-clause-inside g c = inside_after (inside_then c.in_ok-deposit.ensures.inside c.in_ok-asker.ensures.inside) c.in_ok-facts.ensures.inside _ (search rules)

@@ -1,5 +1,4 @@
 use Rattle.std.proofs.Common.{rules, ◌≡◌, refl, sym, subst, ◌∙◌, Some, None}
-use Rattle.sqlite.specs.State.{HasCleanDisk}
 use Rattle.sqlite.specs.Held.{state}
 use Rattle.office_core.specs.declared.answer.Answer.TheVariants as answers
 use Rattle.office_core.specs.declared.request.Request.TheVariants as requests
@@ -7,9 +6,8 @@ use Rattle.office_history.specs.Refusals.{refusal}
 use Rattle.office_history.proofs.Accepted.{disposable}
 use Rattle.office_asking.proofs.Serving.{refused_serves, allowed_serves}
 use Rattle.office_tables.specs.Tables.{tables_of}
-use Rattle.office_asking.proofs.InTurn.{clean_before, goes_twice}
 use Rattle.office_keeping.specs.ByRows.{IsDisposalRefusalIn}
-use Rattle.sql_meaning.proofs.Inside.{stays_then}
+use Rattle.office_tables.proofs.InTurn.{clean_first, inside_after, inside_failed}
 use Rattle.office_keeping.proofs.disposing.dispose.Goals as goal
 
 pub returns-in-Some-clause-decides : goal.returns-in-Some-clause-decides
@@ -22,9 +20,8 @@ returns-in-Some-clause-decides g c clean h legal pictured =
 pub returns-clause-decides : goal.returns-clause-decides
 returns-clause-decides g c clean h legal pictured =
     let a = c.args in
-    let mid = state g.S.Store c.disposal_refusal.new.tx.conn.now in
     let new = state g.S.Store c.destroy.new.tx.conn.now in
-    let early : HasCleanDisk mid = clean_before mid new c.destroy.ensures.inside.stays clean in
+    let early = clean_first c.destroy.ensures.inside.stays clean in
     let asked = c.in_ok-why.ensures.refusal early h legal pictured in
     let none : None ≡ refusal h a.day a.caller.now (requests.Dispose a.number) = search (rules, asked.1) in
     let kept = (disposable h a.day a.caller.now a.number (sym none)).kept in
@@ -40,23 +37,12 @@ pub returns-clause-rows : goal.returns-clause-rows
 returns-clause-rows g c clean office =
     let a = c.args in
     let t = tables_of (state g.S.Store a.tx.now.conn.now).now in
-    let mid = state g.S.Store c.disposal_refusal.new.tx.conn.now in
-    let early : HasCleanDisk mid = clean_before mid (state g.S.Store c.destroy.new.tx.conn.now) c.destroy.ensures.inside.stays clean in
+    let early = clean_first c.destroy.ensures.inside.stays clean in
     let none : c.in_ok-why.field-0 ≡ None = search rules in
     record { refused = None; refusal = subst (IsDisposalRefusalIn t a.day a.caller.now a.number) none (c.in_ok-why.ensures.rows early office); answer = refl }
 
 pub returns-in_err-destroy-clause-inside : goal.returns-in_err-destroy-clause-inside
-returns-in_err-destroy-clause-inside g c = record {
-  same_reference = search rules;
-  stays = stays_then (state g.S.Store c.args.tx.now.conn.now) (state g.S.Store c.disposal_refusal.new.tx.conn.now) (state g.S.Store c.destroy.new.tx.conn.now) c.disposal_refusal.ensures.inside.stays c.in_ok-why.ensures.inside.goes_on c.destroy.ensures.inside.stays;
-  goes_on = search rules;
-  failure = search rules;
-}
+returns-in_err-destroy-clause-inside g c = inside_failed c.in_ok-why.ensures.inside c.destroy.ensures.inside _ (search rules) (search rules)
 
 pub returns-clause-inside : goal.returns-clause-inside
-returns-clause-inside g c = record {
-  same_reference = search rules;
-  stays = stays_then (state g.S.Store c.args.tx.now.conn.now) (state g.S.Store c.disposal_refusal.new.tx.conn.now) (state g.S.Store c.destroy.new.tx.conn.now) c.disposal_refusal.ensures.inside.stays c.in_ok-why.ensures.inside.goes_on c.destroy.ensures.inside.stays;
-  goes_on = goes_twice (state g.S.Store c.args.tx.now.conn.now) (state g.S.Store c.disposal_refusal.new.tx.conn.now) (state g.S.Store c.destroy.new.tx.conn.now) c.destroy.ensures.inside.stays c.in_ok-why.ensures.inside.goes_on c.in_ok-destroy.ensures.inside.goes_on;
-  failure = search rules;
-}
+returns-clause-inside g c = inside_after c.in_ok-why.ensures.inside c.in_ok-destroy.ensures.inside _ (search rules)
