@@ -22,13 +22,13 @@ use Rattle.desk_answers.specs.Refusals.{refusal_status}
 use Rattle.desk_answers.specs.Bodies.{status_of, content_of}
 use Rattle.desk_answers.specs.DeskRefusals.{desk_status, desk_data, methods_text, allow_fields, lines_text}
 use Rattle.desk_answers.specs.Answers.{answer_text, refusal_text}
-use Rattle.desk_answers.specs.Messages.{IsResponse, named_value, fields_of, values_of, IsInAlphabet}
+use Rattle.desk_answers.specs.Messages.{IsResponse, named_value, response_fields, values_of, IsInAlphabet}
 use Rattle.desk_answers.proofs.Values.{IsValue, is_value}
 use Rattle.desk_answers.proofs.Readings.{line, is_line, reading}
 
 -- ---- responses
 
-pub answer_reading : (answer : Answer) → length (body_of (content_of answer)) < 2 ^ 64 → IsResponse (answer_text answer) (status_of answer) (fields_of [] (content_of answer)) (body_of (content_of answer))
+pub answer_reading : (answer : Answer) → length (body_of (content_of answer)) < 2 ^ 64 → IsResponse (answer_text answer) (status_of answer) (response_fields [] (content_of answer)) (body_of (content_of answer))
 answer_reading answer small = reading (status_of answer) [] (content_of answer) (All-nil IsField) small
 
 -- ---- the field `Allow`
@@ -68,7 +68,7 @@ record AreRead (fields : List (List ℕ × List ℕ)) : Type 0 where
   lines : All IsField (map line_of fields)
   printed : flat_map print_field (map line_of fields) ≡ lines_text fields
   named : map named_value (map line_of fields) ≡ fields
-  one_length : (content : Content) → values_of (codes "content-length") (fields_of fields content) ≡ decimal (length (body_of content)) ∷ []
+  one_length : (content : Content) → values_of (codes "content-length") (response_fields fields content) ≡ decimal (length (body_of content)) ∷ []
 
 none_are_read : AreRead []
 none_are_read = record { lines = All-nil IsField; printed = refl; named = refl; one_length = λ content. refl }
@@ -111,14 +111,14 @@ is_answered desks.NoRoute = without_allow desks.NoRoute refl (lit< tt) (lit≤ t
 is_answered desks.BadQuery = without_allow desks.BadQuery refl (lit< tt) (lit≤ tt) (λ e. omega arith)
 is_answered desks.BadBody = without_allow desks.BadBody refl (lit< tt) (lit≤ tt) (λ e. omega arith)
 
-pub refusal_reading : (refusal : DeskRefusal) → IsResponse (refusal_text refusal) (desk_status refusal) (fields_of (allow_fields refusal) (json (desk_data refusal))) (body_of (json (desk_data refusal)))
+pub refusal_reading : (refusal : DeskRefusal) → IsResponse (refusal_text refusal) (desk_status refusal) (response_fields (allow_fields refusal) (json (desk_data refusal))) (body_of (json (desk_data refusal)))
 refusal_reading refusal =
     let status = desk_status refusal in
     let content = json (desk_data refusal) in
     let lines = map line_of (allow_fields refusal) in
     let answered = is_answered refusal in
-    subst (λ fields. IsResponse (refusal_text refusal) status (fields_of fields content) (body_of content)) answered.read.named
-    (subst (λ allow. IsResponse (response_text status allow content) status (fields_of (map named_value lines) content) (body_of content)) answered.read.printed
+    subst (λ fields. IsResponse (refusal_text refusal) status (response_fields fields content) (body_of content)) answered.read.named
+    (subst (λ allow. IsResponse (response_text status allow content) status (response_fields (map named_value lines) content) (body_of content)) answered.read.printed
     (reading status lines content answered.read.lines answered.small))
 
 pub desk_code : (refusal : DeskRefusal) → 400 ≤ code_of (desk_status refusal)
@@ -138,12 +138,12 @@ lengths_read text values body first head rest reads are one reads' =
 pub answer_length : (answer : Answer) → length (body_of (content_of answer)) < 2 ^ 64 → (head : ResponseHead) (rest : List ℕ) → ReadsResponse (answer_text answer) head rest → values_of (codes "content-length") (map named_value head.fields) ≡ decimal (length rest) ∷ []
 answer_length answer small head rest reads =
     let read_so = answer_reading answer small in
-    lengths_read (answer_text answer) (fields_of [] (content_of answer)) (body_of (content_of answer)) read_so.head head rest read_so.reads read_so.fields_are refl reads
+    lengths_read (answer_text answer) (response_fields [] (content_of answer)) (body_of (content_of answer)) read_so.head head rest read_so.reads read_so.fields_are refl reads
 
 pub refusal_length : (refusal : DeskRefusal) (head : ResponseHead) (rest : List ℕ) → ReadsResponse (refusal_text refusal) head rest → values_of (codes "content-length") (map named_value head.fields) ≡ decimal (length rest) ∷ []
 refusal_length refusal head rest reads =
     let read_so = refusal_reading refusal in
-    lengths_read (refusal_text refusal) (fields_of (allow_fields refusal) (json (desk_data refusal))) (body_of (json (desk_data refusal))) read_so.head head rest read_so.reads read_so.fields_are ((is_answered refusal).read.one_length (json (desk_data refusal))) reads
+    lengths_read (refusal_text refusal) (response_fields (allow_fields refusal) (json (desk_data refusal))) (body_of (json (desk_data refusal))) read_so.head head rest read_so.reads read_so.fields_are ((is_answered refusal).read.one_length (json (desk_data refusal))) reads
 
 -- ---- statuses of the office
 

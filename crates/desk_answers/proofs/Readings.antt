@@ -9,9 +9,9 @@ use Rattle.std.proofs.lemmas.List.Elements.{All-nil, All-cons, All-append}
 use Rattle.std.proofs.lemmas.List.Sums.{AllPass-from_list_all}
 use Rattle.httparse.specs.Ascii.{crlf_bytes}
 use Rattle.httparse.specs.Grammar.{AllPass, is_token_byte, is_value_byte, IsToken, Field, IsField, crlf, print_field, ResponseHead, print_response}
-use Rattle.desk_answers.specs.Statuses.{code_of, reason_of}
+use Rattle.desk_answers.specs.Statuses.{code_of, phrase_of}
 use Rattle.desk_answers.specs.Responses.{Content, media_text, media_type_of, body_of, response_text}
-use Rattle.desk_answers.specs.Messages.{named_value, IsResponse, fields_of}
+use Rattle.desk_answers.specs.Messages.{named_value, IsResponse, response_fields}
 use Rattle.desk_answers.specs.declared.head.MediaType.{MediaType}
 use Rattle.desk_answers.specs.declared.head.MediaType.TheVariants.{Json, OctetStream}
 use Rattle.desk_answers.specs.declared.status.Status.{Status}
@@ -33,7 +33,7 @@ head_of status extra content = record {
   blank = [];
   minor = 1;
   digits = decimal (code_of status);
-  reason = Some (reason_of status);
+  reason = Some (phrase_of status);
   line_end = crlf;
   fields = lines_of extra content;
   last = crlf;
@@ -53,8 +53,8 @@ printed status extra content =
     let close = line (codes "Connection") (codes "close") in
     let kind = media_text (media_type_of content) in
     let len = decimal (length (body_of content)) in
-    regrouped (codes "HTTP/1.1 ") (decimal (code_of status)) (codes " " ++ reason_of status) crlf_bytes (codes "Content-Type: ") kind (codes "Content-Length: ") len (flat_map print_field extra) (codes "Connection: close\r\n") (body_of content)
-    ∙ ap (λ t. (codes "HTTP/1.1" ++ (32 ∷ decimal (code_of status)) ++ (32 ∷ reason_of status) ++ crlf_bytes ++ (print_field (line (codes "Content-Type") kind) ++ (print_field (line (codes "Content-Length") len) ++ t) ++ crlf_bytes)) ++ body_of content) (sym (last_printed extra close))
+    regrouped (codes "HTTP/1.1 ") (decimal (code_of status)) (codes " " ++ phrase_of status) crlf_bytes (codes "Content-Type: ") kind (codes "Content-Length: ") len (flat_map print_field extra) (codes "Connection: close\r\n") (body_of content)
+    ∙ ap (λ t. (codes "HTTP/1.1" ++ (32 ∷ decimal (code_of status)) ++ (32 ∷ phrase_of status) ++ crlf_bytes ++ (print_field (line (codes "Content-Type") kind) ++ (print_field (line (codes "Content-Length") len) ++ t) ++ crlf_bytes)) ++ body_of content) (sym (last_printed extra close))
 
 -- ---- the status line
 
@@ -62,10 +62,10 @@ printed status extra content =
 record IsStatus (status : Status) : Type 0 where
   small : code_of status < 2 ^ 64
   three_digits : length (decimal (code_of status)) ≡ 3
-  reason : AllPass is_value_byte (reason_of status)
+  reason : AllPass is_value_byte (phrase_of status)
 
-is_status : (status : Status) → code_of status < 2 ^ 64 → length (decimal (code_of status)) ≡ 3 → list_all is_value_byte (reason_of status) ≡ true → IsStatus status
-is_status status small three_digits reason = record { small = small; three_digits = three_digits; reason = AllPass-from_list_all is_value_byte (reason_of status) reason }
+is_status : (status : Status) → code_of status < 2 ^ 64 → length (decimal (code_of status)) ≡ 3 → list_all is_value_byte (phrase_of status) ≡ true → IsStatus status
+is_status status small three_digits reason = record { small = small; three_digits = three_digits; reason = AllPass-from_list_all is_value_byte (phrase_of status) reason }
 
 each_status : (status : Status) → IsStatus status
 unfolding digits
@@ -117,11 +117,11 @@ are_lines extra content are small =
     let more = All-cons IsField len (extra ++ close ∷ []) (is_line (codes "Content-Length") number token_length (decimal_is_value (length (body_of content)) small)) behind in
     All-cons IsField kind (len ∷ (extra ++ close ∷ [])) (is_line (codes "Content-Type") media token_type (media_is_value (media_type_of content))) more
 
-named_lines : (extra : List Field) (content : Content) → length (body_of content) < 2 ^ 64 → map named_value (lines_of extra content) ≡ fields_of (map named_value extra) content
+named_lines : (extra : List Field) (content : Content) → length (body_of content) < 2 ^ 64 → map named_value (lines_of extra content) ≡ response_fields (map named_value extra) content
 named_lines extra content small =
     rw ((media_is_value (media_type_of content)).read, (decimal_is_value (length (body_of content)) small).read, map-append named_value extra (line (codes "Connection") (codes "close") ∷ []), close_is_value.read)
 
-pub reading : (status : Status) (extra : List Field) (content : Content) → All IsField extra → length (body_of content) < 2 ^ 64 → IsResponse (response_text status (flat_map print_field extra) content) status (fields_of (map named_value extra) content) (body_of content)
+pub reading : (status : Status) (extra : List Field) (content : Content) → All IsField extra → length (body_of content) < 2 ^ 64 → IsResponse (response_text status (flat_map print_field extra) content) status (response_fields (map named_value extra) content) (body_of content)
 reading status extra content are small = let is = each_status status in record {
   head = head_of status extra content;
   reads = (

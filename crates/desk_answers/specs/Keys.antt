@@ -6,9 +6,9 @@ use Rattle.serde_json.specs.Data.{Data, null, boolean, number, string, array, ob
 use Rattle.desk_answers.specs.Responses.{Content, json, octets}
 
 -- the key comes before the first of the members, as in a dictionary, or there is none
-abbrev pub comes_before : List ℕ → Members → Bool
-comes_before key no_members = true
-comes_before key (member next value ms) = is_lt (slice_cmp nat_cmp key next)
+abbrev pub key_comes_before : List ℕ → Members → Bool
+key_comes_before key no_members = true
+key_comes_before key (member next value ms) = is_lt (slice_cmp nat_cmp key next)
 
 -- the keys of each object in the value ascend, so no key stands twice
 abbrev mutual
@@ -26,7 +26,7 @@ abbrev mutual
 
   pub members_have_ascending_keys : Members → Bool
   members_have_ascending_keys no_members = true
-  members_have_ascending_keys (member key value ms) = comes_before key ms && has_ascending_keys value && members_have_ascending_keys ms
+  members_have_ascending_keys (member key value ms) = key_comes_before key ms && has_ascending_keys value && members_have_ascending_keys ms
 
 abbrev pub content_has_ascending_keys : Content → Bool
 content_has_ascending_keys (json value) = has_ascending_keys value

@@ -5,7 +5,7 @@ use Rattle.std.specs.Ordering.{nat_cmp}
 use Rattle.std.specs.declared.cmp.Ordering.TheVariants.{Less}
 use Rattle.std.specs.Cmp.Lexicographic.{slice_cmp}
 use Rattle.httparse.specs.Grammar.{Field, field_value, ResponseHead, ReadsResponse, status_code, reason_phrase}
-use Rattle.desk_answers.specs.Statuses.{code_of, reason_of}
+use Rattle.desk_answers.specs.Statuses.{code_of, phrase_of}
 use Rattle.desk_answers.specs.Responses.{Content, media_text, media_type_of, body_of}
 use Rattle.desk_answers.specs.declared.status.Status.{Status}
 
@@ -19,12 +19,12 @@ pub record IsResponse (text : List ℕ) (status : Status) (fields : List (List �
   pub reads : ReadsResponse text head body
   pub version : head.minor ≡ 1
   pub code : status_code head ≡ code_of status
-  pub reason : reason_phrase head.reason ≡ reason_of status
+  pub reason : reason_phrase head.reason ≡ phrase_of status
   pub fields_are : map named_value head.fields ≡ fields
 
 -- the fields of a response. `allow` is the field of that name, or nothing.
-abbrev pub fields_of : List (List ℕ × List ℕ) → Content → List (List ℕ × List ℕ)
-fields_of allow content =
+abbrev pub response_fields : List (List ℕ × List ℕ) → Content → List (List ℕ × List ℕ)
+response_fields allow content =
     (codes "Content-Type", media_text (media_type_of content))
     ∷ (codes "Content-Length", decimal (length (body_of content)))
     ∷ (allow ++ (codes "Connection", codes "close") ∷ [])

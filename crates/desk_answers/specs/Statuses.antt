@@ -16,19 +16,19 @@ code_of ContentTooLarge = 413
 code_of UnprocessableContent = 422
 code_of ServiceUnavailable = 503
 
-abbrev pub reason_of : Status → List ℕ
-reason_of Success = codes "OK"
-reason_of Created = codes "Created"
-reason_of BadRequest = codes "Bad Request"
-reason_of Forbidden = codes "Forbidden"
-reason_of NotFound = codes "Not Found"
-reason_of MethodNotAllowed = codes "Method Not Allowed"
-reason_of Conflict = codes "Conflict"
-reason_of Gone = codes "Gone"
-reason_of ContentTooLarge = codes "Content Too Large"
-reason_of UnprocessableContent = codes "Unprocessable Content"
-reason_of ServiceUnavailable = codes "Service Unavailable"
+abbrev pub phrase_of : Status → List ℕ
+phrase_of Success = codes "OK"
+phrase_of Created = codes "Created"
+phrase_of BadRequest = codes "Bad Request"
+phrase_of Forbidden = codes "Forbidden"
+phrase_of NotFound = codes "Not Found"
+phrase_of MethodNotAllowed = codes "Method Not Allowed"
+phrase_of Conflict = codes "Conflict"
+phrase_of Gone = codes "Gone"
+phrase_of ContentTooLarge = codes "Content Too Large"
+phrase_of UnprocessableContent = codes "Unprocessable Content"
+phrase_of ServiceUnavailable = codes "Service Unavailable"
 
 -- the code and the phrase, as a status line has them
 abbrev pub status_text : Status → List ℕ
-status_text status = decimal (code_of status) ++ (codes " " ++ reason_of status)
+status_text status = decimal (code_of status) ++ (codes " " ++ phrase_of status)

@@ -15,17 +15,17 @@ ghost use Rattle.desk_answers.specs.Bodies.{status_of, content_of};
 ghost use Rattle.desk_answers.specs.DeskRefusals.{desk_status, desk_data, methods_text, allow_fields};
 ghost use Rattle.desk_answers.specs.Answers.{answer_text, refusal_text};
 ghost use Rattle.desk_answers.specs.Keys.{has_ascending_keys, content_has_ascending_keys};
-ghost use Rattle.desk_answers.specs.Messages.{IsResponse, named_value, fields_of, values_of, IsInAlphabet};
+ghost use Rattle.desk_answers.specs.Messages.{IsResponse, named_value, response_fields, values_of, IsInAlphabet};
 
 /// The bytes of each answer, and of each refusal of the desk, are a response of HTTP/1.1 as its
 /// grammar reads them: the status, the fields `Content-Type`, `Content-Length`, `Allow` where the
 /// method was wrong, and `Connection`, an empty line, and the body.
 pub fn responses()
     ensures answers { (answer : Answer) → length (body_of (content_of answer)) < 2 ^ 64
-        → IsResponse (answer_text answer) (status_of answer) (fields_of [] (content_of answer))
+        → IsResponse (answer_text answer) (status_of answer) (response_fields [] (content_of answer))
         (body_of (content_of answer)) }
     ensures refusals { (refusal : DeskRefusal) → IsResponse (refusal_text refusal)
-        (desk_status refusal) (fields_of (allow_fields refusal) (json (desk_data refusal)))
+        (desk_status refusal) (response_fields (allow_fields refusal) (json (desk_data refusal)))
         (body_of (json (desk_data refusal))) }
 {}
 

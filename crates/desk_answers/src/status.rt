@@ -1,7 +1,7 @@
 //! The statuses of answers.
 
 ghost use Rattle.std.specs.Prelude.{◌≡◌, Some};
-ghost use Rattle.desk_answers.specs.Statuses.{code_of, reason_of, status_text};
+ghost use Rattle.desk_answers.specs.Statuses.{code_of, phrase_of, status_text};
 
 use std::fmt;
 
@@ -43,7 +43,7 @@ impl Status {
 
     /// The phrase after the number.
     fn reason(self) -> &'static str
-        ensures { result.now ≡ reason_of self }
+        ensures { result.now ≡ phrase_of self }
     {
         match self {
             Status::Success => "OK",

@@ -1,3 +1,1 @@
 pub mod Devices
-pub mod Heads
-pub mod HeadReading

@@ -6,7 +6,7 @@ use Rattle.office_core.specs.Days.{day_text}
 use Rattle.office_core.specs.Names.{IsName, IsAccession}
 use Rattle.desk_forms.specs.declared.query.Listing.{Listing}
 use Rattle.desk_forms.specs.declared.query.DepositQuery.{DepositQuery}
-use Rattle.desk_forms.specs.Queries.{values_of, count_of, StandsOnce, GivesName, AsksListing, DescribesDeposit, HaveForm, IsDayText, IsListing, IsDepositQuery}
+use Rattle.desk_forms.specs.Queries.{values_under, count_of, StandsOnce, GivesName, AsksListing, DescribesDeposit, HaveForm, IsDayText, IsListing, IsDepositQuery}
 use Rattle.desk_forms.proofs.CountLemmas.{Pair, none_contained, first_contained, contained, same_pair, length-values_of, pair_of_value, value_of_pair, once_by_count, nowhere_by_count}
 
 some_one : (xs : List (List ℕ)) → length xs ≡ 1 → (v : List ℕ) × (xs ≡ v ∷ [])
@@ -22,13 +22,13 @@ at_most_one (suc (suc n)) small = absurd (omega arith)
 -- a key that one pair has stands once, with a value of the form
 once_of_count : (Form : List ℕ → Type 0) (key : List ℕ) (pairs : List Pair) → count_of key pairs ≡ 1 → HaveForm Form key pairs → (v : List ℕ) × StandsOnce key pairs v × Form v
 once_of_count Form key pairs count forms =
-    let one = some_one (values_of key pairs) (length-values_of key pairs ∙ count) in
+    let one = some_one (values_under key pairs) (length-values_of key pairs ∙ count) in
     let P : List (List ℕ) → Type 0 = λ vs. Contains vs one.0 in
     let in_pairs = pair_of_value key one.0 pairs (subst P (sym one.1) (first_contained one.0 [])) in
     (one.0, one.1, All-contains (λ (p : Pair). p.0 ≡ key → Form p.1) pairs (key, one.0) forms in_pairs refl)
 
 -- the value of a pair with the key is among the key's values
-value_here : (key : List ℕ) (pairs : List Pair) (p : Pair) → Contains pairs p → p.0 ≡ key → Contains (values_of key pairs) p.1
+value_here : (key : List ℕ) (pairs : List Pair) (p : Pair) → Contains pairs p → p.0 ≡ key → Contains (values_under key pairs) p.1
 value_here key pairs p here same =
     let P : Pair → Type 0 = λ q. Contains pairs q in
     value_of_pair key p.1 pairs (subst P (same_pair p key p.1 same refl) here)
@@ -42,7 +42,7 @@ forms_of_once Form key pairs v once form = λ k d within same.
       | inr none ↦ absurd (none_contained p.1 none)
     ]
 
-forms_of_none : (Form : List ℕ → Type 0) (key : List ℕ) (pairs : List Pair) → values_of key pairs ≡ [] → HaveForm Form key pairs
+forms_of_none : (Form : List ℕ → Type 0) (key : List ℕ) (pairs : List Pair) → values_under key pairs ≡ [] → HaveForm Form key pairs
 forms_of_none Form key pairs none = λ k d within same.
     let p : Pair = slice_index_or pairs k d in
     let P : List (List ℕ) → Type 0 = λ vs. Contains vs p.1 in

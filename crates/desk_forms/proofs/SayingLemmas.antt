@@ -7,7 +7,7 @@ use Rattle.desk_forms.specs.declared.query.Listing.{Listing}
 use Rattle.desk_forms.specs.declared.query.DepositQuery.{DepositQuery}
 use Rattle.desk_forms.specs.declared.body.HoldBody.{HoldBody}
 use Rattle.desk_forms.specs.declared.body.HoldBody.TheVariants.{Deposit, Collection, Class}
-use Rattle.desk_forms.specs.Queries.{values_of, GivesName, AsksListing, DescribesDeposit}
+use Rattle.desk_forms.specs.Queries.{values_under, GivesName, AsksListing, DescribesDeposit}
 use Rattle.desk_forms.specs.Bodies.{years_object, SaysYears, hold_object, SaysHold}
 
 one_value : (values : List (List ℕ)) (a b : List ℕ) → values ≡ a ∷ [] → values ≡ b ∷ [] → a ≡ b
@@ -18,7 +18,7 @@ one_name : (key : List ℕ) (pairs : List (List ℕ × List ℕ)) (a b : Option 
 one_name key pairs None None x y = refl
 one_name key pairs None (Some b) x y = let e : [] ≡ b ∷ [] = sym x ∙ y.0 in cc
 one_name key pairs (Some a) None x y = let e : [] ≡ a ∷ [] = sym y ∙ x.0 in cc
-one_name key pairs (Some a) (Some b) x y = ap Some (one_value (values_of key pairs) a b x.0 y.0)
+one_name key pairs (Some a) (Some b) x y = ap Some (one_value (values_under key pairs) a b x.0 y.0)
 
 pub one_listing : (pairs : List (List ℕ × List ℕ)) (a b : Listing) → AsksListing pairs a → AsksListing pairs b → a ≡ b
 one_listing pairs a b x y =

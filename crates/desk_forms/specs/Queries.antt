@@ -14,12 +14,12 @@ abbrev pub text_of : List ℕ → List ℕ
 text_of bytes = utf8_lossy (decode bytes)
 
 -- the pairs of a query, each a key and a value, decoded
-abbrev pub pairs_of : List ℕ → List (List ℕ × List ℕ)
-pairs_of query = map (λ p. (text_of p.0, text_of p.1)) (raw_pairs query)
+abbrev pub query_pairs : List ℕ → List (List ℕ × List ℕ)
+query_pairs query = map (λ p. (text_of p.0, text_of p.1)) (raw_pairs query)
 
 -- the values that stand under a key, in their order
-abbrev pub values_of : List ℕ → List (List ℕ × List ℕ) → List (List ℕ)
-values_of key pairs = map (λ p. p.1) (filter (λ p. pointwise nat_eq p.0 key) pairs)
+abbrev pub values_under : List ℕ → List (List ℕ × List ℕ) → List (List ℕ)
+values_under key pairs = map (λ p. p.1) (filter (λ p. pointwise nat_eq p.0 key) pairs)
 
 -- no pair has another key
 abbrev pub HasOnly : List (List ℕ) → List (List ℕ × List ℕ) → Type 0
@@ -27,11 +27,11 @@ HasOnly keys pairs = All (λ p. Contains keys p.0) pairs
 
 -- the key stands in one pair, whose value is this
 abbrev pub StandsOnce : List ℕ → List (List ℕ × List ℕ) → List ℕ → Type 0
-StandsOnce key pairs value = values_of key pairs ≡ value ∷ []
+StandsOnce key pairs value = values_under key pairs ≡ value ∷ []
 
 -- the key stands in one pair, whose value is this name, or in none
 abbrev pub GivesName : List ℕ → List (List ℕ × List ℕ) → Option (List ℕ) → Type 0
-GivesName key pairs None = values_of key pairs ≡ []
+GivesName key pairs None = values_under key pairs ≡ []
 GivesName key pairs (Some name) = StandsOnce key pairs name × IsName name
 
 -- what the query of a list asks for

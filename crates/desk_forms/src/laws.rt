@@ -4,7 +4,7 @@ ghost use Rattle.std.specs.Prelude.{◌≡◌, ◌↔◌, ℕ, List, [], Option,
 ghost use Rattle.percent_encoding.specs.Percent.{percent_decode};
 ghost use Rattle.desk_forms.specs.Bodies.{SaysYears, SaysHold};
 ghost use Rattle.desk_forms.specs.Paths.{StandsFor};
-ghost use Rattle.desk_forms.specs.Queries.{values_of, count_of, StandsOnce, AsksListing, DescribesDeposit, IsListing, IsDepositQuery};
+ghost use Rattle.desk_forms.specs.Queries.{values_under, count_of, StandsOnce, AsksListing, DescribesDeposit, IsListing, IsDepositQuery};
 ghost use Rattle.desk_forms.specs.declared.body.HoldBody.{HoldBody};
 ghost use Rattle.desk_forms.specs.declared.query.DepositQuery.{DepositQuery};
 ghost use Rattle.desk_forms.specs.declared.query.Listing.{Listing};
@@ -21,7 +21,7 @@ pub fn counted_keys()
     ensures once { (key value : List ℕ) (pairs : List (List ℕ × List ℕ))
         → StandsOnce key pairs value ↔ ((count_of key pairs ≡ 1) × Contains pairs (key, value)) }
     ensures nowhere { (key : List ℕ) (pairs : List (List ℕ × List ℕ))
-        → (values_of key pairs ≡ []) ↔ (count_of key pairs ≡ 0) }
+        → (values_under key pairs ≡ []) ↔ (count_of key pairs ≡ 0) }
 {}
 
 /// A query asks for a listing, or describes a deposit, exactly where its keys are counted so: no

@@ -9,7 +9,7 @@ ghost use Rattle.jiff.specs.Types.{Date};
 ghost use Rattle.office_core.specs.Days.{IsDay, day_text};
 ghost use Rattle.office_core.specs.Names.{IsName, IsAccession};
 ghost use Rattle.office_core.specs.Policies.{is_one_of};
-ghost use Rattle.desk_forms.specs.Queries.{text_of, pairs_of, values_of, StandsOnce, GivesName, AsksListing, DescribesDeposit};
+ghost use Rattle.desk_forms.specs.Queries.{text_of, query_pairs, values_under, StandsOnce, GivesName, AsksListing, DescribesDeposit};
 ghost use Rattle.desk_forms.specs.QueryReading.{has_only};
 
 use form_urlencoded::{decode, raw_pairs};
@@ -56,7 +56,7 @@ impl From<AllocError> for QueryFault {
 
 /// The query of a route without keys: `BadQuery` where there is a pair.
 pub fn check_no_query(query: &[u8]) -> Result<(), QueryFault>
-    ensures taken { IsOk result ↔ (pairs_of query.now ≡ []) }
+    ensures taken { IsOk result ↔ (query_pairs query.now ≡ []) }
     ensures fault { IfErr result (λ fault. fault ≡ QueryFault.BadQuery) }
 {
     match raw_pairs(query).next() {
@@ -91,9 +91,9 @@ fn is_known(alloc: Global, encoded: &[u8], keys: &[&str]) -> Result<bool, AllocE
 /// `BadQuery` where a pair has another key than these.
 fn check_keys(alloc: Global, query: &[u8], keys: &[&str]) -> Result<(), QueryFault>
     ensures taken { IfOk result
-        (λ _. has_only (map (λ key. key.now) keys.now) (pairs_of query.now) ≡ true) }
+        (λ _. has_only (map (λ key. key.now) keys.now) (query_pairs query.now) ≡ true) }
     ensures refused { result ≡ Err QueryFault.BadQuery
-        → has_only (map (λ key. key.now) keys.now) (pairs_of query.now) ≡ false }
+        → has_only (map (λ key. key.now) keys.now) (query_pairs query.now) ≡ false }
 {
     'pairs: for (key, _) in raw_pairs(query) {
         if !is_known(alloc, key, keys)? {
@@ -109,10 +109,10 @@ fn find_value<'a>(
     query: &'a [u8],
     key: &str,
 ) -> Result<Option<CowStr<'a, Global>>, QueryFault>
-    ensures found { IfOk result (λ value. values_of key.now (pairs_of query.now)
+    ensures found { IfOk result (λ value. values_under key.now (query_pairs query.now)
         ≡ option_to_list (option_map cow_str_bytes value)) }
     ensures refused { result ≡ Err QueryFault.BadQuery
-        → 2 ≤ length (values_of key.now (pairs_of query.now)) }
+        → 2 ≤ length (values_under key.now (query_pairs query.now)) }
 {
     let mut found = None;
     'pairs: for (name, value) in raw_pairs(query) {
@@ -134,9 +134,9 @@ fn need_value<'a>(
     key: &str,
 ) -> Result<CowStr<'a, Global>, QueryFault>
     ensures found { IfOk result
-        (λ value. StandsOnce key.now (pairs_of query.now) (cow_str_bytes value)) }
+        (λ value. StandsOnce key.now (query_pairs query.now) (cow_str_bytes value)) }
     ensures refused { result ≡ Err QueryFault.BadQuery → (value : List ℕ)
-        → ¬ StandsOnce key.now (pairs_of query.now) value }
+        → ¬ StandsOnce key.now (query_pairs query.now) value }
 {
     match find_value(alloc, query, key)? {
         Some(value) => Ok(value),
@@ -169,9 +169,9 @@ fn own_accession(alloc: Global, text: &str) -> Result<OwnedAccession, QueryFault
 
 /// The name under a key, where the key stands.
 fn find_name(alloc: Global, query: &[u8], key: &str) -> Result<Option<OwnedName>, QueryFault>
-    ensures found { IfOk result (λ name. GivesName key.now (pairs_of query.now) name) }
+    ensures found { IfOk result (λ name. GivesName key.now (query_pairs query.now) name) }
     ensures refused { result ≡ Err QueryFault.BadQuery → (name : Option (List ℕ))
-        → ¬ GivesName key.now (pairs_of query.now) name }
+        → ¬ GivesName key.now (query_pairs query.now) name }
 {
     match find_value(alloc, query, key)? {
         Some(text) => Ok(Some(own_name(alloc, text.as_str())?)),
@@ -182,9 +182,9 @@ fn find_name(alloc: Global, query: &[u8], key: &str) -> Result<Option<OwnedName>
 /// The name under a key that stands.
 fn need_name(alloc: Global, query: &[u8], key: &str) -> Result<OwnedName, QueryFault>
     ensures found { IfOk result
-        (λ name. StandsOnce key.now (pairs_of query.now) name × IsName name) }
+        (λ name. StandsOnce key.now (query_pairs query.now) name × IsName name) }
     ensures refused { result ≡ Err QueryFault.BadQuery → (name : List ℕ)
-        → ¬ (StandsOnce key.now (pairs_of query.now) name × IsName name) }
+        → ¬ (StandsOnce key.now (query_pairs query.now) name × IsName name) }
 {
     own_name(alloc, need_value(alloc, query, key)?.as_str())
 }
@@ -192,9 +192,9 @@ fn need_name(alloc: Global, query: &[u8], key: &str) -> Result<OwnedName, QueryF
 /// The accession number under a key that stands.
 fn need_accession(alloc: Global, query: &[u8], key: &str) -> Result<OwnedAccession, QueryFault>
     ensures found { IfOk result (λ accession.
-        StandsOnce key.now (pairs_of query.now) accession × IsAccession accession) }
+        StandsOnce key.now (query_pairs query.now) accession × IsAccession accession) }
     ensures refused { result ≡ Err QueryFault.BadQuery → (accession : List ℕ)
-        → ¬ (StandsOnce key.now (pairs_of query.now) accession × IsAccession accession) }
+        → ¬ (StandsOnce key.now (query_pairs query.now) accession × IsAccession accession) }
 {
     own_accession(alloc, need_value(alloc, query, key)?.as_str())
 }
@@ -202,9 +202,9 @@ fn need_accession(alloc: Global, query: &[u8], key: &str) -> Result<OwnedAccessi
 /// The day under a key that stands.
 fn need_day(alloc: Global, query: &[u8], key: &str) -> Result<Day, QueryFault>
     ensures found { IfOk result
-        (λ day. StandsOnce key.now (pairs_of query.now) (day_text day) × IsDay day) }
+        (λ day. StandsOnce key.now (query_pairs query.now) (day_text day) × IsDay day) }
     ensures refused { result ≡ Err QueryFault.BadQuery → (day : Date)
-        → ¬ (StandsOnce key.now (pairs_of query.now) (day_text day) × IsDay day) }
+        → ¬ (StandsOnce key.now (query_pairs query.now) (day_text day) × IsDay day) }
 {
     match Day::read(need_value(alloc, query, key)?.as_str()) {
         Some(day) => Ok(day),
@@ -215,9 +215,9 @@ fn need_day(alloc: Global, query: &[u8], key: &str) -> Result<Day, QueryFault>
 /// What the query of a list asks for: `collection` and `class`, each at most once and a name.
 /// `BadQuery` where it asks for none, and `Memory` where there is no memory.
 pub fn read_listing(alloc: Global, query: &[u8]) -> Result<Listing, QueryFault>
-    ensures listing { IfOk result (λ listing. AsksListing (pairs_of query.now) listing) }
+    ensures listing { IfOk result (λ listing. AsksListing (query_pairs query.now) listing) }
     ensures refused { result ≡ Err QueryFault.BadQuery → (listing : Listing)
-        → ¬ AsksListing (pairs_of query.now) listing }
+        → ¬ AsksListing (query_pairs query.now) listing }
 {
     check_keys(alloc, query, &["collection", "class"])?;
     Ok(Listing {
@@ -230,9 +230,9 @@ pub fn read_listing(alloc: Global, query: &[u8]) -> Result<Listing, QueryFault>
 /// an accession number, and `closed`, a day, each once. `BadQuery` where it describes no deposit,
 /// and `Memory` where there is no memory.
 pub fn read_deposit_query(alloc: Global, query: &[u8]) -> Result<DepositQuery, QueryFault>
-    ensures deposit { IfOk result (λ deposit. DescribesDeposit (pairs_of query.now) deposit) }
+    ensures deposit { IfOk result (λ deposit. DescribesDeposit (query_pairs query.now) deposit) }
     ensures refused { result ≡ Err QueryFault.BadQuery → (deposit : DepositQuery)
-        → ¬ DescribesDeposit (pairs_of query.now) deposit }
+        → ¬ DescribesDeposit (query_pairs query.now) deposit }
 {
     check_keys(
         alloc,

@@ -1,3 +1,5 @@
 pub mod DigitLemmas
+pub mod EndLaws
+pub mod EndLemmas
 pub mod HeadLemmas
 pub mod StepLemmas

@@ -12,8 +12,8 @@ use Rattle.office_core.specs.FirstOf.{first_some, answer_if}
 use Rattle.office_core.specs.Names.{is_name}
 use Rattle.desk_heads.specs.Bounds.{max_body}
 use Rattle.desk_heads.specs.Fields.{Occurrence, once, occurrence_of, values_among, values_of, fields_of}
-use Rattle.desk_heads.specs.Heads.{SpellsHead, IsHead, HeadContents, occurrence_in, encoding_refusal, length_refusal, caller_refusal, is_length_text, body_length_of, caller_of, contents_of, unless_refused, judgement_of, Judges}
-use Rattle.desk_heads.specs.Steps.{IsLengthText, StandsOfHead, Stands, step_of, StandsFirst, NamesCaller, AnnouncesBody, Says}
+use Rattle.desk_heads.specs.Heads.{SpellsHead, IsHead, HeadContents, occurrence_in, encoding_refusal, length_refusal, caller_refusal, is_length_text, body_length_of, caller_of, head_contents, unless_refused, judgement_of, Judges}
+use Rattle.desk_heads.specs.Steps.{IsLengthText, StandsOfHead, RefusalStands, step_of, StandsFirst, NamesCaller, AnnouncesBody, SaysContents}
 use Rattle.desk_heads.specs.declared.refusal.HeadRefusal.{HeadRefusal}
 use Rattle.desk_heads.specs.declared.refusal.HeadRefusal.TheVariants.{BadHead, Chunked, BadLength, TooLarge, TwoCallers}
 use Rattle.desk_heads.proofs.DigitLemmas.{all_digits}
@@ -31,24 +31,24 @@ caller head = caller_refusal (occurrence_in head (codes "depot-caller"))
 
 pub at_encoding : (head : RequestHead) (refusal : HeadRefusal) → encoding head ≡ Some refusal → judgement_of head ≡ Err refusal
 unfolding judgement_of
-at_encoding head refusal e = ap (λ r. unless_refused (first_some (r ∷ content_length head ∷ caller head ∷ [])) (contents_of head)) e
+at_encoding head refusal e = ap (λ r. unless_refused (first_some (r ∷ content_length head ∷ caller head ∷ [])) (head_contents head)) e
 
 pub at_length : (head : RequestHead) (refusal : HeadRefusal) → encoding head ≡ None → content_length head ≡ Some refusal → judgement_of head ≡ Err refusal
 unfolding judgement_of
-at_length head refusal none e = ap (λ r. unless_refused (first_some (r ∷ content_length head ∷ caller head ∷ [])) (contents_of head)) none
-    ∙ ap (λ r. unless_refused (first_some (r ∷ caller head ∷ [])) (contents_of head)) e
+at_length head refusal none e = ap (λ r. unless_refused (first_some (r ∷ content_length head ∷ caller head ∷ [])) (head_contents head)) none
+    ∙ ap (λ r. unless_refused (first_some (r ∷ caller head ∷ [])) (head_contents head)) e
 
 pub at_caller : (head : RequestHead) (refusal : HeadRefusal) → encoding head ≡ None → content_length head ≡ None → caller head ≡ Some refusal → judgement_of head ≡ Err refusal
 unfolding judgement_of
-at_caller head refusal none no_length e = ap (λ r. unless_refused (first_some (r ∷ content_length head ∷ caller head ∷ [])) (contents_of head)) none
-    ∙ ap (λ r. unless_refused (first_some (r ∷ caller head ∷ [])) (contents_of head)) no_length
-    ∙ ap (λ r. unless_refused (first_some (r ∷ [])) (contents_of head)) e
+at_caller head refusal none no_length e = ap (λ r. unless_refused (first_some (r ∷ content_length head ∷ caller head ∷ [])) (head_contents head)) none
+    ∙ ap (λ r. unless_refused (first_some (r ∷ caller head ∷ [])) (head_contents head)) no_length
+    ∙ ap (λ r. unless_refused (first_some (r ∷ [])) (head_contents head)) e
 
-pub at_none : (head : RequestHead) → encoding head ≡ None → content_length head ≡ None → caller head ≡ None → judgement_of head ≡ Ok (contents_of head)
+pub at_none : (head : RequestHead) → encoding head ≡ None → content_length head ≡ None → caller head ≡ None → judgement_of head ≡ Ok (head_contents head)
 unfolding judgement_of
-at_none head none no_length no_caller = ap (λ r. unless_refused (first_some (r ∷ content_length head ∷ caller head ∷ [])) (contents_of head)) none
-    ∙ ap (λ r. unless_refused (first_some (r ∷ caller head ∷ [])) (contents_of head)) no_length
-    ∙ ap (λ r. unless_refused (first_some (r ∷ [])) (contents_of head)) no_caller
+at_none head none no_length no_caller = ap (λ r. unless_refused (first_some (r ∷ content_length head ∷ caller head ∷ [])) (head_contents head)) none
+    ∙ ap (λ r. unless_refused (first_some (r ∷ caller head ∷ [])) (head_contents head)) no_length
+    ∙ ap (λ r. unless_refused (first_some (r ∷ [])) (head_contents head)) no_caller
 
 -- ---- one head, one judgement
 
@@ -200,7 +200,7 @@ never front head refusal found spells none finds h =
     let some = finds (of_head front head (λ other. StandsOfHead other refusal) spells h) in
     let wrong : None ≡ Some refusal = sym none ∙ some in cc
 
-before_1 : (front : List ℕ) (earlier : HeadRefusal) → step_of earlier < 1 → Stands front earlier → ⊥
+before_1 : (front : List ℕ) (earlier : HeadRefusal) → step_of earlier < 1 → RefusalStands front earlier → ⊥
 before_1 front BadHead low h = omega arith
 before_1 front Chunked low h = omega arith
 before_1 front BadLength low h = omega arith
@@ -209,7 +209,7 @@ before_1 front TwoCallers low h = omega arith
 
 -- nor does a refusal of a step before this one, where what was asked before found none
 before : (front : List ℕ) (head : RequestHead) (step : ℕ) → SpellsHead front head → (2 < step → encoding head ≡ None) → (3 < step → content_length head ≡ None) → (4 < step → caller head ≡ None)
-    → (earlier : HeadRefusal) → step_of earlier < step → Stands front earlier → ⊥
+    → (earlier : HeadRefusal) → step_of earlier < step → RefusalStands front earlier → ⊥
 before front head step spells none no_length no_caller BadHead low h = h (head, spells)
 before front head step spells none no_length no_caller Chunked low h = never front head Chunked (encoding head) spells (none low) (stands_encoding (values_of (codes "transfer-encoding") head)) h
 before front head step spells none no_length no_caller BadLength low h = never front head BadLength (content_length head) spells (no_length low) (stands_bad (values_of (codes "content-length") head)) h
@@ -223,7 +223,7 @@ step_is_small BadLength = omega arith
 step_is_small TooLarge = omega arith
 step_is_small TwoCallers = omega arith
 
-none_stands : (front : List ℕ) (head : RequestHead) → SpellsHead front head → encoding head ≡ None → content_length head ≡ None → caller head ≡ None → (refusal : HeadRefusal) → Stands front refusal → ⊥
+none_stands : (front : List ℕ) (head : RequestHead) → SpellsHead front head → encoding head ≡ None → content_length head ≡ None → caller head ≡ None → (refusal : HeadRefusal) → RefusalStands front refusal → ⊥
 none_stands front head spells none no_length no_caller refusal h = before front head 5 spells (λ _. none) (λ _. no_length) (λ _. no_caller) refusal (step_is_small refusal) h
 
 first_bad_head : (front : List ℕ) → (IsHead front → ⊥) → StandsFirst front BadHead
@@ -266,7 +266,7 @@ head_refused front head refusal spells j = elim (outcome head) [
   | at_encoding_step other e ↦ (let same : Err refusal ≡ Err other = j ∙ at_encoding head other e in first_chunked front head refusal spells (cc))
   | at_length_step other e f ↦ (let same : Err refusal ≡ Err other = j ∙ at_length head other e f in first_length front head refusal spells e (cc))
   | at_caller_step other e f g ↦ (let same : Err refusal ≡ Err other = j ∙ at_caller head other e f g in first_callers front head refusal spells e f (cc))
-  | at_no_step e f g ↦ absurd (let same : Err refusal ≡ Ok (contents_of head) = j ∙ at_none head e f g in cc)
+  | at_no_step e f g ↦ absurd (let same : Err refusal ≡ Ok (head_contents head) = j ∙ at_none head e f g in cc)
 ]
 
 pub refused_first : (front : List ℕ) (refusal : HeadRefusal) → Judges front (Err refusal) → StandsFirst front refusal
@@ -275,14 +275,14 @@ refused_first front refusal (inr h) = head_refused front h.0 refusal h.1 h.2
 
 -- ---- and the other way round
 
-no_encoding : (front : List ℕ) (head : RequestHead) → SpellsHead front head → (Stands front Chunked → ⊥) → encoding head ≡ None
+no_encoding : (front : List ℕ) (head : RequestHead) → SpellsHead front head → (RefusalStands front Chunked → ⊥) → encoding head ≡ None
 no_encoding front head spells bad = by (encoding head) refl
   where
     by : (e : Option HeadRefusal) → encoding head ≡ e → encoding head ≡ None
     by None e = e
     by (Some refusal) e = absurd (bad (head, spells, (encoding_stands (values_of (codes "transfer-encoding") head) refusal e).1))
 
-no_length : (front : List ℕ) (head : RequestHead) → SpellsHead front head → (Stands front BadLength → ⊥) → (Stands front TooLarge → ⊥) → content_length head ≡ None
+no_length : (front : List ℕ) (head : RequestHead) → SpellsHead front head → (RefusalStands front BadLength → ⊥) → (RefusalStands front TooLarge → ⊥) → content_length head ≡ None
 no_length front head spells bad large = by (content_length head) refl
   where
     by : (e : Option HeadRefusal) → content_length head ≡ e → content_length head ≡ None
@@ -292,7 +292,7 @@ no_length front head spells bad large = by (content_length head) refl
       | inr h ↦ absurd (large (head, spells, h.1))
     ]
 
-no_caller : (front : List ℕ) (head : RequestHead) → SpellsHead front head → (Stands front TwoCallers → ⊥) → caller head ≡ None
+no_caller : (front : List ℕ) (head : RequestHead) → SpellsHead front head → (RefusalStands front TwoCallers → ⊥) → caller head ≡ None
 no_caller front head spells bad = by (caller head) refl
   where
     by : (e : Option HeadRefusal) → caller head ≡ e → caller head ≡ None
@@ -348,7 +348,7 @@ body_length_is : (values : List (List ℕ)) (count : ℕ) → AnnouncesBody valu
 body_length_is values count (inl none) = none.1 ∙ sym (ap (λ v. body_length_of (occurrence_of v)) none.0)
 body_length_is values count (inr one) = one.3 ∙ sym (ap (λ v. body_length_of (occurrence_of v)) one.1)
 
-head_says : (front : List ℕ) (head : RequestHead) → SpellsHead front head → content_length head ≡ None → caller head ≡ None → Says front (contents_of head)
+head_says : (front : List ℕ) (head : RequestHead) → SpellsHead front head → content_length head ≡ None → caller head ≡ None → SaysContents front (head_contents head)
 head_says front head spells f g = record {
   head = head;
   spells = spells;
@@ -359,20 +359,20 @@ head_says front head spells f g = record {
 }
 
 head_taken : (front : List ℕ) (head : RequestHead) (contents : HeadContents) → SpellsHead front head → Ok contents ≡ judgement_of head
-    → Says front contents × ((refusal : HeadRefusal) → Stands front refusal → ⊥)
+    → SaysContents front contents × ((refusal : HeadRefusal) → RefusalStands front refusal → ⊥)
 head_taken front head contents spells j = elim (outcome head) [
   | at_encoding_step other e ↦ absurd (let same : Ok contents ≡ Err other = j ∙ at_encoding head other e in cc)
   | at_length_step other e f ↦ absurd (let same : Ok contents ≡ Err other = j ∙ at_length head other e f in cc)
   | at_caller_step other e f g ↦ absurd (let same : Ok contents ≡ Err other = j ∙ at_caller head other e f g in cc)
-  | at_no_step e f g ↦ (let equal : Ok contents ≡ Ok (contents_of head) = j ∙ at_none head e f g in let same : contents ≡ contents_of head = cc in
-      (subst (Says front) (sym same) (head_says front head spells f g), none_stands front head spells e f g))
+  | at_no_step e f g ↦ (let equal : Ok contents ≡ Ok (head_contents head) = j ∙ at_none head e f g in let same : contents ≡ head_contents head = cc in
+      (subst (SaysContents front) (sym same) (head_says front head spells f g), none_stands front head spells e f g))
 ]
 
-pub taken_says : (front : List ℕ) (contents : HeadContents) → Judges front (Ok contents) → Says front contents × ((refusal : HeadRefusal) → Stands front refusal → ⊥)
+pub taken_says : (front : List ℕ) (contents : HeadContents) → Judges front (Ok contents) → SaysContents front contents × ((refusal : HeadRefusal) → RefusalStands front refusal → ⊥)
 taken_says front contents (inl bad) = absurd (let e = bad.1 in cc)
 taken_says front contents (inr h) = head_taken front h.0 contents h.1 h.2
 
-pub says_taken : (front : List ℕ) (contents : HeadContents) → Says front contents → ((refusal : HeadRefusal) → Stands front refusal → ⊥) → Judges front (Ok contents)
+pub says_taken : (front : List ℕ) (contents : HeadContents) → SaysContents front contents → ((refusal : HeadRefusal) → RefusalStands front refusal → ⊥) → Judges front (Ok contents)
 says_taken front contents says none = taken front says.head _ _ _ contents says.spells
     refl (no_encoding front says.head says.spells (none Chunked))
     refl (no_length front says.head says.spells (none BadLength) (none TooLarge))

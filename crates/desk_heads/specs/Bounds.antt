@@ -1,6 +1,10 @@
 -- The most that the desk takes: Depot's own limits.
 use Rattle.std.specs.Prelude.{ℕ}
 
+-- the bytes of a head
+abbrev pub max_head : ℕ
+max_head = 8192
+
 -- the fields of a head
 abbrev pub max_fields : ℕ
 max_fields = 64

@@ -67,15 +67,15 @@ caller_of (once text) = answer_if (is_name text) text
 caller_of repeated = None
 
 -- the refusals of a head, in their order, which is Depot's own
-abbrev pub refusals : RequestHead → List (Option HeadRefusal)
-refusals head =
+abbrev pub head_refusals : RequestHead → List (Option HeadRefusal)
+head_refusals head =
     encoding_refusal (occurrence_in head (codes "transfer-encoding"))
     ∷ length_refusal (occurrence_in head (codes "content-length"))
     ∷ caller_refusal (occurrence_in head (codes "depot-caller"))
     ∷ []
 
-abbrev pub contents_of : RequestHead → HeadContents
-contents_of head = record {
+abbrev pub head_contents : RequestHead → HeadContents
+head_contents head = record {
   method = head.method;
   target = head.target;
   caller = caller_of (occurrence_in head (codes "depot-caller"));
@@ -88,7 +88,7 @@ unless_refused (Some refusal) contents = Err refusal
 
 -- the first refusal that stands, else what the head says
 unfoldable pub judgement_of : RequestHead → Result HeadContents HeadRefusal
-judgement_of head = unless_refused (first_some (refusals head)) (contents_of head)
+judgement_of head = unless_refused (first_some (head_refusals head)) (head_contents head)
 
 -- a front is no head, or it is judged as its head is
 abbrev pub Judges : List ℕ → Result HeadContents HeadRefusal → Type 0

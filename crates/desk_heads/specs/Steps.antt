@@ -25,9 +25,9 @@ StandsOfHead head TooLarge = (text : List ℕ) × (values_of (codes "content-len
 StandsOfHead head TwoCallers = 1 < length (values_of (codes "depot-caller") head)
 
 -- the refusal stands of a front
-abbrev pub Stands : List ℕ → HeadRefusal → Type 0
-Stands front BadHead = IsHead front → ⊥
-Stands front refusal = (head : RequestHead) × SpellsHead front head × StandsOfHead head refusal
+abbrev pub RefusalStands : List ℕ → HeadRefusal → Type 0
+RefusalStands front BadHead = IsHead front → ⊥
+RefusalStands front refusal = (head : RequestHead) × SpellsHead front head × StandsOfHead head refusal
 
 -- the step of hearing at which a refusal is found
 abbrev pub step_of : HeadRefusal → ℕ
@@ -39,8 +39,8 @@ step_of TwoCallers = 4
 
 -- the refusal stands, and none of an earlier step does
 pub record StandsFirst (front : List ℕ) (refusal : HeadRefusal) : Type 0 where
-  pub stands : Stands front refusal
-  pub first : (earlier : HeadRefusal) → step_of earlier < step_of refusal → Stands front earlier → ⊥
+  pub stands : RefusalStands front refusal
+  pub first : (earlier : HeadRefusal) → step_of earlier < step_of refusal → RefusalStands front earlier → ⊥
 
 -- the caller is the name that stands alone under `Depot-Caller`
 abbrev pub NamesCaller : List (List ℕ) → Option (List ℕ) → Type 0
@@ -52,7 +52,7 @@ abbrev pub AnnouncesBody : List (List ℕ) → ℕ → Type 0
 AnnouncesBody values count = ((values ≡ []) × (count ≡ 0)) ⊎ ((text : List ℕ) × (values ≡ text ∷ []) × IsLengthText text × (count ≡ digits_value 10 text))
 
 -- the front spells a head that says this
-pub record Says (front : List ℕ) (contents : HeadContents) : Type 0 where
+pub record SaysContents (front : List ℕ) (contents : HeadContents) : Type 0 where
   pub head : RequestHead
   pub spells : SpellsHead front head
   pub method : contents.method ≡ head.method

@@ -1,9 +1,29 @@
 //! Laws of the definitions alone.
 
-ghost use Rattle.std.specs.Prelude.{◌≡◌, ◌↔◌, List, ℕ, Result};
+ghost use Rattle.std.specs.Prelude.{◌≡◌, ◌≢◌, ◌↔◌, ◌<◌, ◌≤◌, ◌++◌, ℕ, List, Result, length};
+ghost use Rattle.desk_heads.specs.Bounds.{max_head};
+ghost use Rattle.desk_heads.specs.Ends.{IsHeadEnd, HasNoHead, head_at};
 ghost use Rattle.desk_heads.specs.Heads.{HeadContents, Judges};
-ghost use Rattle.desk_heads.specs.Steps.{Stands, StandsFirst, Says};
+ghost use Rattle.desk_heads.specs.Steps.{RefusalStands, StandsFirst, SaysContents};
+ghost use Rattle.desk_heads.specs.declared.place.HeadPlace.TheVariants.{Short, TooLarge, Found};
 ghost use Rattle.desk_heads.specs.declared.refusal.HeadRefusal.{HeadRefusal};
+
+/// The head that is found is the shortest front of the input that ends with an empty line, and has
+/// 8,192 bytes at most. There is none exactly where no such front ends so: then the input is too
+/// short, or the head too large.
+pub fn shortest_front()
+    ensures found { (input : List ℕ) (n : ℕ) → (head_at input ≡ Found n) ↔ IsHeadEnd input n }
+    ensures short { (input : List ℕ)
+        → (head_at input ≡ Short) ↔ ((length input < max_head) × HasNoHead input) }
+    ensures too_large { (input : List ℕ)
+        → (head_at input ≡ TooLarge) ↔ ((max_head ≤ length input) × HasNoHead input) }
+{}
+
+/// More bytes change nothing once the head is decided.
+pub fn longer_head()
+    ensures { (input more : List ℕ) → head_at input ≢ Short
+        → head_at (input ++ more) ≡ head_at input }
+{}
 
 /// A front is judged in one way at most.
 pub fn one_judgement()
@@ -22,5 +42,5 @@ pub fn first_refusal()
 /// A front is taken as saying something exactly where its head says that and no refusal stands.
 pub fn taken_heads()
     ensures { (front : List ℕ) (contents : HeadContents) → Judges front (Ok contents)
-        ↔ (Says front contents × ((refusal : HeadRefusal) → Stands front refusal → ⊥)) }
+        ↔ (SaysContents front contents × ((refusal : HeadRefusal) → RefusalStands front refusal → ⊥)) }
 {}

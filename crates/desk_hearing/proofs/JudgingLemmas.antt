@@ -1,7 +1,7 @@
 -- What the steps of the code answer, as what is heard.
 use Rattle.std.proofs.Common.{◌≡◌, ◌≢◌, ℕ, inl, inr, List, [], Option, Some, None, Ok, Err, refl, sym, ap, ◌∙◌, subst}
 use Rattle.std.specs.Prelude.{Result, MatchResult, ok_or, option_and_then}
-use Rattle.desk_forms.specs.Queries.{pairs_of, AsksListing, DescribesDeposit}
+use Rattle.desk_forms.specs.Queries.{query_pairs, AsksListing, DescribesDeposit}
 use Rattle.desk_forms.specs.Bodies.{SaysYears, SaysHold}
 use Rattle.desk_forms.specs.declared.body.BodyFault.{BodyFault}
 use Rattle.desk_forms.specs.declared.body.BodyFault.TheVariants as bodies
@@ -33,20 +33,20 @@ use Rattle.desk_hearing.specs.declared.question.Question.{Question}
 
 -- ---- queries
 
-pub answers_without : (route : RouteValue) (query : List ℕ) (asked : asking.Question) (question : Question) (result : Result Question JudgingFault)
+pub answers_without : (route : RouteValue) (query : List ℕ) (asked : asking.RouteQuestion) (question : Question) (result : Result Question JudgingFault)
     → MatchResult result (λ same. (same ≡ question) × HasNoPair query) (λ fault. (fault ≡ faults.Refused BadQuery) × (HasNoPair query → ⊥))
-    → question_seen question ≡ asked → (HasNoPair query → QueryAsks route query asked) → ((other : asking.Question) → QueryAsks route query other → HasNoPair query)
+    → question_seen question ≡ asked → (HasNoPair query → QueryAsks route query asked) → ((other : asking.RouteQuestion) → QueryAsks route query other → HasNoPair query)
     → AnswersQuery route query result
 answers_without route query asked question (Ok same) h e asks only = subst (λ q. QueryAsks route query q) (sym (ap question_seen h.0 ∙ e)) (asks h.1)
 answers_without route query asked question (Err fault) h e asks only =
     subst (λ f. AnswersQuery route query (Err f)) (sym h.0) (refl, λ other x. h.1 (only other x))
 
-pub listing_refused : (query : List ℕ) (fault : QueryFault) → (fault ≡ queries.BadQuery → (listing : Listing) → AsksListing (pairs_of query) listing → ⊥)
+pub listing_refused : (query : List ℕ) (fault : QueryFault) → (fault ≡ queries.BadQuery → (listing : Listing) → AsksListing (query_pairs query) listing → ⊥)
     → AnswersQuery routes.list_deposits query (Err (fault_of_query fault))
 listing_refused query queries.BadQuery h = (refl, λ question x. h refl x.0 x.1)
 listing_refused query queries.Memory h = tt
 
-pub deposit_refused : (query : List ℕ) (fault : QueryFault) → (fault ≡ queries.BadQuery → (deposit : DepositQuery) → DescribesDeposit (pairs_of query) deposit → ⊥)
+pub deposit_refused : (query : List ℕ) (fault : QueryFault) → (fault ≡ queries.BadQuery → (deposit : DepositQuery) → DescribesDeposit (query_pairs query) deposit → ⊥)
     → AnswersQuery routes.deposit_bag query (Err (fault_of_query fault))
 deposit_refused query queries.BadQuery h = (refl, λ question x. h refl x.0 x.1)
 deposit_refused query queries.Memory h = tt
@@ -107,7 +107,7 @@ route_refused front rest contents refusal judged e = (Ok contents, judged, subst
 pub query_refused : (front query : List ℕ) (contents : HeadContents) (route : RouteValue) (fault : JudgingFault) → Judges front (Ok contents) → route_asked contents ≡ Ok route
     → query ≡ query_part contents.target → AnswersQuery route query (Err fault) → AnswersFront front (Err fault)
 query_refused front query contents route (faults.Refused refusal) judged e q h = λ rest.
-    let none = subst (λ text. (question : asking.Question) → QueryAsks route text question → ⊥) q h.1 in
+    let none = subst (λ text. (question : asking.RouteQuestion) → QueryAsks route text question → ⊥) q h.1 in
     (Ok contents, judged, subst (λ found. HearsRoute contents found rest (Err refusal)) (sym e) (inr (none, ap Err h.0)))
 query_refused front query contents route faults.Memory judged e q h = tt
 

@@ -1,13 +1,13 @@
 -- An input is heard in one way.
 use Rattle.std.proofs.Common.{◌≡◌, ℕ, inl, inr, List, take, drop, Option, Ok, Err, sym, ap, ◌∙◌, subst, arith}
 use Rattle.std.specs.Prelude.{Result}
-use Rattle.desk_devices.specs.Heads.{head_at}
-use Rattle.desk_devices.specs.declared.place.HeadPlace.{HeadPlace}
-use Rattle.desk_devices.specs.declared.place.HeadPlace.TheVariants as places
+use Rattle.desk_heads.specs.Ends.{head_at}
+use Rattle.desk_heads.specs.declared.place.HeadPlace.{HeadPlace}
+use Rattle.desk_heads.specs.declared.place.HeadPlace.TheVariants as places
 use Rattle.desk_heads.specs.Heads.{HeadContents}
 use Rattle.desk_heads.specs.declared.refusal.HeadRefusal.{HeadRefusal}
 use Rattle.desk_heads.proofs.StepLemmas.{one_judgement}
-use Rattle.desk_forms.specs.Queries.{pairs_of}
+use Rattle.desk_forms.specs.Queries.{query_pairs}
 use Rattle.desk_forms.specs.declared.query.Listing.{Listing}
 use Rattle.desk_forms.specs.declared.query.DepositQuery.{DepositQuery}
 use Rattle.desk_forms.proofs.SayingLemmas.{one_listing, one_deposit_query, one_years, one_hold}
@@ -16,26 +16,26 @@ use Rattle.desk_routes.specs.Table as routes
 use Rattle.desk_routes.specs.Targets.{query_part}
 use Rattle.desk_routes.specs.declared.refusal.DeskRefusal.{DeskRefusal}
 use Rattle.desk_hearing.specs.Asked.{Asked, define_class, list_deposits, caller_text}
-use Rattle.desk_hearing.specs.Asking.{Question, of_class, of_deposit, of_hold, of_all, QueryAsks, BodyAsks, hold_asked}
+use Rattle.desk_hearing.specs.Asking.{RouteQuestion, of_class, of_deposit, of_hold, of_all, QueryAsks, BodyAsks, hold_asked}
 use Rattle.desk_hearing.specs.Hearing.{Hearing, HearsBody, HearsRest, HearsQuery, route_asked, HearsRoute, HearsHead, HearsFront, HearsAt, Hears}
 
-one_asked : (question : Question) (body : List ℕ) (a b : Asked) → BodyAsks question body a → BodyAsks question body b → a ≡ b
+one_asked : (question : RouteQuestion) (body : List ℕ) (a b : Asked) → BodyAsks question body a → BodyAsks question body b → a ≡ b
 one_asked (of_class name) body a b h k = h.2 ∙ ap (λ years. define_class name years) (one_years body h.0 k.0 h.1 k.1) ∙ sym k.2
 one_asked (of_deposit collection class accession closed) body a b h k = h ∙ sym k
 one_asked of_hold body a b h k = h.2 ∙ ap hold_asked (one_hold body h.0 k.0 h.1 k.1) ∙ sym k.2
 one_asked (of_all known) body a b h k = h.1 ∙ sym k.1
 
-abbrev deposit_question : DepositQuery → Question
+abbrev deposit_question : DepositQuery → RouteQuestion
 deposit_question deposit = of_deposit deposit.collection deposit.class deposit.accession deposit.closed
 
-abbrev list_question : Listing → Question
+abbrev list_question : Listing → RouteQuestion
 list_question listing = of_all (list_deposits listing.collection listing.class)
 
-one_question : (route : RouteValue) (query : List ℕ) (a b : Question) → QueryAsks route query a → QueryAsks route query b → a ≡ b
+one_question : (route : RouteValue) (query : List ℕ) (a b : RouteQuestion) → QueryAsks route query a → QueryAsks route query b → a ≡ b
 one_question (routes.define_class name) query a b h k = h.1 ∙ sym k.1
 one_question (routes.define_collection name) query a b h k = h.1 ∙ sym k.1
-one_question routes.deposit_bag query a b h k = h.2 ∙ ap deposit_question (one_deposit_query (pairs_of query) h.0 k.0 h.1 k.1) ∙ sym k.2
-one_question routes.list_deposits query a b h k = h.2 ∙ ap list_question (one_listing (pairs_of query) h.0 k.0 h.1 k.1) ∙ sym k.2
+one_question routes.deposit_bag query a b h k = h.2 ∙ ap deposit_question (one_deposit_query (query_pairs query) h.0 k.0 h.1 k.1) ∙ sym k.2
+one_question routes.list_deposits query a b h k = h.2 ∙ ap list_question (one_listing (query_pairs query) h.0 k.0 h.1 k.1) ∙ sym k.2
 one_question (routes.record_of number) query a b h k = h.1 ∙ sym k.1
 one_question (routes.dispose number) query a b h k = h.1 ∙ sym k.1
 one_question (routes.holds_of number) query a b h k = h.1 ∙ sym k.1
@@ -46,13 +46,13 @@ one_question routes.place_hold query a b h k = h.1 ∙ sym k.1
 one_question (routes.release number) query a b h k = h.1 ∙ sym k.1
 one_question routes.due_list query a b h k = h.1 ∙ sym k.1
 
-one_body : (caller : Option (List ℕ)) (question : Question) (body : List ℕ) (a b : Hearing) → HearsBody caller question body a → HearsBody caller question body b → a ≡ b
+one_body : (caller : Option (List ℕ)) (question : RouteQuestion) (body : List ℕ) (a b : Hearing) → HearsBody caller question body a → HearsBody caller question body b → a ≡ b
 one_body caller question body a b (inl h) (inl k) = h.2 ∙ ap (λ asked. Ok (record { caller = caller_text caller; asked = asked })) (one_asked question body h.0 k.0 h.1 k.1) ∙ sym k.2
 one_body caller question body a b (inl h) (inr k) = absurd (k.0 h.0 h.1)
 one_body caller question body a b (inr h) (inl k) = absurd (h.0 k.0 k.1)
 one_body caller question body a b (inr h) (inr k) = h.1 ∙ sym k.1
 
-one_rest : (caller : Option (List ℕ)) (question : Question) (count : ℕ) (rest : List ℕ) (a b : Hearing) → HearsRest caller question count rest a → HearsRest caller question count rest b → a ≡ b
+one_rest : (caller : Option (List ℕ)) (question : RouteQuestion) (count : ℕ) (rest : List ℕ) (a b : Hearing) → HearsRest caller question count rest a → HearsRest caller question count rest b → a ≡ b
 one_rest caller question count rest a b (inl h) (inl k) = one_body caller question (take count rest) a b h.1 k.1
 one_rest caller question count rest a b (inl h) (inr k) = absurd (let fits = h.0 in let short = k.0 in omega arith)
 one_rest caller question count rest a b (inr h) (inl k) = absurd (let fits = k.0 in let short = h.0 in omega arith)

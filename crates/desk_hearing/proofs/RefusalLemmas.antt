@@ -3,10 +3,10 @@ use Rattle.std.proofs.Common.{◌≡◌, ℕ, ◌≤◌, ◌⊎◌, inl, inr, Li
 use Rattle.std.specs.Prelude.{Result, ok_or, option_and_then}
 use Rattle.std.proofs.lemmas.List.{take-append-drop, length-take-le}
 use Rattle.std.proofs.Math.Seq.{take-append_seam, drop-append_seam}
-use Rattle.desk_devices.specs.Heads.{head_at, IsHead}
-use Rattle.desk_devices.specs.declared.place.HeadPlace.{HeadPlace}
-use Rattle.desk_devices.specs.declared.place.HeadPlace.TheVariants as places
-use Rattle.desk_devices.proofs.HeadLaws.{found_first, first_found, short_none, none_short, large_none, none_large}
+use Rattle.desk_heads.specs.Ends.{head_at, IsHeadEnd}
+use Rattle.desk_heads.specs.declared.place.HeadPlace.{HeadPlace}
+use Rattle.desk_heads.specs.declared.place.HeadPlace.TheVariants as places
+use Rattle.desk_heads.proofs.EndLaws.{found_first, first_found, short_none, none_short, large_none, none_large}
 use Rattle.desk_heads.specs.Heads.{HeadContents, Judges}
 use Rattle.desk_heads.specs.declared.refusal.HeadRefusal.{HeadRefusal}
 use Rattle.desk_heads.specs.declared.refusal.HeadRefusal.TheVariants as heads
@@ -20,7 +20,7 @@ use Rattle.desk_routes.specs.declared.pattern.Pattern.{Pattern}
 use Rattle.desk_routes.specs.declared.refusal.DeskRefusal.{DeskRefusal}
 use Rattle.desk_routes.specs.declared.refusal.DeskRefusal.TheVariants.{TooLarge, Truncated, BadHead, Chunked, BadLength, TwoCallers, NoRoute, Method, BadQuery, BadBody}
 use Rattle.desk_routes.proofs.TableLemmas.{asked-found, nothing-named, named-nothing, method-refused, refused-method}
-use Rattle.desk_hearing.specs.Asking.{Question}
+use Rattle.desk_hearing.specs.Asking.{RouteQuestion}
 use Rattle.desk_hearing.specs.Hearing.{Hearing, refusal_of_head, HearsBody, HearsRest, HearsQuery, route_asked, HearsRoute, HearsHead, HearsFront, HearsAt, Hears}
 use Rattle.desk_hearing.specs.Refused.{BeginsWithHead, TakesHead, TakesRoute, TakesQuery, RefusesHead, IsRefused}
 use Rattle.desk_hearing.proofs.HearingLemmas.{hears_large, hears_short}
@@ -57,7 +57,7 @@ route_fault input contents rest refusal took e = elim (place_fault contents.meth
   | inr some ↦ refused_as input refusal (Method some.0) some.1 (contents, rest, took, method-refused contents.method (path_part contents.target) some.0 (e ∙ ap Err some.1))
 ]
 
-refused_body : (input : List ℕ) (contents : HeadContents) (question : Question) (rest : List ℕ) (refusal : DeskRefusal) → TakesQuery input contents question rest
+refused_body : (input : List ℕ) (contents : HeadContents) (question : RouteQuestion) (rest : List ℕ) (refusal : DeskRefusal) → TakesQuery input contents question rest
     → contents.body_length ≤ length rest → HearsBody contents.caller question (take contents.body_length rest) (Err refusal) → IsRefused input refusal
 refused_body input contents question rest refusal asks fits (inl h) = absurd (let e = h.2 in cc)
 refused_body input contents question rest refusal asks fits (inr h) =
@@ -75,7 +75,7 @@ refused_body input contents question rest refusal asks fits (inr h) =
       h.0,
     )
 
-refused_rest : (input : List ℕ) (contents : HeadContents) (question : Question) (rest : List ℕ) (refusal : DeskRefusal) → TakesQuery input contents question rest
+refused_rest : (input : List ℕ) (contents : HeadContents) (question : RouteQuestion) (rest : List ℕ) (refusal : DeskRefusal) → TakesQuery input contents question rest
     → HearsRest contents.caller question contents.body_length rest (Err refusal) → IsRefused input refusal
 refused_rest input contents question rest refusal asks (inl h) = refused_body input contents question rest refusal asks h.0 h.1
 refused_rest input contents question rest refusal asks (inr h) =
@@ -110,7 +110,7 @@ refused_head input head rest refusal begins (Err fault) judged h =
 begins_found : (input : List ℕ) (n : ℕ) → head_at input ≡ places.Found n → BeginsWithHead input (take n input) (drop n input)
 begins_found input n found = let is = found_first input n found in record {
   parts = sym (take-append-drop n input);
-  is = subst (IsHead input) (sym (length-take-le n input is.within)) is;
+  is = subst (IsHeadEnd input) (sym (length-take-le n input is.within)) is;
 }
 
 refused_at : (input : List ℕ) (refusal : DeskRefusal) (place : HeadPlace) → head_at input ≡ place → HearsAt place input (Err refusal) → IsRefused input refusal
@@ -152,11 +152,11 @@ hears_query input contents route rest hearing found h =
     hears_parts input took.head rest hearing took.begins (Ok contents, took.says, subst (λ r. HearsRoute contents r rest hearing) (sym asked) h)
 
 -- an input that asks a question is heard as what follows its head is
-hears_rest : (input : List ℕ) (contents : HeadContents) (question : Question) (rest : List ℕ) (hearing : Hearing) → TakesQuery input contents question rest
+hears_rest : (input : List ℕ) (contents : HeadContents) (question : RouteQuestion) (rest : List ℕ) (hearing : Hearing) → TakesQuery input contents question rest
     → HearsRest contents.caller question contents.body_length rest hearing → Hears input hearing
 hears_rest input contents question rest hearing asks h = hears_query input contents asks.route rest hearing asks.found (inl (question, asks.query, h))
 
-whole_body : (caller : Option (List ℕ)) (question : Question) (body behind : List ℕ) (count : ℕ) (hearing : Hearing) → length body ≡ count
+whole_body : (caller : Option (List ℕ)) (question : RouteQuestion) (body behind : List ℕ) (count : ℕ) (hearing : Hearing) → length body ≡ count
     → HearsBody caller question body hearing → HearsRest caller question count (body ++ behind) hearing
 whole_body caller question body behind count hearing e h =
     let fits : count ≤ length (body ++ behind) = (let l = length-append body behind in omega arith) in

@@ -3,25 +3,25 @@ use Rattle.std.proofs.Common.{◌≡◌, ℕ, ◌≤◌, inl, inr, List, ◌++�
 use Rattle.std.specs.Prelude.{Result}
 use Rattle.std.proofs.lemmas.List.{take-append-drop, length-take-le}
 use Rattle.std.proofs.Math.Seq.{take-append_seam, drop-append_seam}
-use Rattle.desk_devices.specs.Heads.{head_at, IsHead}
-use Rattle.desk_devices.specs.declared.place.HeadPlace.{HeadPlace}
-use Rattle.desk_devices.specs.declared.place.HeadPlace.TheVariants as places
-use Rattle.desk_devices.proofs.HeadLaws.{found_first, first_found}
+use Rattle.desk_heads.specs.Ends.{head_at, IsHeadEnd}
+use Rattle.desk_heads.specs.declared.place.HeadPlace.{HeadPlace}
+use Rattle.desk_heads.specs.declared.place.HeadPlace.TheVariants as places
+use Rattle.desk_heads.proofs.EndLaws.{found_first, first_found}
 use Rattle.desk_heads.specs.Heads.{HeadContents, Judges}
 use Rattle.desk_heads.specs.declared.refusal.HeadRefusal.{HeadRefusal}
-use Rattle.desk_routes.specs.Table.{RouteValue, Asks}
+use Rattle.desk_routes.specs.Table.{RouteValue, AsksFor}
 use Rattle.desk_routes.specs.Targets.{path_part, query_part}
 use Rattle.desk_routes.specs.declared.refusal.DeskRefusal.{DeskRefusal}
 use Rattle.desk_routes.proofs.TableLemmas.{asked-found, found-asked}
 use Rattle.desk_hearing.specs.Asked.{HeardValue, caller_text}
-use Rattle.desk_hearing.specs.Asking.{Question, QueryAsks, BodyAsks}
+use Rattle.desk_hearing.specs.Asking.{RouteQuestion, QueryAsks, BodyAsks}
 use Rattle.desk_hearing.specs.Hearing.{HearsBody, HearsRest, HearsQuery, route_asked, HearsRoute, HearsHead, HearsFront, HearsAt, Hears}
 use Rattle.desk_hearing.specs.Requests.{SpellsRequest}
 use Rattle.desk_hearing.proofs.JudgingLemmas.{asked_route}
 
 -- ---- what is heard is a request
 
-heard_body : (caller : Option (List ℕ)) (question : Question) (body : List ℕ) (heard : HeardValue) → HearsBody caller question body (Ok heard)
+heard_body : (caller : Option (List ℕ)) (question : RouteQuestion) (body : List ℕ) (heard : HeardValue) → HearsBody caller question body (Ok heard)
     → BodyAsks question body heard.asked × (heard.caller ≡ caller_text caller)
 heard_body caller question body heard (inl h) =
     let e = h.2 in
@@ -29,13 +29,13 @@ heard_body caller question body heard (inl h) =
     (subst (BodyAsks question body) (sym (ap (λ v. v.asked) same)) h.1, ap (λ v. v.caller) same)
 heard_body caller question body heard (inr h) = absurd (let e = h.1 in cc)
 
-heard_rest : (caller : Option (List ℕ)) (question : Question) (count : ℕ) (rest : List ℕ) (heard : HeardValue) → HearsRest caller question count rest (Ok heard)
+heard_rest : (caller : Option (List ℕ)) (question : RouteQuestion) (count : ℕ) (rest : List ℕ) (heard : HeardValue) → HearsRest caller question count rest (Ok heard)
     → (count ≤ length rest) × HearsBody caller question (take count rest) (Ok heard)
 heard_rest caller question count rest heard (inl h) = h
 heard_rest caller question count rest heard (inr h) = absurd (let e = h.1 in cc)
 
 heard_query : (contents : HeadContents) (route : RouteValue) (rest : List ℕ) (heard : HeardValue) → HearsQuery contents route rest (Ok heard)
-    → (question : Question) × QueryAsks route (query_part contents.target) question × HearsRest contents.caller question contents.body_length rest (Ok heard)
+    → (question : RouteQuestion) × QueryAsks route (query_part contents.target) question × HearsRest contents.caller question contents.body_length rest (Ok heard)
 heard_query contents route rest heard (inl h) = h
 heard_query contents route rest heard (inr h) = absurd (let e = h.1 in cc)
 
@@ -55,7 +55,7 @@ heard_at (places.Found n) input heard h = (n, refl, h)
 heard_at places.TooLarge input heard h = absurd (cc)
 heard_at places.Short input heard h = absurd (cc)
 
-pub route_asks : (contents : HeadContents) (route : RouteValue) → route_asked contents ≡ Ok route → Asks contents.method (path_part contents.target) route
+pub route_asks : (contents : HeadContents) (route : RouteValue) → route_asked contents ≡ Ok route → AsksFor contents.method (path_part contents.target) route
 unfolding route_asked
 route_asks contents route e = found-asked contents.method (path_part contents.target) route e
 
@@ -78,7 +78,7 @@ heard_spells input heard h =
       body = take contents.body_length rest;
       behind = drop contents.body_length rest;
       parts = sym (take-append-drop n input) ∙ ap (λ l. take n input ++ l) (sym (take-append-drop contents.body_length rest));
-      head = subst (IsHead input) (sym (length-take-le n input is.within)) is;
+      head = subst (IsHeadEnd input) (sym (length-take-le n input is.within)) is;
       contents = contents;
       says = subst (Judges (take n input)) head.1 front.1;
       caller = said.1;
@@ -92,7 +92,7 @@ heard_spells input heard h =
 
 -- ---- a request is heard
 
-spelled_body : (caller : Option (List ℕ)) (question : Question) (body behind : List ℕ) (count : ℕ) (heard : HeardValue) → length body ≡ count → BodyAsks question body heard.asked → heard.caller ≡ caller_text caller
+spelled_body : (caller : Option (List ℕ)) (question : RouteQuestion) (body behind : List ℕ) (count : ℕ) (heard : HeardValue) → length body ≡ count → BodyAsks question body heard.asked → heard.caller ≡ caller_text caller
     → HearsRest caller question count (body ++ behind) (Ok heard)
 spelled_body caller question body behind count heard e asked same =
     let fits : count ≤ length (body ++ behind) = (let l = length-append body behind in omega arith) in

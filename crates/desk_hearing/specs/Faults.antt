@@ -1,8 +1,8 @@
 -- The faults of the crates below, as this one answers them: Depot's own, as they are.
 use Rattle.desk_devices.specs.declared.filling.FillFault.{FillFault}
 use Rattle.desk_devices.specs.declared.filling.FillFault.TheVariants as fills
-use Rattle.desk_devices.specs.declared.head.HeadFault.{HeadFault}
-use Rattle.desk_devices.specs.declared.head.HeadFault.TheVariants as heads
+use Rattle.desk_heads.specs.declared.reading.HeadFault.{HeadFault}
+use Rattle.desk_heads.specs.declared.reading.HeadFault.TheVariants as heads
 use Rattle.desk_forms.specs.declared.body.BodyFault.{BodyFault}
 use Rattle.desk_forms.specs.declared.body.BodyFault.TheVariants as bodies
 use Rattle.desk_forms.specs.declared.query.QueryFault.{QueryFault}

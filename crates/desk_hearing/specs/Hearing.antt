@@ -1,8 +1,8 @@
 -- What is heard of a whole input: who asks what, or the first refusal in the order of the steps. RFC 9112, section 2.1, has the message: a head and a body. The steps and their order are Depot's own.
 use Rattle.std.specs.Prelude.{◌≡◌, ◌≤◌, ◌<◌, ◌⊎◌, ℕ, List, length, take, drop, Option, Result, Ok, Err}
-use Rattle.desk_devices.specs.Heads.{head_at}
-use Rattle.desk_devices.specs.declared.place.HeadPlace.{HeadPlace}
-use Rattle.desk_devices.specs.declared.place.HeadPlace.TheVariants as places
+use Rattle.desk_heads.specs.Ends.{head_at}
+use Rattle.desk_heads.specs.declared.place.HeadPlace.{HeadPlace}
+use Rattle.desk_heads.specs.declared.place.HeadPlace.TheVariants as places
 use Rattle.desk_heads.specs.Heads.{HeadContents, Judges}
 use Rattle.desk_heads.specs.declared.refusal.HeadRefusal.{HeadRefusal}
 use Rattle.desk_heads.specs.declared.refusal.HeadRefusal.TheVariants as heads
@@ -11,7 +11,7 @@ use Rattle.desk_routes.specs.Targets.{path_part, query_part}
 use Rattle.desk_routes.specs.declared.refusal.DeskRefusal.{DeskRefusal}
 use Rattle.desk_routes.specs.declared.refusal.DeskRefusal.TheVariants.{TooLarge, Truncated, BadHead, Chunked, BadLength, TwoCallers, BadQuery, BadBody}
 use Rattle.desk_hearing.specs.Asked.{Asked, HeardValue, caller_text}
-use Rattle.desk_hearing.specs.Asking.{Question, QueryAsks, BodyAsks}
+use Rattle.desk_hearing.specs.Asking.{RouteQuestion, QueryAsks, BodyAsks}
 
 -- who asks what, or why that is refused
 abbrev pub Hearing : Type 0
@@ -26,13 +26,13 @@ refusal_of_head heads.TooLarge = TooLarge
 refusal_of_head heads.TwoCallers = TwoCallers
 
 -- the body: it asks something, or is refused
-abbrev pub HearsBody : Option (List ℕ) → Question → List ℕ → Hearing → Type 0
+abbrev pub HearsBody : Option (List ℕ) → RouteQuestion → List ℕ → Hearing → Type 0
 HearsBody caller question body hearing =
     ((asked : Asked) × BodyAsks question body asked × (hearing ≡ Ok (record { caller = caller_text caller; asked = asked })))
     ⊎ (((asked : Asked) → BodyAsks question body asked → ⊥) × (hearing ≡ Err BadBody))
 
 -- the end of the body: it has come, or the input ends before; bytes after the body are ignored
-abbrev pub HearsRest : Option (List ℕ) → Question → ℕ → List ℕ → Hearing → Type 0
+abbrev pub HearsRest : Option (List ℕ) → RouteQuestion → ℕ → List ℕ → Hearing → Type 0
 HearsRest caller question count rest hearing =
     ((count ≤ length rest) × HearsBody caller question (take count rest) hearing)
     ⊎ ((length rest < count) × (hearing ≡ Err Truncated))
@@ -40,8 +40,8 @@ HearsRest caller question count rest hearing =
 -- the query: it is as the route says, or is refused
 abbrev pub HearsQuery : HeadContents → RouteValue → List ℕ → Hearing → Type 0
 HearsQuery contents route rest hearing =
-    ((question : Question) × QueryAsks route (query_part contents.target) question × HearsRest contents.caller question contents.body_length rest hearing)
-    ⊎ (((question : Question) → QueryAsks route (query_part contents.target) question → ⊥) × (hearing ≡ Err BadQuery))
+    ((question : RouteQuestion) × QueryAsks route (query_part contents.target) question × HearsRest contents.caller question contents.body_length rest hearing)
+    ⊎ (((question : RouteQuestion) → QueryAsks route (query_part contents.target) question → ⊥) × (hearing ≡ Err BadQuery))
 
 -- the route that a head asks for, or why there is none
 unfoldable pub route_asked : HeadContents → Result RouteValue DeskRefusal

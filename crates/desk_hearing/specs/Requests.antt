@@ -1,11 +1,11 @@
 -- An input that is a request, in its parts: a head and a body (RFC 9112, section 2.1), and what follows them, which the desk passes over by a rule of its own.
 use Rattle.std.specs.Prelude.{◌≡◌, ℕ, List, ◌++◌, length, Ok}
-use Rattle.desk_devices.specs.Heads.{IsHead}
+use Rattle.desk_heads.specs.Ends.{IsHeadEnd}
 use Rattle.desk_heads.specs.Heads.{HeadContents, Judges}
-use Rattle.desk_routes.specs.Table.{RouteValue, Asks}
+use Rattle.desk_routes.specs.Table.{RouteValue, AsksFor}
 use Rattle.desk_routes.specs.Targets.{path_part, query_part}
 use Rattle.desk_hearing.specs.Asked.{HeardValue, caller_text}
-use Rattle.desk_hearing.specs.Asking.{Question, QueryAsks, BodyAsks}
+use Rattle.desk_hearing.specs.Asking.{RouteQuestion, QueryAsks, BodyAsks}
 
 -- the input begins with a head and as long a body as the head announces, which ask this together
 pub record SpellsRequest (input : List ℕ) (heard : HeardValue) : Type 0 where
@@ -13,13 +13,13 @@ pub record SpellsRequest (input : List ℕ) (heard : HeardValue) : Type 0 where
   pub body : List ℕ
   pub behind : List ℕ
   pub parts : input ≡ front ++ (body ++ behind)
-  pub head : IsHead input (length front)
+  pub head : IsHeadEnd input (length front)
   pub contents : HeadContents
   pub says : Judges front (Ok contents)
   pub caller : heard.caller ≡ caller_text contents.caller
   pub route : RouteValue
-  pub asks : Asks contents.method (path_part contents.target) route
-  pub question : Question
+  pub asks : AsksFor contents.method (path_part contents.target) route
+  pub question : RouteQuestion
   pub query : QueryAsks route (query_part contents.target) question
   pub body_length : length body ≡ contents.body_length
   pub asked : BodyAsks question body heard.asked

@@ -15,7 +15,7 @@ use Rattle.desk_hearing.specs.declared.question.Question.TheVariants as question
 use Rattle.desk_hearing.specs.declared.judging.Announced.{Announced}
 
 -- what is asked so far; no question of the code holds a deposit's bag, so an `Ask` is seen with no body
-abbrev pub question_seen : Question → asking.Question
+abbrev pub question_seen : Question → asking.RouteQuestion
 question_seen (questions.Class name) = of_class name
 question_seen (questions.Deposit query) = of_deposit query.collection query.class query.accession query.closed
 question_seen questions.Hold = of_hold
@@ -24,11 +24,11 @@ question_seen (questions.Whole ask) = of_all (asked_with ask [])
 -- the query of a route asks this, or nothing, memory aside
 abbrev pub AnswersQuery : RouteValue → List ℕ → Result Question JudgingFault → Type 0
 AnswersQuery route query (Ok question) = QueryAsks route query (question_seen question)
-AnswersQuery route query (Err (faults.Refused refusal)) = (refusal ≡ BadQuery) × ((question : asking.Question) → QueryAsks route query question → ⊥)
+AnswersQuery route query (Err (faults.Refused refusal)) = (refusal ≡ BadQuery) × ((question : asking.RouteQuestion) → QueryAsks route query question → ⊥)
 AnswersQuery route query (Err faults.Memory) = ⊤
 
 -- the body asks this, or nothing, memory aside
-abbrev pub AnswersBody : asking.Question → List ℕ → Result Ask JudgingFault → Type 0
+abbrev pub AnswersBody : asking.RouteQuestion → List ℕ → Result Ask JudgingFault → Type 0
 AnswersBody question body (Ok ask) = BodyAsks question body (asked_with ask body)
 AnswersBody question body (Err (faults.Refused refusal)) = (refusal ≡ BadBody) × ((asked : Asked) → BodyAsks question body asked → ⊥)
 AnswersBody question body (Err faults.Memory) = ⊤
@@ -49,7 +49,7 @@ IsRefusedQuery routes.list_deposits query = ⊥
 IsRefusedQuery route query = HasNoPair query → ⊥
 
 -- a body that is no text where JSON is asked for, or one where none is
-abbrev pub IsRefusedBody : asking.Question → List ℕ → Type 0
+abbrev pub IsRefusedBody : asking.RouteQuestion → List ℕ → Type 0
 IsRefusedBody (of_class name) body = IsUtf8 body → ⊥
 IsRefusedBody of_hold body = IsUtf8 body → ⊥
 IsRefusedBody (of_deposit collection class accession closed) body = ⊥

@@ -1,8 +1,8 @@
 //! Why a request isn't heard.
 
-use desk_devices::{FillFault, HeadFault};
+use desk_devices::FillFault;
 use desk_forms::{BodyFault, QueryFault};
-use desk_heads::HeadRefusal;
+use desk_heads::{HeadFault, HeadRefusal};
 use desk_routes::DeskRefusal;
 use std::alloc::AllocError;
 

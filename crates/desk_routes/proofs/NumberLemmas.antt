@@ -9,7 +9,7 @@ use Rattle.std.specs.Str.Parse.{digits_value, ParsesUnsigned}
 use Rattle.std.proofs.lemmas.Str.Parse.{IsNumeralModel, IsDigitsTest, numerals_by_value, parse_gives, digits_value_short}
 use Rattle.std.proofs.lemmas.Fmt.{decimal_digit, digits_decimal, digits_value-decimal, decimal-digits_value, decimal_nonempty, length-decimal-le, first_decimal}
 use Rattle.desk_routes.specs.PathReading.{is_number, number_of}
-use Rattle.desk_routes.specs.Places.{IsNumber}
+use Rattle.desk_routes.specs.Places.{IsShortNumber}
 use Rattle.desk_routes.proofs.PartSpelling.{has_slash, IsPart}
 
 abbrev pub AreDigits : List ℕ → Type 0
@@ -60,10 +60,10 @@ pub number_is : (bs : List ℕ) → is_number bs ≡ true → number_of bs ≡ S
 number_is bs e = rw e refl
 
 -- what is read is how the number is written
-pub number-written : (bs : List ℕ) (n : ℕ) → number_of bs ≡ Some n → (bs ≡ decimal n) × IsNumber n
+pub number-written : (bs : List ℕ) (n : ℕ) → number_of bs ≡ Some n → (bs ≡ decimal n) × IsShortNumber n
 number-written bs n e = by (is_number bs) refl e
   where
-    by : (v : Bool) → is_number bs ≡ v → cond v (Some (digits_value 10 bs)) None ≡ Some n → (bs ≡ decimal n) × IsNumber n
+    by : (v : Bool) → is_number bs ≡ v → cond v (Some (digits_value 10 bs)) None ≡ Some n → (bs ≡ decimal n) × IsShortNumber n
     by true tested q =
         let s = says bs tested in
         let same : digits_value 10 bs ≡ n = cc in
@@ -75,7 +75,7 @@ first_is : (n : ℕ) → n < 2 ^ 64 → get_or (decimal n) 0 0 ≡ 48 → n ≡ 
 first_is n small e = elim (n == 0) as (λ v. (n == 0) ≡ v → n ≡ 0) [ true ↦ λ z. grind (arith, nat_tests) | false ↦ λ z. absurd (let pos : 0 < n = grind (arith, nat_tests) in let f = first_decimal n pos small in omega arith) ] refl
 
 -- how a number is written is read as it
-pub number-read : (n : ℕ) → IsNumber n → number_of (decimal n) ≡ Some n
+pub number-read : (n : ℕ) → IsShortNumber n → number_of (decimal n) ≡ Some n
 number-read n small =
     let fits : n < 2 ^ 64 = omega arith in
     let numeral : Numeral (decimal n) = record {
@@ -94,5 +94,5 @@ no_slash (b ∷ bs) d =
     let other : (b == 47) ≡ false = grind (arith, nat_tests) in
     rw other (no_slash bs f.1)
 
-pub number-part : (n : ℕ) → IsNumber n → IsPart (decimal n)
+pub number-part : (n : ℕ) → IsShortNumber n → IsPart (decimal n)
 number-part n small = let fits : n < 2 ^ 64 = omega arith in (decimal_nonempty n fits, no_slash (decimal n) (digits_decimal own n fits))

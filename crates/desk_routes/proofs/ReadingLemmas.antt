@@ -8,7 +8,7 @@ use Rattle.office_core.specs.Bounds.{max_name}
 use Rattle.office_core.specs.Names.{is_name, is_name_byte, IsName}
 use Rattle.desk_routes.specs.PathReading.{Parts, onto, cut, by_part, no_more, last_part, under_deposit, of_deposit, parts_of, name_of, number_of, place_by_parts, place_of, class, collection, deposit, holds_of_deposit, bag, audit, hold, file, deposits, holds, due}
 use Rattle.desk_routes.specs.Places as places
-use Rattle.desk_routes.specs.Places.{PlaceValue, path_of, IsPlace, IsNumber, Spells}
+use Rattle.desk_routes.specs.Places.{PlaceValue, path_of, IsPlace, IsShortNumber, SpellsPlace}
 use Rattle.desk_routes.proofs.PartSpelling.{path_by_parts, has_slash, IsPart, AreParts, SpellsParts}
 use Rattle.desk_routes.proofs.SpellingLemmas.{spelled}
 use Rattle.desk_routes.proofs.NumberLemmas.{number-written, number-read, number-part}
@@ -92,7 +92,7 @@ name-part name h =
 named : (f : List ℕ → PlaceValue) (name : List ℕ) → IsName name → option_map f (name_of name) ≡ Some (f name)
 named f name h = rw h refl
 
-numbered : (f : ℕ → PlaceValue) (number : ℕ) → IsNumber number → option_map f (number_of (decimal number)) ≡ Some (f number)
+numbered : (f : ℕ → PlaceValue) (number : ℕ) → IsShortNumber number → option_map f (number_of (decimal number)) ≡ Some (f number)
 numbered f number h = rw (number-read number h) refl
 
 read_by : (parts : Parts) (place : PlaceValue) → AreParts parts → place_by_parts parts ≡ Some place → place_of (path_by_parts parts) ≡ Some place
@@ -111,7 +111,7 @@ place-read places.holds h = refl
 place-read (places.hold n) h = read_by (hold (decimal n)) (places.hold n) (number-part n h) (numbered places.hold n h)
 place-read places.due h = refl
 
-pub spelling-read : (path : List ℕ) (place : PlaceValue) → Spells path place → place_of path ≡ Some place
+pub spelling-read : (path : List ℕ) (place : PlaceValue) → SpellsPlace path place → place_of path ≡ Some place
 spelling-read path place h = ap place_of h.0 ∙ place-read place h.1
 
 by_name : (f : List ℕ → PlaceValue) (name : List ℕ) (place : PlaceValue) → option_map f (name_of name) ≡ Some place → (f name ≡ place) × IsName name
@@ -121,33 +121,33 @@ by_name f name place e = by (is_name name) refl e
     by true is q = (let z = q in cc, is)
     by false is q = absurd (let z = q in cc)
 
-by_number : (f : ℕ → PlaceValue) (text : List ℕ) (place : PlaceValue) → option_map f (number_of text) ≡ Some place → (n : ℕ) × (f n ≡ place) × (text ≡ decimal n) × IsNumber n
+by_number : (f : ℕ → PlaceValue) (text : List ℕ) (place : PlaceValue) → option_map f (number_of text) ≡ Some place → (n : ℕ) × (f n ≡ place) × (text ≡ decimal n) × IsShortNumber n
 by_number f text place e = by (number_of text) refl e
   where
-    by : (o : Option ℕ) → number_of text ≡ o → option_map f o ≡ Some place → (n : ℕ) × (f n ≡ place) × (text ≡ decimal n) × IsNumber n
+    by : (o : Option ℕ) → number_of text ≡ o → option_map f o ≡ Some place → (n : ℕ) × (f n ≡ place) × (text ≡ decimal n) × IsShortNumber n
     by None is q = absurd (let z = q in cc)
     by (Some n) is q = let w = number-written text n is in (n, let z = q in cc, w.0, w.1)
 
 -- a path whose parts are a name and numbers spells their place
-part_place : (path : List ℕ) (parts : Parts) (place : PlaceValue) → SpellsParts path parts → place_by_parts parts ≡ Some place → Spells path place
-part_place path (class name) place h e = let r = by_name places.class name place e in subst (Spells path) r.0 (h.0, r.1)
-part_place path (collection name) place h e = let r = by_name places.collection name place e in subst (Spells path) r.0 (h.0, r.1)
-part_place path deposits place h e = let same : places.deposits ≡ place = cc in subst (Spells path) same (h.0, tt)
-part_place path (deposit text) place h e = let r = by_number places.deposit text place e in subst (Spells path) r.1 (h.0 ∙ ap (λ t. codes "/deposits/" ++ t) r.2, r.3)
-part_place path (holds_of_deposit text) place h e = let r = by_number places.holds_of_deposit text place e in subst (Spells path) r.1 (h.0 ∙ ap (λ t. codes "/deposits/" ++ (t ++ codes "/holds")) r.2, r.3)
-part_place path (bag text) place h e = let r = by_number places.bag text place e in subst (Spells path) r.1 (h.0 ∙ ap (λ t. codes "/deposits/" ++ (t ++ codes "/bag")) r.2, r.3)
-part_place path (file text rest) place h e = let r = by_number (λ n. places.file n rest) text place e in subst (Spells path) r.1 (h.0 ∙ ap (λ t. codes "/deposits/" ++ (t ++ (codes "/files/" ++ rest))) r.2, (r.3, h.1.1))
-part_place path (audit text) place h e = let r = by_number places.audit text place e in subst (Spells path) r.1 (h.0 ∙ ap (λ t. codes "/deposits/" ++ (t ++ codes "/audit")) r.2, r.3)
-part_place path holds place h e = let same : places.holds ≡ place = cc in subst (Spells path) same (h.0, tt)
-part_place path (hold text) place h e = let r = by_number places.hold text place e in subst (Spells path) r.1 (h.0 ∙ ap (λ t. codes "/holds/" ++ t) r.2, r.3)
-part_place path due place h e = let same : places.due ≡ place = cc in subst (Spells path) same (h.0, tt)
+part_place : (path : List ℕ) (parts : Parts) (place : PlaceValue) → SpellsParts path parts → place_by_parts parts ≡ Some place → SpellsPlace path place
+part_place path (class name) place h e = let r = by_name places.class name place e in subst (SpellsPlace path) r.0 (h.0, r.1)
+part_place path (collection name) place h e = let r = by_name places.collection name place e in subst (SpellsPlace path) r.0 (h.0, r.1)
+part_place path deposits place h e = let same : places.deposits ≡ place = cc in subst (SpellsPlace path) same (h.0, tt)
+part_place path (deposit text) place h e = let r = by_number places.deposit text place e in subst (SpellsPlace path) r.1 (h.0 ∙ ap (λ t. codes "/deposits/" ++ t) r.2, r.3)
+part_place path (holds_of_deposit text) place h e = let r = by_number places.holds_of_deposit text place e in subst (SpellsPlace path) r.1 (h.0 ∙ ap (λ t. codes "/deposits/" ++ (t ++ codes "/holds")) r.2, r.3)
+part_place path (bag text) place h e = let r = by_number places.bag text place e in subst (SpellsPlace path) r.1 (h.0 ∙ ap (λ t. codes "/deposits/" ++ (t ++ codes "/bag")) r.2, r.3)
+part_place path (file text rest) place h e = let r = by_number (λ n. places.file n rest) text place e in subst (SpellsPlace path) r.1 (h.0 ∙ ap (λ t. codes "/deposits/" ++ (t ++ (codes "/files/" ++ rest))) r.2, (r.3, h.1.1))
+part_place path (audit text) place h e = let r = by_number places.audit text place e in subst (SpellsPlace path) r.1 (h.0 ∙ ap (λ t. codes "/deposits/" ++ (t ++ codes "/audit")) r.2, r.3)
+part_place path holds place h e = let same : places.holds ≡ place = cc in subst (SpellsPlace path) same (h.0, tt)
+part_place path (hold text) place h e = let r = by_number places.hold text place e in subst (SpellsPlace path) r.1 (h.0 ∙ ap (λ t. codes "/holds/" ++ t) r.2, r.3)
+part_place path due place h e = let same : places.due ≡ place = cc in subst (SpellsPlace path) same (h.0, tt)
 
-pub reading-spelled : (path : List ℕ) (place : PlaceValue) → place_of path ≡ Some place → Spells path place
+pub reading-spelled : (path : List ℕ) (place : PlaceValue) → place_of path ≡ Some place → SpellsPlace path place
 reading-spelled path place e = by (parts_of path) refl e
   where
-    by : (o : Option Parts) → parts_of path ≡ o → option_and_then place_by_parts o ≡ Some place → Spells path place
+    by : (o : Option Parts) → parts_of path ≡ o → option_and_then place_by_parts o ≡ Some place → SpellsPlace path place
     by None is q = absurd (let z = q in cc)
     by (Some parts) is q = part_place path parts place (spelled path parts is) q
 
-pub one-spelled : (path : List ℕ) (a b : PlaceValue) → Spells path a → Spells path b → a ≡ b
+pub one-spelled : (path : List ℕ) (a b : PlaceValue) → SpellsPlace path a → SpellsPlace path b → a ≡ b
 one-spelled path a b x y = let e : Some a ≡ Some b = sym (spelling-read path a x) ∙ spelling-read path b y in cc

@@ -11,9 +11,9 @@ use Rattle.desk_routes.specs.declared.pattern.Pattern.TheVariants as patterns
 use Rattle.desk_routes.specs.declared.refusal.DeskRefusal.{DeskRefusal}
 use Rattle.desk_routes.specs.declared.refusal.DeskRefusal.TheVariants as refusals
 use Rattle.desk_routes.specs.Routes.{method_text, methods_of}
-use Rattle.desk_routes.specs.Places.{PlaceValue, class, collection, deposits, deposit, holds_of_deposit, bag, file, audit, holds, hold, due, Spells, pattern_of}
+use Rattle.desk_routes.specs.Places.{PlaceValue, class, collection, deposits, deposit, holds_of_deposit, bag, file, audit, holds, hold, due, SpellsPlace, pattern_of}
 use Rattle.desk_routes.specs.PathReading.{place_of}
-use Rattle.desk_routes.specs.Table.{RouteValue, define_class, define_collection, deposit_bag, list_deposits, record_of, dispose, holds_of, download_bag, download_file, audit_of, place_hold, release, due_list, row, Asks, Refuses, route_at, method_of, route_of_place, route_of}
+use Rattle.desk_routes.specs.Table.{RouteValue, define_class, define_collection, deposit_bag, list_deposits, record_of, dispose, holds_of, download_bag, download_file, audit_of, place_hold, release, due_list, row, AsksFor, IsOtherMethod, route_at, method_of, route_of_place, route_of}
 use Rattle.desk_routes.proofs.ReadingLemmas.{spelling-read, reading-spelled}
 
 -- ---- rows
@@ -153,23 +153,23 @@ refused-gives : (found : Option RouteValue) (refusal : DeskRefusal) (route : Rou
 refused-gives None refusal route e = absurd (let z = e in cc)
 refused-gives (Some r) refusal route e = let z = e in cc
 
-pub asked-found : (method path : List ℕ) (route : RouteValue) → Asks method path route → route_of method path ≡ Ok route
+pub asked-found : (method path : List ℕ) (route : RouteValue) → AsksFor method path route → route_of method path ≡ Ok route
 asked-found method path route h =
     let place = spelling-read path (row route).1 h.1 in
     let word : method_of method ≡ Some (row route).0 = ap method_of h.0 ∙ method-read (row route).0 in
     rw place (rw word (rw (row-found route) refl))
 
-pub found-asked : (method path : List ℕ) (route : RouteValue) → route_of method path ≡ Ok route → Asks method path route
+pub found-asked : (method path : List ℕ) (route : RouteValue) → route_of method path ≡ Ok route → AsksFor method path route
 found-asked method path route e = by (place_of path) refl e
   where
     by_word : (place : PlaceValue) (word : Option Method) → place_of path ≡ Some place → method_of method ≡ word
-        → ok_or (option_and_then (λ m. route_at m place) word) (refusals.Method (pattern_of place)) ≡ Ok route → Asks method path route
+        → ok_or (option_and_then (λ m. route_at m place) word) (refusals.Method (pattern_of place)) ≡ Ok route → AsksFor method path route
     by_word place None is w q = absurd (let z = q in cc)
     by_word place (Some m) is w q =
         let r = row-only m place route (refused-gives (route_at m place) _ route q) in
-        (method-written method m w ∙ ap method_text (sym r.0), subst (Spells path) (sym r.1) (reading-spelled path place is))
+        (method-written method m w ∙ ap method_text (sym r.0), subst (SpellsPlace path) (sym r.1) (reading-spelled path place is))
 
-    by : (o : Option PlaceValue) → place_of path ≡ o → route_of_place method o ≡ Ok route → Asks method path route
+    by : (o : Option PlaceValue) → place_of path ≡ o → route_of_place method o ≡ Ok route → AsksFor method path route
     by None is q = absurd (let z = q in cc)
     by (Some place) is q = by_word place (method_of method) is refl q
 
@@ -177,11 +177,11 @@ no_route : (found : Option RouteValue) (pattern : Pattern) → ok_or found (refu
 no_route None pattern e = let z = e in cc
 no_route (Some r) pattern e = let z = e in cc
 
-pub nothing-named : (method path : List ℕ) → route_of method path ≡ Err refusals.NoRoute → (place : PlaceValue) → Spells path place → ⊥
+pub nothing-named : (method path : List ℕ) → route_of method path ≡ Err refusals.NoRoute → (place : PlaceValue) → SpellsPlace path place → ⊥
 nothing-named method path e place h =
     no_route (option_and_then (λ m. route_at m place) (method_of method)) (pattern_of place) (sym (ap (route_of_place method) (spelling-read path place h)) ∙ e)
 
-pub named-nothing : (method path : List ℕ) → ((place : PlaceValue) → Spells path place → ⊥) → route_of method path ≡ Err refusals.NoRoute
+pub named-nothing : (method path : List ℕ) → ((place : PlaceValue) → SpellsPlace path place → ⊥) → route_of method path ≡ Err refusals.NoRoute
 named-nothing method path h = by (place_of path) refl
   where
     by : (o : Option PlaceValue) → place_of path ≡ o → route_of_place method o ≡ Err refusals.NoRoute
@@ -192,10 +192,10 @@ refused-none : (found : Option RouteValue) (was pattern : Pattern) → ok_or fou
 refused-none None was pattern e = (refl, let z = e in cc)
 refused-none (Some r) was pattern e = absurd (let z = e in cc)
 
-pub method-refused : (method path : List ℕ) (pattern : Pattern) → route_of method path ≡ Err (refusals.Method pattern) → Refuses method path pattern
+pub method-refused : (method path : List ℕ) (pattern : Pattern) → route_of method path ≡ Err (refusals.Method pattern) → IsOtherMethod method path pattern
 method-refused method path pattern e = by (place_of path) refl e
   where
-    by : (o : Option PlaceValue) → place_of path ≡ o → route_of_place method o ≡ Err (refusals.Method pattern) → Refuses method path pattern
+    by : (o : Option PlaceValue) → place_of path ≡ o → route_of_place method o ≡ Err (refusals.Method pattern) → IsOtherMethod method path pattern
     by None is q = absurd (let z = q in cc)
     by (Some place) is q =
         let r = refused-none (option_and_then (λ m. route_at m place) (method_of method)) (pattern_of place) pattern q in (
@@ -211,7 +211,7 @@ method-refused method path pattern e = by (place_of path) refl e
               let z = both in cc,
         )
 
-pub refused-method : (method path : List ℕ) (pattern : Pattern) → Refuses method path pattern → route_of method path ≡ Err (refusals.Method pattern)
+pub refused-method : (method path : List ℕ) (pattern : Pattern) → IsOtherMethod method path pattern → route_of method path ≡ Err (refusals.Method pattern)
 refused-method method path pattern (place, spells, same, never) =
     ap (route_of_place method) (spelling-read path place spells) ∙ by_word (method_of method) refl
   where

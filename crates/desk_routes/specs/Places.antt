@@ -30,26 +30,26 @@ path_of (hold number) = codes "/holds/" ++ decimal number
 path_of due = codes "/due"
 
 -- a number of at most 7 digits
-abbrev pub IsNumber : ℕ → Type 0
-IsNumber number = number < 10_000_000
+abbrev pub IsShortNumber : ℕ → Type 0
+IsShortNumber number = number < 10_000_000
 
 -- names are names, numbers have at most 7 digits, and the path of a file is not empty
 abbrev pub IsPlace : PlaceValue → Type 0
 IsPlace (class name) = IsName name
 IsPlace (collection name) = IsName name
 IsPlace deposits = Unit {0}
-IsPlace (deposit number) = IsNumber number
-IsPlace (holds_of_deposit number) = IsNumber number
-IsPlace (bag number) = IsNumber number
-IsPlace (file number path) = IsNumber number × (0 < length path)
-IsPlace (audit number) = IsNumber number
+IsPlace (deposit number) = IsShortNumber number
+IsPlace (holds_of_deposit number) = IsShortNumber number
+IsPlace (bag number) = IsShortNumber number
+IsPlace (file number path) = IsShortNumber number × (0 < length path)
+IsPlace (audit number) = IsShortNumber number
 IsPlace holds = Unit {0}
-IsPlace (hold number) = IsNumber number
+IsPlace (hold number) = IsShortNumber number
 IsPlace due = Unit {0}
 
 -- the path is the spelling of this place, whose parts are in their ranges
-abbrev pub Spells : List ℕ → PlaceValue → Type 0
-Spells path place = (path ≡ path_of place) × IsPlace place
+abbrev pub SpellsPlace : List ℕ → PlaceValue → Type 0
+SpellsPlace path place = (path ≡ path_of place) × IsPlace place
 
 abbrev pub pattern_of : PlaceValue → Pattern
 pattern_of (class name) = patterns.Class

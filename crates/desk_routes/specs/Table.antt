@@ -7,7 +7,7 @@ use Rattle.desk_routes.specs.declared.pattern.Pattern.{Pattern}
 use Rattle.desk_routes.specs.declared.refusal.DeskRefusal.{DeskRefusal}
 use Rattle.desk_routes.specs.declared.refusal.DeskRefusal.TheVariants as refusals
 use Rattle.desk_routes.specs.Routes.{method_text, methods_of}
-use Rattle.desk_routes.specs.Places.{PlaceValue, class, collection, deposits, deposit, holds_of_deposit, bag, file, audit, holds, hold, due, Spells, pattern_of}
+use Rattle.desk_routes.specs.Places.{PlaceValue, class, collection, deposits, deposit, holds_of_deposit, bag, file, audit, holds, hold, due, SpellsPlace, pattern_of}
 use Rattle.desk_routes.specs.PathReading.{place_of}
 
 -- what a method asks of a place
@@ -38,13 +38,13 @@ row (release number) = (Delete, hold number)
 row due_list = (Get, due)
 
 -- this method on this path asks for this
-abbrev pub Asks : List ℕ → List ℕ → RouteValue → Type 0
-Asks method path route = (method ≡ method_text (row route).0) × Spells path (row route).1
+abbrev pub AsksFor : List ℕ → List ℕ → RouteValue → Type 0
+AsksFor method path route = (method ≡ method_text (row route).0) × SpellsPlace path (row route).1
 
 -- the path names a place of this pattern, and the method is none of those that such a place takes
-abbrev pub Refuses : List ℕ → List ℕ → Pattern → Type 0
-Refuses method path pattern =
-    (place : PlaceValue) × Spells path place × (pattern_of place ≡ pattern)
+abbrev pub IsOtherMethod : List ℕ → List ℕ → Pattern → Type 0
+IsOtherMethod method path pattern =
+    (place : PlaceValue) × SpellsPlace path place × (pattern_of place ≡ pattern)
     × ((allowed : Method) → Contains (methods_of pattern) allowed → method ≢ method_text allowed)
 
 -- ---- the same, found from the method and the path

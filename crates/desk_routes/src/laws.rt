@@ -8,21 +8,21 @@ ghost use Rattle.desk_routes.specs.declared.method.Method.{Method as AnyMethod};
 ghost use Rattle.desk_routes.specs.declared.pattern.Pattern.{Pattern as AnyPattern};
 ghost use Rattle.desk_routes.specs.declared.refusal.DeskRefusal.TheVariants.{NoRoute, Method};
 ghost use Rattle.desk_routes.specs.PathReading.{place_of};
-ghost use Rattle.desk_routes.specs.Places.{PlaceValue, Spells, pattern_of};
+ghost use Rattle.desk_routes.specs.Places.{PlaceValue, SpellsPlace, pattern_of};
 ghost use Rattle.desk_routes.specs.Routes.{method_text, methods_of};
-ghost use Rattle.desk_routes.specs.Table.{RouteValue, Asks, Refuses, row, route_at, route_of};
+ghost use Rattle.desk_routes.specs.Table.{RouteValue, AsksFor, IsOtherMethod, row, route_at, route_of};
 ghost use Rattle.desk_routes.specs.Targets.{Splits, path_part, query_part};
 
 /// A path is read as a place exactly where it is the spelling of that place.
 pub fn spelled_places()
     ensures { (path : List ℕ) (place : PlaceValue)
-        → (place_of path ≡ Some place) ↔ Spells path place }
+        → (place_of path ≡ Some place) ↔ SpellsPlace path place }
 {}
 
 /// A path is the spelling of one place at most.
 pub fn one_place()
     ensures { (path : List ℕ) (one other : PlaceValue)
-        → Spells path one → Spells path other → one ≡ other }
+        → SpellsPlace path one → SpellsPlace path other → one ≡ other }
 {}
 
 /// A method and a place give a route exactly where they are the route's row of the table.
@@ -51,11 +51,11 @@ pub fn methods_in_order()
 /// not take the method.
 pub fn asked_routes()
     ensures asked { (method path : List ℕ) (route : RouteValue)
-        → (route_of method path ≡ Ok route) ↔ Asks method path route }
+        → (route_of method path ≡ Ok route) ↔ AsksFor method path route }
     ensures nothing { (method path : List ℕ)
-        → (route_of method path ≡ Err NoRoute) ↔ ((place : PlaceValue) → ¬ (Spells path place)) }
+        → (route_of method path ≡ Err NoRoute) ↔ ((place : PlaceValue) → ¬ (SpellsPlace path place)) }
     ensures refused { (method path : List ℕ) (pattern : AnyPattern)
-        → (route_of method path ≡ Err (Method pattern)) ↔ Refuses method path pattern }
+        → (route_of method path ≡ Err (Method pattern)) ↔ IsOtherMethod method path pattern }
 {}
 
 /// A target has one path and one query.

@@ -1,10 +1,10 @@
 use Rattle.std.proofs.Common.{◌≡◌, map}
 use Rattle.form_urlencoded.specs.Parse.{raw_pairs_left}
-use Rattle.desk_forms.specs.Queries.{text_of, pairs_of}
+use Rattle.desk_forms.specs.Queries.{text_of, query_pairs}
 use Rattle.desk_forms.specs.QueryReading.{has_only}
 use Rattle.desk_forms.proofs.query.check_keys.Given as goal
 
 -- the pairs that are left decide
 abbrev pub invariant-pairs : goal.invariant-pairs
 invariant-pairs l =
-    has_only (map (λ key. key.now) l.keys) (map (λ p. (text_of p.0, text_of p.1)) (raw_pairs_left l.key-iterator)) ≡ has_only (map (λ key. key.now) l.keys) (pairs_of l.fn.query)
+    has_only (map (λ key. key.now) l.keys) (map (λ p. (text_of p.0, text_of p.1)) (raw_pairs_left l.key-iterator)) ≡ has_only (map (λ key. key.now) l.keys) (query_pairs l.fn.query)

@@ -2,9 +2,9 @@ use Rattle.std.proofs.Common.{◌≡◌, ◌++◌, map, option_map}
 use Rattle.std.specs.Option.{option_to_list}
 use Rattle.std.specs.Cow.{cow_str_bytes}
 use Rattle.form_urlencoded.specs.Parse.{raw_pairs_left}
-use Rattle.desk_forms.specs.Queries.{text_of, pairs_of, values_of}
+use Rattle.desk_forms.specs.Queries.{text_of, query_pairs, values_under}
 use Rattle.desk_forms.proofs.query.find_value.Given as goal
 
 abbrev pub invariant-pairs : goal.invariant-pairs
 invariant-pairs l =
-    option_to_list (option_map cow_str_bytes l.found) ++ values_of l.key (map (λ p. (text_of p.0, text_of p.1)) (raw_pairs_left l.name-iterator)) ≡ values_of l.key (pairs_of l.fn.query)
+    option_to_list (option_map cow_str_bytes l.found) ++ values_under l.key (map (λ p. (text_of p.0, text_of p.1)) (raw_pairs_left l.name-iterator)) ≡ values_under l.key (query_pairs l.fn.query)

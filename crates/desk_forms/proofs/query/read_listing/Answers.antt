@@ -1,6 +1,6 @@
 use Rattle.std.proofs.Common.{ℕ, List, [], ◌∷◌, codes, rules}
 use Rattle.std.proofs.lemmas.Bool.Decides.{not_from_Decides}
-use Rattle.desk_forms.specs.Queries.{pairs_of}
+use Rattle.desk_forms.specs.Queries.{query_pairs}
 use Rattle.desk_forms.proofs.QueryLemmas.{Decides-has_only}
 use Rattle.desk_forms.proofs.query.read_listing.Goals as goal
 
@@ -9,11 +9,11 @@ the_keys = codes "collection" ∷ (codes "class" ∷ [])
 
 pub returns-in_err-check_keys-clause-refused : goal.returns-in_err-check_keys-clause-refused
 returns-in_err-check_keys-clause-refused c = λ bad _ said.
-    not_from_Decides _ (Decides-has_only the_keys (pairs_of c.args.query.now)) (c.in_err-check_keys.ensures.refused (search rules)) said.keys
+    not_from_Decides _ (Decides-has_only the_keys (query_pairs c.args.query.now)) (c.in_err-check_keys.ensures.refused (search rules)) said.keys
 
 pub returns-clause-listing : goal.returns-clause-listing
 returns-clause-listing c = record {
-  keys = (Decides-has_only the_keys (pairs_of c.args.query.now)).0 c.in_ok-check_keys.ensures.taken;
+  keys = (Decides-has_only the_keys (query_pairs c.args.query.now)).0 c.in_ok-check_keys.ensures.taken;
   collection = c.in_ok-find_name.ensures.found;
   class = c.in_ok-find_name-2.ensures.found;
 }

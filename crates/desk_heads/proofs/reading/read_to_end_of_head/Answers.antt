@@ -1,8 +1,8 @@
 use Rattle.std.proofs.Common.{sym, ap, ◌∙◌, arith}
-use Rattle.desk_devices.specs.Heads.{head_at}
-use Rattle.desk_devices.specs.declared.place.HeadPlace.TheVariants.{TooLarge, Found}
-use Rattle.desk_devices.proofs.HeadLemmas.{short_room, whole_head, smaller_by, found_within}
-use Rattle.desk_devices.proofs.head.read_to_end_of_head.Goals as goal
+use Rattle.desk_heads.specs.Ends.{head_at}
+use Rattle.desk_heads.specs.declared.place.HeadPlace.TheVariants.{TooLarge, Found}
+use Rattle.desk_heads.proofs.EndLemmas.{short_room, whole_head, smaller_by, found_within}
+use Rattle.desk_heads.proofs.reading.read_to_end_of_head.Goals as goal
 
 pub returns-in-Found-clause-whole : goal.returns-in-Found-clause-whole
 returns-in-Found-clause-whole g c = whole_head _ _ c.reads.bytes.items (Found c.in-Found.n) c.reads.invariant.given (ap head_at (sym c.deref.ensures.value) ∙ sym c.in-Found.ensures) (λ e. cc)

@@ -1,8 +1,8 @@
 use Rattle.std.proofs.Common.{sym, ap, ◌∙◌}
 use Rattle.std.proofs.lemmas.List.{take_rest}
-use Rattle.desk_devices.specs.Heads.{end_after_line_feed}
-use Rattle.desk_devices.proofs.HeadLemmas.{one_later, this_end, no_end}
-use Rattle.desk_devices.proofs.place.end_of_head.Goals as goal
+use Rattle.desk_heads.specs.Ends.{end_after_line_feed}
+use Rattle.desk_heads.proofs.EndLemmas.{one_later, this_end, no_end}
+use Rattle.desk_heads.proofs.place.end_of_head.Goals as goal
 
 pub returns-in-Some : goal.returns-in-Some
 returns-in-Some c = this_end c.args.bytes.now c.loop-at.at c.in-Some.n (ap end_after_line_feed (sym (take_rest c.args.bytes.now c.loop-at.at)) ∙ sym c.in-Some.ensures.value) c.loop-at.invariant

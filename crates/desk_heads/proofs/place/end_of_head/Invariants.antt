@@ -1,7 +1,7 @@
 use Rattle.std.proofs.Common.{◌≡◌, ◌+◌, drop}
 use Rattle.std.specs.Prelude.{option_map}
-use Rattle.desk_devices.specs.Heads.{head_end}
-use Rattle.desk_devices.proofs.place.end_of_head.Given as goal
+use Rattle.desk_heads.specs.Ends.{head_end}
+use Rattle.desk_heads.proofs.place.end_of_head.Given as goal
 
 -- the end of the whole is that of what is left
 abbrev pub invariant-loop-at : goal.invariant-loop-at

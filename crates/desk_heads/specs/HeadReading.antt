@@ -1,11 +1,11 @@
 -- What a reader of a head answers. Where a head ends stands in `Heads`; the answers are Depot's own.
 use Rattle.std.specs.Prelude.{◌≡◌, ℕ, List, Option, Result, Ok, Err, ⊤}
 use Rattle.std.specs.Io.KnownBytes.{IsAtEnd}
-use Rattle.desk_devices.specs.Heads.{head_at}
-use Rattle.desk_devices.specs.declared.place.HeadPlace.TheVariants.{Short, TooLarge, Found}
-use Rattle.desk_devices.specs.declared.head.HeadFault.{HeadFault}
-use Rattle.desk_devices.specs.declared.head.HeadFault.TheVariants as faults
-use Rattle.desk_devices.specs.declared.head.RequestHead.{RequestHead}
+use Rattle.desk_heads.specs.Ends.{head_at}
+use Rattle.desk_heads.specs.declared.place.HeadPlace.TheVariants.{Short, TooLarge, Found}
+use Rattle.desk_heads.specs.declared.reading.HeadFault.{HeadFault}
+use Rattle.desk_heads.specs.declared.reading.HeadFault.TheVariants as faults
+use Rattle.desk_heads.specs.declared.reading.HeadBytes.{HeadBytes}
 
 -- of the bytes that it was given, and of what is left: an end of the input and a failure are told only where the bytes don't decide
 abbrev pub EndRead : List ℕ → Result ℕ HeadFault → Option (List ℕ) → Type 0
@@ -15,7 +15,7 @@ EndRead given (Err faults.Truncated) left = (head_at given ≡ Short) × IsAtEnd
 EndRead given (Err faults.Read) left = head_at given ≡ Short
 EndRead given (Err faults.Memory) left = ⊤
 
-abbrev pub HeadRead : List ℕ → Result RequestHead HeadFault → Option (List ℕ) → Type 0
+abbrev pub HeadRead : List ℕ → Result HeadBytes HeadFault → Option (List ℕ) → Type 0
 HeadRead given (Ok head) left = (head.bytes.items ≡ given) × EndRead given (Ok head.end) left
 HeadRead given (Err fault) left = EndRead given (Err fault) left
 
@@ -27,6 +27,6 @@ EndOf input (Err faults.Truncated) = head_at input ≡ Short
 EndOf input (Err faults.Read) = ⊤
 EndOf input (Err faults.Memory) = ⊤
 
-abbrev pub HeadOf : List ℕ → Result RequestHead HeadFault → Type 0
+abbrev pub HeadOf : List ℕ → Result HeadBytes HeadFault → Type 0
 HeadOf input (Ok head) = EndOf input (Ok head.end)
 HeadOf input (Err fault) = EndOf input (Err fault)

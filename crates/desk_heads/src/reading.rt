@@ -3,17 +3,17 @@
 ghost use Rattle.std.specs.Prelude.{◌≡◌, ◌≢◌, ◌<◌, ◌≤◌, ℕ, List, [], length, vec_len, Err, IfOk, OnOk, IfSome, IsSome};
 ghost use Rattle.std.specs.Io.KnownBytes.{Consumes};
 ghost use Rattle.desk_devices.specs.Devices.{HasFailed, device_of, failures_of, last_error_of};
-ghost use Rattle.desk_devices.specs.Heads.{max_head};
-ghost use Rattle.desk_devices.specs.HeadReading.{EndRead, EndOf, HeadRead, HeadOf};
+ghost use Rattle.desk_heads.specs.Bounds.{max_head};
+ghost use Rattle.desk_heads.specs.HeadReading.{EndRead, EndOf, HeadRead, HeadOf};
 
-use crate::counted::Counted;
 use crate::place::{HeadPlace, place_of_head};
+use desk_devices::Counted;
 use std::alloc::{AllocError, Global};
 use std::io::Read;
 
 /// The bytes of a request that have been read up to the end of its head, and perhaps further.
 #[derive(Debug, Drop)]
-pub struct RequestHead {
+pub struct HeadBytes {
     /// What the reader gave: the head, and perhaps a beginning of what follows it.
     pub bytes: Vec<u8>,
     /// How many bytes of it are the head.
@@ -35,7 +35,7 @@ pub enum HeadFault {
 
 impl From<AllocError> for HeadFault {
     ghost use Rattle.std.specs.Prelude.{◌≡◌};
-    ghost use Rattle.desk_devices.specs.declared.head.HeadFault.{HeadFault};
+    ghost use Rattle.desk_heads.specs.declared.reading.HeadFault.{HeadFault};
 
     ghost from_gives = { λ _ r. r ≡ HeadFault.Memory };
 
@@ -78,7 +78,7 @@ fn read_to_end_of_head<R: Read>(
 
 /// Reads until the bytes so far decide what the head is. From then on the reader isn't called:
 /// another call could fail, and only `Read`, which says that no head had come, allows a failure.
-pub fn read_head<R: Read>(alloc: Global, reader: &mut Counted<R>) -> Result<RequestHead, HeadFault>
+pub fn read_head<R: Read>(alloc: Global, reader: &mut Counted<R>) -> Result<HeadBytes, HeadFault>
     ensures given { result ≢ Err HeadFault.Memory → (given : List ℕ)
         × Consumes (R.remaining (device_of reader.old)) (R.remaining (device_of reader.new)) given
         × HeadRead given result (R.remaining (device_of reader.new)) }
@@ -91,5 +91,5 @@ pub fn read_head<R: Read>(alloc: Global, reader: &mut Counted<R>) -> Result<Requ
 {
     let mut bytes = Vec::new(alloc);
     let end = read_to_end_of_head(reader, &mut bytes)?;
-    Ok(RequestHead { bytes, end })
+    Ok(HeadBytes { bytes, end })
 }

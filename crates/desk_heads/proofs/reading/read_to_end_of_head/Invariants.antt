@@ -1,8 +1,8 @@
 use Rattle.std.proofs.Common.{◌≡◌, ◌-◌, length}
 use Rattle.std.specs.Io.KnownBytes.{Consumes}
 use Rattle.desk_devices.specs.Devices.{device_of, failures_of}
-use Rattle.desk_devices.specs.Heads.{max_head}
-use Rattle.desk_devices.proofs.head.read_to_end_of_head.Given as goal
+use Rattle.desk_heads.specs.Bounds.{max_head}
+use Rattle.desk_heads.proofs.reading.read_to_end_of_head.Given as goal
 
 -- what came stands in bytes, and no call has failed
 abbrev pub invariant-reads : goal.invariant-reads

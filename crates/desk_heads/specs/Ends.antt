@@ -1,19 +1,16 @@
 -- Where the head of a request ends. RFC 9112, section 2.1, ends a head with an empty line, and section 2.2 lets a line end with a
 -- bare LF. That the first such end counts, and the most bytes, are Depot's own rules.
 use Rattle.std.specs.Prelude.{◌≡◌, ℕ, suc, ◌<◌, ◌≤◌, ◌==◌, ◌⊎◌, nat_lt, List, [], ◌∷◌, ◌++◌, take, length, Option, Some, None, option_map, if◌then◌else◌}
-use Rattle.desk_devices.specs.declared.place.HeadPlace.{HeadPlace}
-use Rattle.desk_devices.specs.declared.place.HeadPlace.TheVariants.{Short, TooLarge, Found}
-
--- the most bytes of a head
-abbrev pub max_head : ℕ
-max_head = 8192
+use Rattle.desk_heads.specs.Bounds.{max_head}
+use Rattle.desk_heads.specs.declared.place.HeadPlace.{HeadPlace}
+use Rattle.desk_heads.specs.declared.place.HeadPlace.TheVariants.{Short, TooLarge, Found}
 
 -- the bytes end with LF LF or LF CR LF
 abbrev pub EndsWithEmptyLine : List ℕ → Type 0
 EndsWithEmptyLine bytes = (front : List ℕ) × ((bytes ≡ front ++ 10 ∷ 10 ∷ []) ⊎ (bytes ≡ front ++ 10 ∷ 13 ∷ 10 ∷ []))
 
 -- the head of the input is its first n bytes: the shortest front that ends so
-pub record IsHead (input : List ℕ) (n : ℕ) : Type 0 where
+pub record IsHeadEnd (input : List ℕ) (n : ℕ) : Type 0 where
   pub within : n ≤ length input
   pub few : n ≤ max_head
   pub ends : EndsWithEmptyLine (take n input)
@@ -45,10 +42,10 @@ unfoldable pub head_end : List ℕ → Option ℕ
 head_end [] = None
 head_end (b ∷ rest) = or_later (end_after_line_feed (b ∷ rest)) (option_map suc (head_end rest))
 
-abbrev pub place_of : Option ℕ → ℕ → HeadPlace
-place_of (Some n) len = Found n
-place_of None len = if nat_lt len max_head then Short else TooLarge
+abbrev pub head_place : Option ℕ → ℕ → HeadPlace
+head_place (Some n) len = Found n
+head_place None len = if nat_lt len max_head then Short else TooLarge
 
 -- where the head of an input ends, so far as it has come
 unfoldable pub head_at : List ℕ → HeadPlace
-head_at input = place_of (head_end (take max_head input)) (length input)
+head_at input = head_place (head_end (take max_head input)) (length input)

@@ -1,7 +1,8 @@
 //! Where the head of a request ends.
 
 ghost use Rattle.std.specs.Prelude.{◌≡◌, ◌≤◌, length, IfSome};
-ghost use Rattle.desk_devices.specs.Heads.{head_end, empty_line_length, end_after_line_feed, head_at, max_head};
+ghost use Rattle.desk_heads.specs.Bounds.{max_head};
+ghost use Rattle.desk_heads.specs.Ends.{head_end, empty_line_length, end_after_line_feed, head_at};
 
 /// Where the head of a request ends in the bytes that have come.
 #[derive(Clone, Copy, Debug, PartialEq, Eq)]
@@ -54,7 +55,7 @@ fn end_of_head(bytes: &[u8]) -> Option<usize>
 }
 
 /// Where the head of a request ends in the bytes that have come.
-#[tactic(auto, unfolding(crate::specs::Heads::head_at))]
+#[tactic(auto, unfolding(crate::specs::Ends::head_at))]
 pub fn place_of_head(bytes: &[u8]) -> HeadPlace
     ensures { result ≡ head_at bytes.now }
 {

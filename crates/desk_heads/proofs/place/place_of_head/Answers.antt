@@ -1,7 +1,7 @@
 use Rattle.std.proofs.Common.{arith}
 use Rattle.std.proofs.lemmas.Grind.{common_steps}
-use Rattle.desk_devices.proofs.HeadLemmas.{place_found, place_none}
-use Rattle.desk_devices.proofs.place.place_of_head.Goals as goal
+use Rattle.desk_heads.proofs.EndLemmas.{place_found, place_none}
+use Rattle.desk_heads.proofs.place.place_of_head.Goals as goal
 
 pub returns-in-Some : goal.returns-in-Some
 returns-in-Some c = place_found c.args.bytes.now c.min.result c.in-Some.n c.min.ensures c.in-Some.ensures

@@ -3,9 +3,10 @@ use Rattle.std.proofs.Common.{◌≡◌, ◌≢◌, ℕ, suc, zero, ◌<◌, ◌
 use Rattle.std.proofs.lemmas.List.{length-take, take-append-le, take-append-drop}
 use Rattle.std.proofs.lemmas.Bool.{cases_lt, eqb-true}
 use Rattle.std.specs.Prelude.{option_map}
-use Rattle.desk_devices.specs.declared.place.HeadPlace.TheVariants.{Short, TooLarge, Found}
-use Rattle.desk_devices.specs.Heads.{head_at, head_end, end_after_line_feed, or_later, max_head, place_of, EndsWithEmptyLine, IsHead, HasNoHead}
-use Rattle.desk_devices.proofs.HeadLemmas.{place_short, place_within, place_large, low_short, high_large, ends_here_more, suc_some, end_within, found_within}
+use Rattle.desk_heads.specs.declared.place.HeadPlace.TheVariants.{Short, TooLarge, Found}
+use Rattle.desk_heads.specs.Bounds.{max_head}
+use Rattle.desk_heads.specs.Ends.{head_at, head_end, end_after_line_feed, or_later, head_place, EndsWithEmptyLine, IsHeadEnd, HasNoHead}
+use Rattle.desk_heads.proofs.EndLemmas.{place_short, place_within, place_large, low_short, high_large, ends_here_more, suc_some, end_within, found_within}
 
 -- bytes that end so are two or more
 ends_long : (b : List ℕ) → EndsWithEmptyLine b → 2 ≤ length b
@@ -172,7 +173,7 @@ some_or_none None = inl refl
 some_or_none (Some m) = inr (m, refl)
 
 -- the law, both ways
-pub found_first : (b : List ℕ) (n : ℕ) → head_at b ≡ Found n → IsHead b n
+pub found_first : (b : List ℕ) (n : ℕ) → head_at b ≡ Found n → IsHeadEnd b n
 unfolding head_at
 found_first b n h =
     let w = found_within b n h in
@@ -184,7 +185,7 @@ found_first b n h =
       shortest = λ k less e. f.shortest k less (ends_front k b (let c = w.1 in omega arith) e);
     }
 
-least_is_one : (b : List ℕ) (m n : ℕ) → First (take max_head b) m → IsHead b n → m ≡ n
+least_is_one : (b : List ℕ) (m n : ℕ) → First (take max_head b) m → IsHeadEnd b n → m ≡ n
 least_is_one b m n f h = let few = h.few in elim (cases_lt m n) [
   | inl less ↦ absurd (h.shortest m less (ends_whole m b (omega arith) f.ends))
   | inr le ↦ elim (cases_lt n m) [
@@ -193,11 +194,11 @@ least_is_one b m n f h = let few = h.few in elim (cases_lt m n) [
   ]
 ]
 
-pub first_found : (b : List ℕ) (n : ℕ) → IsHead b n → head_at b ≡ Found n
+pub first_found : (b : List ℕ) (n : ℕ) → IsHeadEnd b n → head_at b ≡ Found n
 unfolding head_at
 first_found b n h = elim (some_or_none (head_end (take max_head b))) [
   | inl none ↦ absurd (none_ends (take max_head b) none n (ends_front n b h.few h.ends))
-  | inr s ↦ ap (λ o. place_of o (length b)) s.1 ∙ ap Found (least_is_one b s.0 n (first_end (take max_head b) s.0 s.1) h)
+  | inr s ↦ ap (λ o. head_place o (length b)) s.1 ∙ ap Found (least_is_one b s.0 n (first_end (take max_head b) s.0 s.1) h)
 ]
 
 none_of : (b : List ℕ) → head_end (take max_head b) ≡ None → HasNoHead b
@@ -210,7 +211,7 @@ of_none b h = elim (some_or_none (head_end (take max_head b))) [
       absurd (h s.0 few (ends_whole s.0 b few (first_end (take max_head b) s.0 s.1).ends)))
 ]
 
-no_place : (e : Option ℕ) (len : ℕ) → ((n : ℕ) → place_of e len ≢ Found n) → e ≡ None
+no_place : (e : Option ℕ) (len : ℕ) → ((n : ℕ) → head_place e len ≢ Found n) → e ≡ None
 no_place None len h = refl
 no_place (Some n) len h = absurd (h n refl)
 
@@ -220,7 +221,7 @@ short_none b h = (place_short (head_end (take max_head b)) (length b) h, none_of
 
 pub none_short : (b : List ℕ) → length b < max_head × HasNoHead b → head_at b ≡ Short
 unfolding head_at
-none_short b h = ap (λ o. place_of o (length b)) (of_none b h.1) ∙ low_short (length b) h.0
+none_short b h = ap (λ o. head_place o (length b)) (of_none b h.1) ∙ low_short (length b) h.0
 
 pub large_none : (b : List ℕ) → head_at b ≡ TooLarge → max_head ≤ length b × HasNoHead b
 unfolding head_at
@@ -228,4 +229,4 @@ large_none b h = (place_large (head_end (take max_head b)) (length b) h, none_of
 
 pub none_large : (b : List ℕ) → max_head ≤ length b × HasNoHead b → head_at b ≡ TooLarge
 unfolding head_at
-none_large b h = ap (λ o. place_of o (length b)) (of_none b h.1) ∙ high_large (length b) h.0
+none_large b h = ap (λ o. head_place o (length b)) (of_none b h.1) ∙ high_large (length b) h.0

@@ -1,5 +1,5 @@
-use Rattle.desk_devices.proofs.HeadLaws.{found_first, first_found, short_none, none_short, large_none, none_large}
-use Rattle.desk_devices.proofs.laws.shortest_front.Goals as goal
+use Rattle.desk_heads.proofs.EndLaws.{found_first, first_found, short_none, none_short, large_none, none_large}
+use Rattle.desk_heads.proofs.laws.shortest_front.Goals as goal
 
 pub returns-clause-found : goal.returns-clause-found
 returns-clause-found c = λ b n. (found_first b n, first_found b n)
