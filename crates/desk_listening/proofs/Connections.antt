@@ -20,12 +20,12 @@ use Rattle.desk_answers.specs.DeskRefusals.{allow_line, desk_data, desk_status}
 use Rattle.desk_answers.specs.Responses.{Content, json, response_text}
 use Rattle.desk_answers.specs.declared.status.Status.{Status}
 use Rattle.desk_hearing.specs.Hearing.{Hears}
-use Rattle.http_desk.specs.declared.serving.DeskFault.{DeskFault}
-use Rattle.http_desk.specs.declared.serving.DeskFault.TheVariants.{Read, Write, Memory}
-use Rattle.http_desk.specs.Serving.{IsAnswered, ServesBytes}
+use Rattle.desk_serving.specs.declared.serving.DeskFault.{DeskFault}
+use Rattle.desk_serving.specs.declared.serving.DeskFault.TheVariants.{Read, Write, Memory}
+use Rattle.desk_serving.specs.Serving.{IsAnswered, ServesBytes}
 use Rattle.desk_listening.specs.Listening.{Connection, served, refused, lost, IsAfter, IsAfterAll, IsOf, IsRun, Tells, answers_of, is_answered, is_served, items_of}
 use Rattle.desk_listening.specs.Accepting.{Takes, TakesAll}
-use Rattle.desk_listening.specs.Peers.{Begins, IsWritten}
+use Rattle.desk_listening.specs.Peers.{WritesBeginning, IsWritten}
 use Rattle.desk_listening.specs.declared.draining.Drained.{Drained}
 use Rattle.desk_listening.specs.declared.listener.Listener.{Ghosts as Listeners}
 
@@ -83,17 +83,17 @@ of_lost (Some input) = tt
 started : (status : Status) (allow : List ℕ) (content : Content) → 0 < length (response_text status allow content)
 started status allow content = omega arith
 
-unbegun : (held : Option (List ℕ)) (text : List ℕ) → 0 < length text → Begins held held text
+unbegun : (held : Option (List ℕ)) (text : List ℕ) → 0 < length text → WritesBeginning held held text
 unbegun None text some = (0, some, tt)
 unbegun (Some xs) text some = (0, some, sym (append-nil xs))
 
 -- a writer that wasn't called has written a beginning of each text: nothing
 uncalled : {W : Type 0} (contents : W → Option (List ℕ)) (writer writer' : Counted W) (text : List ℕ) → writer' ≡ writer → 0 < length text
-    → Begins (contents (device_of writer)) (contents (device_of writer')) text
-uncalled contents writer writer' text same some = subst (λ (x : Counted _). Begins (contents (device_of writer)) (contents (device_of x)) text) (sym same) (unbegun (contents (device_of writer)) text some)
+    → WritesBeginning (contents (device_of writer)) (contents (device_of writer')) text
+uncalled contents writer writer' text same some = subst (λ (x : Counted _). WritesBeginning (contents (device_of writer)) (contents (device_of x)) text) (sym same) (unbegun (contents (device_of writer)) text some)
 
 no_answer : {W : Type 0} (contents : W → Option (List ℕ)) (writer writer' : Counted W) (answer : Answer) → writer' ≡ writer
-    → Begins (contents (device_of writer)) (contents (device_of writer')) (answer_text answer)
+    → WritesBeginning (contents (device_of writer)) (contents (device_of writer')) (answer_text answer)
 no_answer contents writer writer' answer same = uncalled contents writer writer' (answer_text answer) same (started (status_of answer) [] (content_of answer))
 
 no_refusal : {W : Type 0} (contents : W → Option (List ℕ)) (writer writer' : Counted W) → writer' ≡ writer → IsWritten lost (contents (device_of writer)) (contents (device_of writer'))
@@ -124,9 +124,9 @@ module _ {S : Type 0} (g : Ghosts S) (day : Date) where
   whole old new held holds false bytes text it appends =
       record { connection = refused bytes it.0; after = (it.1, it.2); whole_is = refl; done_is = refl; heard = refl; written = subst (Appends held holds) it.3 appends }
 
-  cut : (old new : Held S) (held holds : Option (List ℕ)) (done : Bool) (bytes text : List ℕ) → IsAnswered g done day bytes old new text → Begins held holds text → Came old new held holds bytes false done
-  cut old new held holds true bytes text it begins = by_office old new held holds false bytes it.0 it.1 (subst (Begins held holds) it.2 begins)
-  cut old new held holds false bytes text it begins = nothing old new held holds bytes it.2 (it.0, subst (Begins held holds) it.3 begins)
+  cut : (old new : Held S) (held holds : Option (List ℕ)) (done : Bool) (bytes text : List ℕ) → IsAnswered g done day bytes old new text → WritesBeginning held holds text → Came old new held holds bytes false done
+  cut old new held holds true bytes text it begins = by_office old new held holds false bytes it.0 it.1 (subst (WritesBeginning held holds) it.2 begins)
+  cut old new held holds false bytes text it begins = nothing old new held holds bytes it.2 (it.0, subst (WritesBeginning held holds) it.3 begins)
 
   -- ---- what is told of it
 

@@ -10,9 +10,9 @@ use Rattle.office_engine.specs.Keeping.{Runs}
 use Rattle.desk_routes.specs.declared.refusal.DeskRefusal.{DeskRefusal}
 use Rattle.desk_hearing.specs.Asked.{HeardValue}
 use Rattle.desk_hearing.specs.Hearing.{Hears}
-use Rattle.http_desk.specs.Serving.{IsServed}
-use Rattle.http_desk.specs.declared.serving.DeskFault.{DeskFault}
-use Rattle.http_desk.specs.declared.serving.DeskFault.TheVariants as faults
+use Rattle.desk_serving.specs.Serving.{IsHeardServed}
+use Rattle.desk_serving.specs.declared.serving.DeskFault.{DeskFault}
+use Rattle.desk_serving.specs.declared.serving.DeskFault.TheVariants as faults
 
 -- what came of a connection
 pub data Connection : Type 0 where
@@ -26,7 +26,7 @@ pub data Connection : Type 0 where
 -- what it did to the office: it was served what the bytes ask, or is as it was
 abbrev pub IsAfter : {S : Type 0} → Ghosts S → Date → Connection → Held S → Held S → Type 0
 IsAfter g day (served bytes item answer whole) old new =
-    (heard : HeardValue) × Hears bytes (Ok heard) × (it : IsServed day heard (state g old) (state g new) answer) × (it.item ≡ item)
+    (heard : HeardValue) × Hears bytes (Ok heard) × (it : IsHeardServed day heard (state g old) (state g new) answer) × (it.item ≡ item)
 IsAfter g day (refused bytes refusal) old new = Hears bytes (Err refusal) × (new ≡ old)
 IsAfter g day lost old new = new ≡ old
 

@@ -62,14 +62,14 @@ pub record Drops {R : Type 0} (r : Reads R) (most : ℕ) (old new : Counted R) (
 -- ---- what is written
 
 -- a beginning of the text was written, and not all of it
-abbrev pub Begins : Option (List ℕ) → Option (List ℕ) → List ℕ → Type 0
-Begins held holds text = (count : ℕ) × (count < length text) × Appends held holds (take count text)
+abbrev pub WritesBeginning : Option (List ℕ) → Option (List ℕ) → List ℕ → Type 0
+WritesBeginning held holds text = (count : ℕ) × (count < length text) × Appends held holds (take count text)
 
 abbrev pub IsWritten : Connection → Option (List ℕ) → Option (List ℕ) → Type 0
 IsWritten (served bytes item answer true) held holds = Appends held holds (answer_text answer)
-IsWritten (served bytes item answer false) held holds = Begins held holds (answer_text answer)
+IsWritten (served bytes item answer false) held holds = WritesBeginning held holds (answer_text answer)
 IsWritten (refused bytes refusal) held holds = Appends held holds (refusal_text refusal)
-IsWritten lost held holds = (refusal : DeskRefusal) × Begins held holds (refusal_text refusal)
+IsWritten lost held holds = (refusal : DeskRefusal) × WritesBeginning held holds (refusal_text refusal)
 
 -- ---- a whole connection
 

@@ -1,4 +1,6 @@
-pub mod ServingLemmas
+pub mod LengthLemmas
+pub mod LineLemmas
+pub mod FoundLemmas
+pub mod ListLemmas
 pub mod ReplayLemmas
 pub mod RunLemmas
-pub mod RefusalLemmas

@@ -1,15 +1,15 @@
 -- One record more, and what a replay comes to.
-use Rattle.std.proofs.Common.{◌≡◌, ◌≢◌, ℕ, ◌+◌, ◌<◌, ◌≤◌, ◌⊎◌, List, [], ◌∷◌, ◌++◌, true, false, Option, inl, inr, length, take, refl, sym, ap, ◌∙◌, subst, arith, length-append, append_assoc, append-nil, take_all}
+use Rattle.std.proofs.Common.{◌≡◌, ◌≢◌, Bool, ℕ, ◌+◌, ◌<◌, ◌≤◌, ◌⊎◌, List, [], ◌∷◌, ◌++◌, true, false, Option, inl, inr, length, take, refl, sym, ap, ◌∙◌, subst, arith, length-append, append_assoc, append-nil, take_all}
 use Rattle.std.specs.Prelude.{Ok, Err}
 use Rattle.std.specs.Io.KnownBytes.{Appends, Consumes, IsAtEnd}
 use Rattle.std.proofs.KnownBytes.{Appends-nil, Appends-trans, Consumes-nil, Consumes-trans}
-use Rattle.sqlite.specs.Held.{Held}
+use Rattle.sqlite.specs.Held.{Held, state}
 use Rattle.sqlite.specs.Store.{Ghosts}
 use Rattle.jiff.specs.Types.{Date}
-use Rattle.desk_records.specs.Records.{IsRecord, record_text, answer_record, BeginsWithNone, CanNotBegin, WantsMore}
-use Rattle.desk_records.specs.RecordLists.{RequestRecord, AreRecords, request_texts, answer_texts, max_records}
-use Rattle.desk_records.proofs.FoundLemmas.{wanted_none}
-use Rattle.desk_records.proofs.ListLemmas.{texts_more, are_all, rest_shorter}
+use Rattle.http_desk.specs.Records.{IsRecord, record_text, answer_record, BeginsWithNone, CanNotBegin, WantsMore}
+use Rattle.http_desk.specs.RecordLists.{RequestRecord, AreRecords, request_texts, answer_texts, max_records}
+use Rattle.http_desk.proofs.FoundLemmas.{wanted_none}
+use Rattle.http_desk.proofs.ListLemmas.{texts_more, are_all, rest_shorter}
 use Rattle.http_desk.specs.Replaying.{AnswersRecord, AnswersEach, HasAnswered, HasDone, Replayed}
 use Rattle.http_desk.specs.ReplaySteps.{AnswersNext, ReadsMore, fault_behind}
 use Rattle.http_desk.specs.declared.answering.Unwritten.{Unwritten}
@@ -17,6 +17,9 @@ use Rattle.http_desk.specs.declared.answering.Unwritten.TheVariants as unwritten
 use Rattle.http_desk.specs.declared.replaying.ReplayStop.{ReplayStop}
 use Rattle.http_desk.specs.declared.replaying.ReplayStop.TheVariants as stops
 use Rattle.http_desk.specs.declared.replaying.ReplayFault.{ReplayFault}
+use Rattle.office_core.specs.declared.answer.Answer.{Answer}
+use Rattle.desk_answers.specs.Answers.{answer_text}
+use Rattle.desk_serving.specs.Serving.{ServesBytes}
 
 -- ---- lists
 
@@ -216,3 +219,13 @@ unwritten_stop g old now new input left output written more pending rest count i
 unwritten_stop {S} g old now new input left output written more pending rest count item (unwritten.Memory false) T p is e low a =
     let P : Held S → Type 0 = λ o. Progress g old o input left output written pending count in
     unremembered g old new input left left output written more pending [] count (subst P (sym a.0) p) (Consumes-nil left) a.1
+
+-- no bytes answer: the office may have served the request before
+pub unserved : {S : Type 0} (g : Ghosts S) (T : Type 0) (old new : Held S) (item : RequestRecord) (output : Option (List ℕ)) (told done : Bool) → told ≡ done
+    → (done ≡ true → (answer : Answer) × ServesBytes item.day item.bytes (state g old) (state g new) answer) → (done ≡ false → new ≡ old)
+    → AnswersNext {S = S} {T = T} g old new item output output (Err (unwritten.Memory told))
+unserved {S} g T old new item output told done e served kept = let P : Bool → Type 0 = λ d. AnswersNext {S = S} {T = T} g old new item output output (Err (unwritten.Memory d)) in subst P (sym e) (by done served kept)
+  where
+    by : (d : Bool) → (d ≡ true → (answer : Answer) × ServesBytes item.day item.bytes (state g old) (state g new) answer) → (d ≡ false → new ≡ old) → AnswersNext {S = S} {T = T} g old new item output output (Err (unwritten.Memory d))
+    by true served kept = let a = served refl in (answer_text a.0, (true, (a.0, a.1, refl)), Appends-nil output)
+    by false served kept = (kept refl, Appends-nil output)

@@ -5,8 +5,8 @@ use Rattle.sqlite.specs.Held.{Held, state}
 use Rattle.sqlite.specs.State.{HasCleanDisk}
 use Rattle.sqlite.specs.Store.{Ghosts}
 use Rattle.office_engine.specs.Keeping.{IsKeptBy}
-use Rattle.desk_records.specs.RecordLists.{RequestRecord}
-use Rattle.http_desk.specs.Serving.{IsAnswered}
+use Rattle.http_desk.specs.RecordLists.{RequestRecord}
+use Rattle.desk_serving.specs.Serving.{IsAnswered}
 use Rattle.http_desk.specs.Replaying.{AnswersEach}
 use Rattle.http_desk.specs.ReplayRuns.{IsRunOf, none, served, refused, RunsEach}
 

@@ -1,4 +1,7 @@
-pub mod Serving
+pub mod Records
+pub mod RecordReading
+pub mod Finds
+pub mod RecordLists
 pub mod Replaying
 pub mod ReplaySteps
 pub mod ReplayRuns

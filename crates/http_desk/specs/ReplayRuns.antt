@@ -6,13 +6,13 @@ use Rattle.sqlite.specs.Store.{Ghosts}
 use Rattle.office_core.specs.declared.answer.Answer.{Answer}
 use Rattle.office_history.specs.Histories.{History}
 use Rattle.office_history.specs.Runs.{IsLegal, Item, Run}
-use Rattle.office_engine.specs.Keeping.{IsKeptBy, IsReached}
-use Rattle.desk_records.specs.RecordLists.{RequestRecord}
+use Rattle.office_engine.specs.Keeping.{IsKeptBy, IsLegalAndKept}
+use Rattle.http_desk.specs.RecordLists.{RequestRecord}
 use Rattle.desk_routes.specs.declared.refusal.DeskRefusal.{DeskRefusal}
 use Rattle.desk_hearing.specs.Asked.{HeardValue}
 use Rattle.desk_hearing.specs.Hearing.{Hears}
 use Rattle.desk_answers.specs.Answers.{answer_text, refusal_text}
-use Rattle.http_desk.specs.Serving.{IsItemOf}
+use Rattle.desk_serving.specs.Serving.{IsItemOf}
 
 -- the run asks what is heard of the records, in their order; each text is that of its answer, or of the desk's refusal
 pub data IsRunOf : List RequestRecord → List (List ℕ) → List Item → List Answer → Type 0 where
@@ -28,4 +28,4 @@ pub data IsRunOf : List RequestRecord → List (List ℕ) → List Item → List
 abbrev pub RunsEach : {S : Type 0} → Ghosts S → Held S → Held S → List RequestRecord → List (List ℕ) → Type 0
 RunsEach g old new items texts =
     HasCleanDisk (state g new) → (h : History) → IsLegal h → IsKeptBy h (state g old)
-    → (run : List Item) × (answers : List Answer) × (next : History) × IsRunOf items texts run answers × Run h run answers next × IsReached next (state g new)
+    → (run : List Item) × (answers : List Answer) × (next : History) × IsRunOf items texts run answers × Run h run answers next × IsLegalAndKept next (state g new)

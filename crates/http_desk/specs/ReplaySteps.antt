@@ -4,10 +4,10 @@ use Rattle.std.specs.Prelude.{◌≡◌, ◌≢◌, ◌⊎◌, ◌<◌, ◌≤�
 use Rattle.std.specs.Io.KnownBytes.{Appends, Consumes, IsAtEnd}
 use Rattle.sqlite.specs.Held.{Held}
 use Rattle.sqlite.specs.Store.{Ghosts}
-use Rattle.desk_records.specs.Records.{IsRecord, record_text, answer_record, CanNotBegin, WantsMore}
-use Rattle.desk_records.specs.RecordLists.{RequestRecord, max_records}
-use Rattle.desk_records.specs.declared.record.Found.{Found}
-use Rattle.desk_records.specs.declared.record.Found.TheVariants as found
+use Rattle.http_desk.specs.Records.{IsRecord, record_text, answer_record, CanNotBegin, WantsMore}
+use Rattle.http_desk.specs.RecordLists.{RequestRecord, max_records}
+use Rattle.http_desk.specs.declared.record.Found.{Found}
+use Rattle.http_desk.specs.declared.record.Found.TheVariants as found
 use Rattle.http_desk.specs.Replaying.{AnswersRecord}
 use Rattle.http_desk.specs.declared.answering.Unwritten.{Unwritten}
 use Rattle.http_desk.specs.declared.answering.Unwritten.TheVariants as unwritten

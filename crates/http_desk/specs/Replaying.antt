@@ -5,9 +5,9 @@ use Rattle.std.specs.Prelude.{◌≡◌, ◌≢◌, ◌⊎◌, ◌<◌, ◌≤�
 use Rattle.std.specs.Io.KnownBytes.{Appends, Consumes, IsAtEnd}
 use Rattle.sqlite.specs.Held.{Held}
 use Rattle.sqlite.specs.Store.{Ghosts}
-use Rattle.desk_records.specs.Records.{answer_record, BeginsWithNone, CanNotBegin}
-use Rattle.desk_records.specs.RecordLists.{RequestRecord, AreRecords, HasRecords, request_texts, answer_texts, max_records}
-use Rattle.http_desk.specs.Serving.{IsAnswered}
+use Rattle.http_desk.specs.Records.{answer_record, BeginsWithNone, CanNotBegin}
+use Rattle.http_desk.specs.RecordLists.{RequestRecord, AreRecords, HasRecords, request_texts, answer_texts, max_records}
+use Rattle.desk_serving.specs.Serving.{IsAnswered}
 use Rattle.http_desk.specs.declared.replaying.ReplayStop.{ReplayStop}
 use Rattle.http_desk.specs.declared.replaying.ReplayStop.TheVariants as stops
 use Rattle.http_desk.specs.declared.replaying.ReplayFault.{ReplayFault}

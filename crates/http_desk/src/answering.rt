@@ -4,10 +4,10 @@ ghost use Rattle.std.specs.Prelude.{◌≡◌, ◌≢◌, Err};
 ghost use Rattle.desk_devices.specs.Devices.{HasFailed, device_of, failures_of};
 ghost use Rattle.http_desk.specs.ReplaySteps.{AnswersNext};
 
-use crate::serving::{Unanswered, respond};
+use crate::answer::answer_record;
 use desk_devices::{Counted, write_whole};
-use desk_records::answer_record;
 use desk_routes::Routes;
+use desk_serving::{Unanswered, respond};
 use office_core::Day;
 use office_engine::Office;
 use sqlite::Alter;

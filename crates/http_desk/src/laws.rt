@@ -1,37 +1,53 @@
 //! Laws of the definitions alone.
 
-ghost use Rattle.std.specs.Prelude.{◌≡◌, ℕ, Bool, List, Err};
+ghost use Rattle.std.specs.Prelude.{◌≡◌, ◌++◌, ◌≤◌, ℕ, List, length};
 ghost use Rattle.jiff.specs.Types.{Date};
 ghost use Rattle.sqlite.specs.Held.{Held};
-ghost use Rattle.desk_records.specs.RecordLists.{RequestRecord};
-ghost use Rattle.desk_routes.specs.declared.refusal.DeskRefusal.{DeskRefusal};
-ghost use Rattle.desk_hearing.specs.Hearing.{Hears};
-ghost use Rattle.desk_answers.specs.Answers.{refusal_text};
+ghost use Rattle.http_desk.specs.Records.{IsRecord, record_text, HasLine, WantsMore, BeginsWithNone, CanNotBegin};
+ghost use Rattle.http_desk.specs.RecordLists.{RequestRecord, AreRecords, HasRecords, request_texts, max_records};
 ghost use Rattle.http_desk.specs.Replaying.{AnswersEach};
 ghost use Rattle.http_desk.specs.ReplayRuns.{RunsEach};
-ghost use Rattle.http_desk.specs.Serving.{IsAnswered};
 
-pub use desk_answers::laws::{
-    allowed_methods, ascending_keys, content_lengths, responses, statuses,
-};
-pub use desk_devices::laws::{longer_input as longer_head, shortest_front};
-pub use desk_forms::laws::{counted_keys, counted_queries, decoded_paths, one_body, one_query};
-pub use desk_heads::laws::{first_refusal, one_judgement, taken_heads};
 pub use desk_hearing::laws::{first_refusals, longer_input, one_hearing, spelled_requests};
-pub use desk_records::laws::{last_record, one_list, one_reading, wanted_bytes};
-pub use desk_routes::laws::{
-    allowed_methods as methods_of_places, asked_routes, methods_in_order, one_place, one_split,
-    rows_of_routes, spelled_places,
-};
+pub use desk_serving::laws::refusals_change_nothing;
 use sqlite::Alter;
 
-/// Bytes that the desk refuses are answered by the text of that refusal, and leave the office as it
-/// is.
-pub fn refusals_change_nothing<S: Alter>()
-    ensures { (done : Bool) (day : Date) (bytes text : List ℕ) (refusal : DeskRefusal)
-        (old new : Held S) → Hears bytes (Err refusal)
-        → IsAnswered S.Store done day bytes old new text
-        → (new ≡ old) × (text ≡ refusal_text refusal) }
+/// An input begins with one record at most, and is read in one way.
+pub fn one_reading()
+    ensures { (day day' : Date) (bytes bytes' rest rest' : List ℕ)
+        → IsRecord day bytes → IsRecord day' bytes'
+        → record_text day bytes ++ rest ≡ record_text day' bytes' ++ rest'
+        → (day ≡ day') × (bytes ≡ bytes') × (rest ≡ rest') }
+{}
+
+/// Where more bytes are wanted, no record begins the input yet, and there are no more bytes than a
+/// record has before its last line feed. Where a record's line has come, bytes that complete it are
+/// wanted.
+pub fn wanted_bytes()
+    ensures none { (input : List ℕ) → WantsMore input → BeginsWithNone input }
+    ensures short { (input : List ℕ) → WantsMore input → length input ≤ 16800024 }
+    ensures line { (input : List ℕ) → HasLine input → ¬ CanNotBegin input }
+{}
+
+/// An input has one list of records.
+pub fn one_list()
+    ensures { (input rest rest' : List ℕ) (items items' : List RequestRecord)
+        → HasRecords input items rest → HasRecords input items' rest'
+        → (items ≡ items') × (rest ≡ rest') }
+{}
+
+/// Records, and what can't begin one, whatever follows; or as many records as an input may have,
+/// and anything: these are the records of the input, whatever is still to be read.
+pub fn last_record()
+    ensures bad { (items : List RequestRecord) (rest others : List ℕ)
+        → AreRecords items → length items ≤ max_records → CanNotBegin rest
+        → HasRecords (request_texts items ++ (rest ++ others)) items (rest ++ others) }
+    ensures full { (items : List RequestRecord) (rest : List ℕ)
+        → AreRecords items → length items ≡ max_records
+        → HasRecords (request_texts items ++ rest) items rest }
+    ensures end { (items : List RequestRecord) (rest : List ℕ)
+        → AreRecords items → length items ≤ max_records → WantsMore rest
+        → HasRecords (request_texts items ++ rest) items rest }
 {}
 
 /// Records that are answered, one after the other, are a run of the office that asks what is heard of

@@ -1,23 +1,21 @@
-//! The desk: bytes of HTTP in, exact bytes of answers out, over an office.
+//! The desk: bytes of HTTP in, exact bytes of answers out, over an office. Here stand replays: records of requests, each
+//! answered in turn by the record of its answer. The calls on one request stand in the crates `desk_*`, and those on a
+//! whole request are handed on.
 #![tactic(auto)]
 
+mod answer;
 mod answering;
+mod digits;
 pub mod laws;
+mod record;
 mod replaying;
-mod serving;
 
-pub use desk_answers::{answer_bytes, refusal_bytes};
-pub use desk_devices::{
-    Counted, FailAt, FillFault, HeadFault, HeadPlace, Portion, RequestHead, WriteFailed, fill,
-    place_of_head, read_head, write_whole,
-};
-pub use desk_forms::{
-    BodyFault, DepositQuery, HoldBody, Listing, QueryFault, check_no_body, check_no_query,
-    decode_path, read_deposit_query, read_hold, read_listing, read_years,
-};
-pub use desk_heads::{Head, HeadRefusal, MAX_BODY, judge_head};
-pub use desk_hearing::{Heard, HeardFault, hear_request, read_request};
-pub use desk_records::{Found, MAX_REQUEST, answer_record, record_at};
-pub use desk_routes::{DeskRefusal, Method, Pattern, Place, Route, Routes, split_target};
+pub use answer::answer_record;
+pub use desk_answers::answer_bytes;
+pub use desk_devices::{Counted, FailAt, Portion};
+pub use desk_hearing::{Heard, HeardFault, read_request};
+pub use desk_routes::DeskRefusal;
+pub use desk_serving::{DeskFault, serve_one};
+pub use digits::MAX_REQUEST;
+pub use record::{Found, record_at};
 pub use replaying::{ReplayFault, ReplayStop, replay};
-pub use serving::{DeskFault, serve_one};

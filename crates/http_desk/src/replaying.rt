@@ -2,13 +2,13 @@
 
 ghost use Rattle.std.specs.Prelude.{◌≡◌, ◌≢◌, ◌≤◌, ◌<◌, ◌+◌, ℕ, List, length, Err, Ok, IfErr, OnOk, MatchResult};
 ghost use Rattle.desk_devices.specs.Devices.{HasFailed, device_of, failures_of};
-ghost use Rattle.desk_records.specs.RecordLists.{max_records};
+ghost use Rattle.http_desk.specs.RecordLists.{max_records};
 ghost use Rattle.http_desk.specs.Replaying.{Replayed};
 ghost use Rattle.http_desk.specs.ReplaySteps.{FoundBehind, ReadsMore, fault_behind};
 
 use crate::answering::{Unwritten, answer_next};
+use crate::record::{Found, record_at};
 use desk_devices::Counted;
-use desk_records::{Found, record_at};
 use desk_routes::Routes;
 use office_engine::Office;
 use sqlite::Alter;

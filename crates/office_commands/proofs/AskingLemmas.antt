@@ -10,11 +10,11 @@ use Rattle.office_core.specs.declared.answer.Answer.{Answer}
 use Rattle.desk_routes.specs.declared.refusal.DeskRefusal.TheVariants.{Truncated}
 use Rattle.desk_hearing.specs.Hearing.{Hears}
 use Rattle.desk_answers.specs.Answers.{answer_text}
-use Rattle.http_desk.specs.Serving.{IsAnswered, ServesBytes}
-use Rattle.http_desk.specs.declared.serving.DeskFault.{DeskFault}
-use Rattle.http_desk.specs.declared.serving.DeskFault.TheVariants.{Read, Write, Memory}
+use Rattle.desk_serving.specs.Serving.{IsAnswered, ServesBytes}
+use Rattle.desk_serving.specs.declared.serving.DeskFault.{DeskFault}
+use Rattle.desk_serving.specs.declared.serving.DeskFault.TheVariants.{Read, Write, Memory}
 use Rattle.office_commands.specs.Deeds.{AreDone, Deed, answers}
-use Rattle.office_commands.specs.Tasks.{ComesOfAsk, whole_of}
+use Rattle.office_commands.specs.Tasks.{ComesOfAsk, all_input}
 use Rattle.office_commands.specs.Texts.{desk_failure}
 use Rattle.office_commands.specs.declared.fault.Cause.TheVariants.{Output}
 use Rattle.office_commands.specs.declared.fault.CommandFault.{CommandFault}
@@ -24,7 +24,7 @@ use Rattle.office_commands.proofs.PrintingLemmas.{appends_nothing}
 
 -- the bytes that the input gives, and no fewer than it had, are answered with this text
 abbrev pub IsHeard : {S : Type 0} → Ghosts S → Date → Held S → Held S → Option (List ℕ) → Option (List ℕ) → List ℕ → Type 0
-IsHeard g day old new was_left left text = (given : List ℕ) × (done : Bool) × Consumes was_left left given × IsAnswered g done day (whole_of was_left given) old new text
+IsHeard g day old new was_left left text = (given : List ℕ) × (done : Bool) × Consumes was_left left given × IsAnswered g done day (all_input was_left given) old new text
 
 -- and the text is written
 abbrev pub Whole : {S : Type 0} → Ghosts S → Date → Held S → Held S → Option (List ℕ) → Option (List ℕ) → Option (List ℕ) → Option (List ℕ) → Type 0
@@ -53,11 +53,11 @@ module _ {S : Type 0} (g : Ghosts S) (day : Date) (old new : Held S) (was_left l
       → Keeps mid holds → Comes r held holds
   handed_on (Ok x) held mid holds fails it kept =
       let asked = it.1 in
-      (answers day (whole_of was_left asked.0) it.0 ∷ [], (it.0, (asked.0, asked.2, refl), Appends-kept held mid holds it.0 it.2 kept), (new, (asked.1, asked.3), refl))
+      (answers day (all_input was_left asked.0) it.0 ∷ [], (it.0, (asked.0, asked.2, refl), Appends-kept held mid holds it.0 it.2 kept), (new, (asked.1, asked.3), refl))
   handed_on {T = T} (Err fault) held mid holds is it kept =
       let asked = it.1 in
       subst (λ (f : CommandFault). Comes {T = T} (Err f) held holds) (sym is) (
-        answers day (whole_of was_left asked.0) it.0 ∷ [],
+        answers day (all_input was_left asked.0) it.0 ∷ [],
         (it.0, (asked.0, asked.2, refl), (length it.0, subst (Appends held holds) (sym (take-length it.0)) (Appends-kept held mid holds it.0 it.2 kept))),
         (new, (asked.1, asked.3), refl),
       )
@@ -102,7 +102,7 @@ module _ {S : Type 0} (g : Ghosts S) (day : Date) (old new : Held S) (was_left l
       let it = served is in
       let heard = unwritten it.0 it.1 it.2 it.3 (all is) in
       let asked = heard.1 in (
-        answers day (whole_of was_left asked.0) heard.0 ∷ [],
+        answers day (all_input was_left asked.0) heard.0 ∷ [],
         (inr (heard.0, (asked.0, asked.2, refl)), appends_nothing (contents was) (contents now) (ap contents it.4)),
         (new, (asked.1, asked.3), refl),
       )
@@ -110,7 +110,7 @@ module _ {S : Type 0} (g : Ghosts S) (day : Date) (old new : Held S) (was_left l
       let it = written done is in
       let part = begun (contents was) (contents now) it.0 it.1 it.2 done it.3 it.4 it.5 (all_written done is) in
       let asked = part.2 in
-      (answers day (whole_of was_left asked.0) part.0 ∷ [], (part.0, (asked.0, asked.2, refl), (part.1, part.3)), (new, (asked.1, asked.3), refl))
+      (answers day (all_input was_left asked.0) part.0 ∷ [], (part.0, (asked.0, asked.2, refl), (part.1, part.3)), (new, (asked.1, asked.3), refl))
 
   -- what the desk's fault is told as
   pub told_as : (T : Type 0) (held holds : Option (List ℕ)) (named fault : CommandFault) → named ≡ fault → Comes {T = T} (Err fault) held holds → Comes {T = T} (Err named) held holds

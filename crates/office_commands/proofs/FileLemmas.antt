@@ -19,12 +19,12 @@ use Rattle.office_tables.specs.Versions.{schema_at}
 use Rattle.office_tables.specs.declared.version.TableVersion.{TableVersion}
 use Rattle.office_tables.specs.declared.version.TableVersion.TheVariants.{Third, Fourth, Fifth}
 use Rattle.office_history.specs.Histories.{History}
-use Rattle.office_recovery.specs.Found.{HoldsWhere}
-use Rattle.office_recovery.proofs.FoundAgain.{found_again}
-use Rattle.office_recovery.proofs.Settled.{office_from, rows_from, once_from}
+use Rattle.office_tables.specs.Found.{HoldsWhere}
+use Rattle.office_tables.proofs.FoundAgain.{found_again}
+use Rattle.office_tables.proofs.Settled.{office_from, rows_from, once_from}
 use Rattle.office_asking.specs.Pictures.{PicturesAt}
-use Rattle.office_engine.specs.Keeping.{IsKeptBy, IsLeftAt, IsLeftOf, IsReached}
-use Rattle.office_commands.specs.Stores.{GoesOnFrom, IsOfficeOf, IsOpenedFrom, made_office}
+use Rattle.office_engine.specs.Keeping.{IsKeptBy, IsLeftAt, IsLeftOf, IsLegalAndKept}
+use Rattle.office_commands.specs.Stores.{GoesOnFrom, IsOfficeOver, IsOpenedFrom, made_office}
 
 -- what is left of a history comes out of a truncation, where a database is found
 left_from : (version : TableVersion) (h : History) (db : Database) → IsDatabase db → ∥ IsLeftAt version h db.trees ∥₁ → IsLeftAt version h db.trees
@@ -60,7 +60,7 @@ shows_more s live is_open version h left same =
     let it = found_again (PicturesAt version h) left.0 s.now left.1.office.whole.listed (live is_open).0 left.2 left.1 in no_office version (sym it.office.whole.schema_is ∙ same)
 
 -- what the files hold that a connection was copied into
-pub held_of : (image : Image) (s : State) → IsTrue s.is_open → ∥ HoldsDatabase image s.committed.trees ∥₁ → (next : History) → IsReached next s → HoldsWhere (IsLeftOf next) image
+pub held_of : (image : Image) (s : State) → IsTrue s.is_open → ∥ HoldsDatabase image s.committed.trees ∥₁ → (next : History) → IsLegalAndKept next s → HoldsWhere (IsLeftOf next) image
 held_of image s is_open holds next reached =
     let kept = reached.kept is_open in
     ∥∥₁_map holds (λ d. (s.committed.trees, (s.now, kept.0, ap (λ (x : Database). x.trees) kept.1), d))
@@ -114,7 +114,7 @@ opened_as_taken {E = E} g (Ok o) image s makes cleans goes_on there opened found
 -- ---- an office of a connection
 
 pub made_is_office : {S E : Type 0} (g : Ghosts S) (conn : Held S) (is_new : Bool) (r : Result (Held S) E) → is_new ≡ true → IfOk r (λ o. HasCleanDisk (state g o) → HasCleanDisk (state g conn))
-    → IfOk r (λ o. HasCleanDisk (state g o) → IsKeptBy made_office (state g o)) → ((state g conn).now.schema ≢ no_schema → IsErr r) → IfOk r (IsOfficeOf g conn is_new)
+    → IfOk r (λ o. HasCleanDisk (state g o) → IsKeptBy made_office (state g o)) → ((state g conn).now.schema ≢ no_schema → IsErr r) → IfOk r (IsOfficeOver g conn is_new)
 made_is_office g conn is_new (Err e) new clean made empty = tt
 made_is_office g conn is_new (Ok o) new clean made empty = record {
   clean = clean;
@@ -126,7 +126,7 @@ made_is_office g conn is_new (Ok o) new clean made empty = record {
 
 pub taken_is_office : {S E : Type 0} (g : Ghosts S) (conn : Held S) (is_new : Bool) (r : Result (Held S) E) → is_new ≡ false → IfOk r (λ o. HasCleanDisk (state g o) → HasCleanDisk (state g conn))
     → IfOk r (λ o. HasCleanDisk (state g o) → GoesOnFrom (λ version h. IsLeftAt version h (state g conn).now.trees) (state g o)) → IfOk r (λ o. HasCleanDisk (state g o) → IsTrue (has_office (state g conn).now.schema))
-    → IfOk r (IsOfficeOf g conn is_new)
+    → IfOk r (IsOfficeOver g conn is_new)
 taken_is_office g conn is_new (Err e) there clean goes_on was_there = tt
 taken_is_office g conn is_new (Ok o) there clean goes_on was_there = record {
   clean = clean;

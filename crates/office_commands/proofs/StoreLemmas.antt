@@ -17,11 +17,11 @@ use Rattle.sqlite.proofs.Callers.{memory_is_clean}
 use Rattle.office_rows.specs.Rows.{max_limit}
 use Rattle.office_history.specs.Histories.{History}
 use Rattle.office_history.specs.Runs.{IsLegal, new, new_history}
-use Rattle.office_recovery.specs.Found.{HoldsWhere}
-use Rattle.office_engine.specs.Keeping.{IsKeptBy, IsLeftAt, IsReached}
+use Rattle.office_tables.specs.Found.{HoldsWhere}
+use Rattle.office_engine.specs.Keeping.{IsKeptBy, IsLeftAt, IsLegalAndKept}
 use Rattle.office_tables.specs.declared.version.TableVersion.{TableVersion}
 use Rattle.office_commands.specs.Deeds.{AreDone, Deed, LeadOn}
-use Rattle.office_commands.specs.Stores.{InFile, InMemory, IsOfficeOf, IsOpenedFrom, LeadsInto, RunsAndCloses, RunsInFile, RunsInMemory, RunsOver, SomeOffice, made_office}
+use Rattle.office_commands.specs.Stores.{InFile, InMemory, IsOfficeOver, IsOpenedFrom, LeadsInto, RunsAndCloses, RunsInFile, RunsInMemory, RunsOver, SomeOffice, made_office}
 use Rattle.office_commands.specs.Tasks.{ComesOfTask, Task, makes_office}
 use Rattle.office_commands.specs.Texts.{IsUnclosable}
 use Rattle.office_commands.specs.Traffic.{Traffic}
@@ -42,7 +42,7 @@ runs_in_memory r task a b first last was now limits made it =
     inr (it.0, it.1, record { old = first; new = last; made = kept; done = it.2 })
 
 -- what it comes to
-pub memory_leads : (deeds : List Deed) (office : InMemory deeds) → (next : History) × LeadOn deeds made_office next × IsReached next (state over_memory office.new)
+pub memory_leads : (deeds : List Deed) (office : InMemory deeds) → (next : History) × LeadOn deeds made_office next × IsLegalAndKept next (state over_memory office.new)
 memory_leads deeds office = deeds_lead over_memory deeds office.old office.new office.done (memory_is_clean office.new) made_office made_is_legal office.made
 
 -- with an open office, which is closed into these files
@@ -77,13 +77,13 @@ runs_to_end g r done (Err fault) task first last was now copied fails same other
 -- over a connection
 pub runs_over : {D : Type 0} (g : Disks D) (r done : Result Done CommandFault) (closed : Result (Files D) CommandFault) (conn last : Held (FileStore D g)) (is_new : Bool) (task : Task) (was now : Traffic)
     → IfOk closed (λ files. AreClean g files.log files.db → IsCopied last files) → IfErr closed IsUnclosable → IfOk closed (λ _. r ≡ done) → IfErr closed (λ fault. r ≡ Err fault)
-    → SomeOffice (IsOfficeOf over_files conn is_new) (λ office. (deeds : List Deed) × ComesOfTask task done deeds was now × AreDone over_files deeds office last) → RunsOver g conn is_new task r was now
+    → SomeOffice (IsOfficeOver over_files conn is_new) (λ office. (deeds : List Deed) × ComesOfTask task done deeds was now × AreDone over_files deeds office last) → RunsOver g conn is_new task r was now
 runs_over g r done closed conn last is_new task was now copied fails same other it =
     inr (it.0, it.1, runs_to_end g r done closed task it.0 last was now copied fails same other it.2)
 
 -- an office of a connection that was opened from files
 opened_from : {D : Type 0} (g : Disks D) (first : Image) (makes is_new : Bool) (conn office : Held (FileStore D g)) → (is_new ≡ true → makes ≡ true)
-    → (HasCleanDisk (file_state conn) → IsOpened conn) → (HasCleanDisk (file_state conn) → FindsIn first (file_state conn)) → IsOfficeOf over_files conn is_new office
+    → (HasCleanDisk (file_state conn) → IsOpened conn) → (HasCleanDisk (file_state conn) → FindsIn first (file_state conn)) → IsOfficeOver over_files conn is_new office
     → IsOpenedFrom g first makes office
 opened_from g first makes is_new conn office asked opened found is = elim (cases_Bool is_new) [
   | inl made ↦ opened_as_made {E = CommandFault} g (Ok office) first (file_state conn) makes (asked made) is.clean (is.made made) (λ more. absurd (is.empty made more)) opened found

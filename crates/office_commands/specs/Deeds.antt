@@ -15,8 +15,8 @@ use Rattle.desk_hearing.specs.Asked.{HeardValue}
 use Rattle.desk_hearing.specs.Hearing.{Hears}
 use Rattle.desk_answers.specs.Answers.{answer_text, refusal_text}
 use Rattle.desk_listening.specs.Listening.{Connection, lost, refused, served}
-use Rattle.desk_records.specs.RecordLists.{RequestRecord}
-use Rattle.http_desk.specs.Serving.{IsAnswered, IsItemOf}
+use Rattle.http_desk.specs.RecordLists.{RequestRecord}
+use Rattle.desk_serving.specs.Serving.{IsAnswered, IsItemOf}
 
 pub data Deed : Type 0 where
   -- the policy is installed

@@ -19,7 +19,7 @@ use Rattle.office_tables.specs.Opening.{has_office}
 use Rattle.office_tables.specs.Schema.{no_schema}
 use Rattle.office_history.specs.Histories.{History}
 use Rattle.office_history.specs.Runs.{IsLegal, new_history}
-use Rattle.office_recovery.specs.Found.{HoldsWhere}
+use Rattle.office_tables.specs.Found.{HoldsWhere}
 use Rattle.office_tables.specs.declared.version.TableVersion.{TableVersion}
 use Rattle.office_engine.specs.Keeping.{IsKeptBy, IsLeftAt, IsLeftOf}
 use Rattle.office_commands.specs.Deeds.{AreDone, Deed, LeadOn}
@@ -38,7 +38,7 @@ GoesOnFrom Left s = (version : TableVersion) (h : History) → Left version h �
 
 -- An office is had over a connection: it is made there, where `is_new`, and then the database was empty; or it was there. On an honest disk it keeps then
 -- the new history, or whichever was left there.
-pub record IsOfficeOf {S : Type 0} (g : Ghosts S) (conn : Held S) (is_new : Bool) (office : Held S) : Type 0 where
+pub record IsOfficeOver {S : Type 0} (g : Ghosts S) (conn : Held S) (is_new : Bool) (office : Held S) : Type 0 where
   pub clean : HasCleanDisk (state g office) → HasCleanDisk (state g conn)
   pub empty : is_new ≡ true → (state g conn).now.schema ≢ no_schema → ⊥
   pub made : is_new ≡ true → HasCleanDisk (state g office) → IsKeptBy made_office (state g office)
@@ -124,7 +124,7 @@ RunsAndCloses {D} g old task result was now =
 -- the task is done with the office of a connection, which is closed; or the office can't be had
 abbrev pub RunsOver : {D T : Type 0} → (g : disk.Ghosts D) → Held (FileStore D g) → Bool → Task → Result T CommandFault → Traffic → Traffic → Type 0
 RunsOver g conn is_new task result was now =
-    IsUnopened result was now ⊎ SomeOffice (IsOfficeOf over_files conn is_new) (λ office. RunsAndCloses g office task result was now)
+    IsUnopened result was now ⊎ SomeOffice (IsOfficeOver over_files conn is_new) (λ office. RunsAndCloses g office task result was now)
 
 -- the task is done with the office in a file
 abbrev pub RunsInFile : {D T : Type 0} → disk.Ghosts D → Image → Task → Result T CommandFault → Traffic → Traffic → Type 0

@@ -8,13 +8,13 @@ use Rattle.office_core.specs.Policies.{PolicyValue}
 use Rattle.desk_routes.specs.declared.refusal.DeskRefusal.TheVariants.{Truncated}
 use Rattle.desk_hearing.specs.Hearing.{Hears}
 use Rattle.desk_listening.specs.Listening.{Connection}
-use Rattle.desk_records.specs.Records.{BeginsWithNone}
-use Rattle.desk_records.specs.RecordLists.{AreRecords, RequestRecord, answer_texts, max_records, request_texts}
+use Rattle.http_desk.specs.Records.{BeginsWithNone}
+use Rattle.http_desk.specs.RecordLists.{AreRecords, RequestRecord, answer_texts, max_records, request_texts}
 use Rattle.http_desk.specs.Replaying.{IsBegun, IsNoRecord}
 use Rattle.streams.specs.Writing.{IsCutShort}
 use Rattle.office_commands.specs.Deeds.{Deed, answers, deeds_of_connections, deeds_of_records, fails, installs}
 use Rattle.office_commands.specs.Texts.{IsUnaccepted, IsUnheard, IsUninstalled, IsUnsaid}
-use Rattle.office_commands.specs.Traffic.{Begins, Gives, Prints, Traffic}
+use Rattle.office_commands.specs.Traffic.{Begins, InputGives, WritesText, Traffic}
 use Rattle.office_commands.specs.declared.fault.Cause.{Cause}
 use Rattle.office_commands.specs.declared.fault.Cause.TheVariants.{Input, Output}
 use Rattle.office_commands.specs.declared.fault.CommandFault.{CommandFault}
@@ -57,25 +57,25 @@ install_of (Err _) policy = fails policy
 -- ---- one request
 
 -- all that the input had, where that is known, and else what it gave
-abbrev pub whole_of : Option (List ℕ) → List ℕ → List ℕ
-whole_of None given = given
-whole_of (Some input) given = input
+abbrev pub all_input : Option (List ℕ) → List ℕ → List ℕ
+all_input None given = given
+all_input (Some input) given = input
 
 -- the bytes that the input gives, and no fewer than it had, are answered with this text
 abbrev pub IsAsked : Date → List ℕ → List Deed → Traffic → Traffic → Type 0
-IsAsked day text deeds was now = (given : List ℕ) × Gives given was now × (deeds ≡ answers day (whole_of was.input given) text ∷ [])
+IsAsked day text deeds was now = (given : List ℕ) × InputGives given was now × (deeds ≡ answers day (all_input was.input given) text ∷ [])
 
 -- Where the input fails, it gave no whole request, and nothing is done or written. Where the output fails, the request is answered and a beginning
 -- of the text is written. Where memory runs out, nothing is written.
 abbrev pub AsksInPart : Date → StoreFault → Option Cause → List Deed → Traffic → Traffic → Type 0
-AsksInPart day Device (Some Input) deeds was now = ((given : List ℕ) × Gives given was now × Hears given (Err Truncated)) × (deeds ≡ []) × Prints [] was now
+AsksInPart day Device (Some Input) deeds was now = ((given : List ℕ) × InputGives given was now × Hears given (Err Truncated)) × (deeds ≡ []) × WritesText [] was now
 AsksInPart day Device (Some Output) deeds was now = (text : List ℕ) × IsAsked day text deeds was now × Begins text was now
-AsksInPart day Memory None deeds was now = ((deeds ≡ []) ⊎ ((text : List ℕ) × IsAsked day text deeds was now)) × Prints [] was now
+AsksInPart day Memory None deeds was now = ((deeds ≡ []) ⊎ ((text : List ℕ) × IsAsked day text deeds was now)) × WritesText [] was now
 AsksInPart day fault cause deeds was now = ⊥
 
 -- the text is written, or a device or memory fails
 abbrev pub ComesOfAsk : {T : Type 0} → Date → Result T CommandFault → List Deed → Traffic → Traffic → Type 0
-ComesOfAsk day (Ok _) deeds was now = (text : List ℕ) × IsAsked day text deeds was now × Prints text was now
+ComesOfAsk day (Ok _) deeds was now = (text : List ℕ) × IsAsked day text deeds was now × WritesText text was now
 ComesOfAsk day (Err (Failed fault cause)) deeds was now = AsksInPart day fault cause deeds was now
 ComesOfAsk day (Err (BadRecord index)) deeds was now = ⊥
 ComesOfAsk day (Err (faults.Policy refused)) deeds was now = ⊥
@@ -84,7 +84,7 @@ ComesOfAsk day (Err (faults.Policy refused)) deeds was now = ⊥
 
 -- What the input gives begins with these records, `rest` follows them, and each is answered with its text.
 pub record AreAsked (items : List RequestRecord) (texts : List (List ℕ)) (rest : List ℕ) (deeds : List Deed) (was now : Traffic) : Type 0 where
-  pub gives : Gives (request_texts items ++ rest) was now
+  pub gives : InputGives (request_texts items ++ rest) was now
   pub each : AreRecords items
   pub few : length items ≤ max_records
   pub as_many : length texts ≡ length items
@@ -93,18 +93,18 @@ pub record AreAsked (items : List RequestRecord) (texts : List (List ℕ)) (rest
 -- the records of the answers are written; or all but the last one, and a beginning of that
 abbrev pub PrintsAllOrBegins : List (List ℕ) → Traffic → Traffic → Type 0
 PrintsAllOrBegins texts was now =
-    Prints (answer_texts texts) was now
-    ⊎ ((answered : ℕ) × (part : List ℕ) × (answered + 1 ≡ length texts) × IsBegun texts part × Prints (answer_texts (take answered texts) ++ part) was now)
+    WritesText (answer_texts texts) was now
+    ⊎ ((answered : ℕ) × (part : List ℕ) × (answered + 1 ≡ length texts) × IsBegun texts part × WritesText (answer_texts (take answered texts) ++ part) was now)
 
 -- the records of the answers are written, or all but the last one
 abbrev pub PrintsAllOrBut : List (List ℕ) → Traffic → Traffic → Type 0
 PrintsAllOrBut texts was now =
-    (answered : ℕ) × ((answered ≡ length texts) ⊎ (answered + 1 ≡ length texts)) × Prints (answer_texts (take answered texts)) was now
+    (answered : ℕ) × ((answered ≡ length texts) ⊎ (answered + 1 ≡ length texts)) × WritesText (answer_texts (take answered texts)) was now
 
 -- Where the input fails, each whole record that it gave is answered, and the answer written. Where the output fails, the last answer isn't handed on, or
 -- a beginning of it is written. Where memory runs out, the last answer may not be written.
 abbrev pub ReplaysInPart : StoreFault → Option Cause → List RequestRecord → List (List ℕ) → List ℕ → Traffic → Traffic → Type 0
-ReplaysInPart Device (Some Input) items texts rest was now = BeginsWithNone rest × Prints (answer_texts texts) was now
+ReplaysInPart Device (Some Input) items texts rest was now = BeginsWithNone rest × WritesText (answer_texts texts) was now
 ReplaysInPart Device (Some Output) items texts rest was now = PrintsAllOrBegins texts was now
 ReplaysInPart Memory None items texts rest was now = PrintsAllOrBut texts was now
 ReplaysInPart fault cause items texts rest was now = ⊥
@@ -114,11 +114,11 @@ ReplaysInPart fault cause items texts rest was now = ⊥
 abbrev pub ComesOfReplay : {T : Type 0} → Result T CommandFault → List Deed → Traffic → Traffic → Type 0
 ComesOfReplay (Ok _) deeds was now =
     (items : List RequestRecord) × (texts : List (List ℕ)) × AreAsked items texts [] deeds was now
-    × IsAtEnd now.input × Prints (answer_texts texts) was now
+    × IsAtEnd now.input × WritesText (answer_texts texts) was now
 ComesOfReplay (Err (BadRecord index)) deeds was now =
     (items : List RequestRecord) × (texts : List (List ℕ)) × (rest : List ℕ) × AreAsked items texts rest deeds was now
     × IsNoRecord now.input (length items) rest × (length items < max_records → BeginsWithNone rest)
-    × (index ≡ length items + 1) × Prints (answer_texts texts) was now
+    × (index ≡ length items + 1) × WritesText (answer_texts texts) was now
 ComesOfReplay (Err (Failed fault cause)) deeds was now =
     (items : List RequestRecord) × (texts : List (List ℕ)) × (rest : List ℕ) × AreAsked items texts rest deeds was now
     × ReplaysInPart fault cause items texts rest was now

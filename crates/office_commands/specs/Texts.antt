@@ -14,8 +14,8 @@ use Rattle.sqlite.specs.declared.error.ErrorCode.TheVariants as codes_of
 use Rattle.office_tables.specs.Faults as tables_of
 use Rattle.office_tables.specs.declared.fault.TableFault.{TableFault}
 use Rattle.office_tables.specs.declared.fault.TableFault.TheVariants as tables
-use Rattle.http_desk.specs.declared.serving.DeskFault.{DeskFault}
-use Rattle.http_desk.specs.declared.serving.DeskFault.TheVariants as desk
+use Rattle.desk_serving.specs.declared.serving.DeskFault.{DeskFault}
+use Rattle.desk_serving.specs.declared.serving.DeskFault.TheVariants as desk
 use Rattle.http_desk.specs.declared.replaying.ReplayStop.{ReplayStop}
 use Rattle.http_desk.specs.declared.replaying.ReplayStop.TheVariants as stops
 use Rattle.office_commands.specs.declared.fault.Cause.{Cause}

@@ -17,12 +17,12 @@ abbrev pub traffic_of : {R W : Type 0} → Reads R → Writes W → Counted R �
 traffic_of r w input output = record { input = r.remaining (device_of input); output = w.contents (device_of output) }
 
 -- the input gives these bytes
-abbrev pub Gives : List ℕ → Traffic → Traffic → Type 0
-Gives bytes was now = Consumes was.input now.input bytes
+abbrev pub InputGives : List ℕ → Traffic → Traffic → Type 0
+InputGives bytes was now = Consumes was.input now.input bytes
 
 -- the text is written after what the output held
-abbrev pub Prints : List ℕ → Traffic → Traffic → Type 0
-Prints text was now = Appends was.output now.output text
+abbrev pub WritesText : List ℕ → Traffic → Traffic → Type 0
+WritesText text was now = Appends was.output now.output text
 
 -- a beginning of it is: nothing, a part or all of it
 abbrev pub Begins : List ℕ → Traffic → Traffic → Type 0

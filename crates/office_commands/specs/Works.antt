@@ -6,13 +6,13 @@ use Rattle.std.specs.declared.io.Read.{Ghosts as Reads}
 use Rattle.sqlite_disk.specs.declared.Disk.{Ghosts}
 use Rattle.sqlite.specs.Recovery.{Image}
 use Rattle.office_core.specs.Policies.{PolicyValue}
-use Rattle.commands.specs.Explaining.{Spells, bad_policy_text}
+use Rattle.commands.specs.Explaining.{SpellsPolicyBytes, bad_policy_text}
 use Rattle.commands.specs.declared.ending.Ending.TheVariants.{Accepted, Refused}
-use Rattle.commands.specs.PolicyFiles.{IsRefused as IsRefusedFor}
+use Rattle.commands.specs.PolicyFiles.{IsPolicyRefused as IsRefusedFor}
 use Rattle.office_commands.specs.Policies.{IsUnread, installed_text}
 use Rattle.office_commands.specs.Stores.{RunsOn}
 use Rattle.office_commands.specs.Texts.{IsUnsaid}
-use Rattle.office_commands.specs.Traffic.{Begins, Prints, Traffic}
+use Rattle.office_commands.specs.Traffic.{Begins, WritesText, Traffic}
 use Rattle.office_commands.specs.declared.done.Done.{Done}
 use Rattle.office_commands.specs.declared.fault.CommandFault.{CommandFault}
 use Rattle.office_commands.specs.declared.fault.CommandFault.TheVariants as faults
@@ -29,7 +29,7 @@ IsQuiet done = (done.reason ≡ None) × (done.ending ≡ Accepted)
 -- these bytes are refused as a policy, and that comes to this; or they spell one, with which it goes on
 pub data ComesOfBytes (IsRefused : RefusedPolicy → Type 0) (GoesOn : Bor PolicyValue → Type 0) (bytes : List ℕ) : Type 0 where
   refused_policy : (refused : RefusedPolicy) → IsRefusedFor bytes refused → IsRefused refused → ComesOfBytes IsRefused GoesOn bytes
-  read_policy : (policy : Bor PolicyValue) → Spells bytes policy.now → GoesOn policy → ComesOfBytes IsRefused GoesOn bytes
+  read_policy : (policy : Bor PolicyValue) → SpellsPolicyBytes bytes policy.now → GoesOn policy → ComesOfBytes IsRefused GoesOn bytes
 
 -- nothing is read, written or opened
 abbrev pub IsUntouched : Type 0 → Traffic → Traffic → Type 0
@@ -53,12 +53,12 @@ ComesOfNamed {F} reads unread ComesOf = unread ⊎ ((file : F) × ComesOfFile (r
 -- the fault is printed, and why is to be told; or the output or memory fails
 abbrev pub SaysRefused : RefusedPolicy → Result Done CommandFault → Traffic → Traffic → Type 0
 SaysRefused refused (Ok done) was now =
-    (option_map string_bytes done.reason ≡ Some (string_bytes refused.reason)) × (done.ending ≡ Refused) × Prints (bad_policy_text refused.fault) was now
+    (option_map string_bytes done.reason ≡ Some (string_bytes refused.reason)) × (done.ending ≡ Refused) × WritesText (bad_policy_text refused.fault) was now
 SaysRefused refused (Err fault) was now = IsUnsaid fault × Begins (bad_policy_text refused.fault) was now
 
 -- once the policy is installed that is printed, or the output or memory fails; where it isn't, nothing is printed
 abbrev pub SaysInstalled : PolicyValue → Result Done CommandFault → Result Done CommandFault → Traffic → Traffic → Type 0
-SaysInstalled policy (Ok _) (Ok done) was now = IsQuiet done × Prints (installed_text policy) was now
+SaysInstalled policy (Ok _) (Ok done) was now = IsQuiet done × WritesText (installed_text policy) was now
 SaysInstalled policy (Ok _) (Err fault) was now = IsUnsaid fault × Begins (installed_text policy) was now
 SaysInstalled policy (Err fault) (Err told) was now = (told ≡ fault) × (now ≡ was)
 SaysInstalled policy (Err fault) (Ok _) was now = ⊥

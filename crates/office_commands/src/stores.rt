@@ -14,7 +14,7 @@ ghost use Rattle.office_tables.specs.Opening.{has_office};
 ghost use Rattle.office_tables.specs.Schema.{no_schema};
 ghost use Rattle.office_engine.specs.Keeping.{IsKeptBy, IsLeftAt};
 ghost use Rattle.office_commands.specs.Deeds.{AreDone, Deed};
-ghost use Rattle.office_commands.specs.Stores.{GoesOnFrom, IsOfficeOf, RunsInFile, RunsInMemory, RunsOn, RunsOver, SomeOffice, made_office};
+ghost use Rattle.office_commands.specs.Stores.{GoesOnFrom, IsOfficeOver, RunsInFile, RunsInMemory, RunsOn, RunsOver, SomeOffice, made_office};
 ghost use Rattle.office_commands.specs.Tasks.{ComesOfTask, makes_office, reads_input};
 ghost use Rattle.office_commands.specs.Texts.{IsOfOpening, IsOfStore, IsUnclosable, IsUnopenable, found_nothing, is_of_search, is_sought, search_failure, store_failure};
 ghost use Rattle.office_commands.specs.Traffic.{traffic_of};
@@ -29,8 +29,8 @@ use crate::working::table_failure;
 use http_desk::Counted;
 use office_core::Limits;
 use office_engine::Office;
-use office_recovery::open_file;
 use office_rows::MAX_LIMIT;
+use office_tables::open_file;
 use sqlite::{Alter, Connection, Error, ErrorCode, FileFrom, FileStore, Files, Start};
 use sqlite_disk::Disk;
 use std::fs::{self, OpenOptions};
@@ -205,7 +205,7 @@ fn is_to_be_made(rt: &HostRuntime, store: &str, makes: bool) -> Result<bool, Com
 /// The office of the connection: it is made there, or was there.
 fn office_of<S: Alter + Drop>(conn: Connection<S>, is_new: bool) -> Result<Office<S>, CommandFault>
     requires outside { (state S.Store conn).in_transaction ≡ false }
-    ensures is { IfOk result (IsOfficeOf S.Store conn is_new) }
+    ensures is { IfOk result (IsOfficeOver S.Store conn is_new) }
     ensures failure { IfErr result IsUnopenable }
     ensures not_sought { IfErr result (λ fault. is_sought fault ≡ false) }
 {
@@ -227,7 +227,7 @@ fn work_over<S: Alter + Drop, R: Read, O: Write>(
 ) -> Result<(Connection<S>, Result<Done, CommandFault>), CommandFault>
     requires outside { (state S.Store conn).in_transaction ≡ false }
     ensures works { IfOk result (λ worked.
-        SomeOffice (IsOfficeOf S.Store conn is_new) (λ office.
+        SomeOffice (IsOfficeOver S.Store conn is_new) (λ office.
         (deeds : List Deed)
         × ComesOfTask task.now worked.1 deeds (traffic_of R.Read O.Write input.old out.old)
         (traffic_of R.Read O.Write input.new out.new) × AreDone S.Store deeds office worked.0)) }

@@ -1,8 +1,8 @@
 use Rattle.std.proofs.Common.{◌≡◌, ap, subst}
 use Rattle.desk_devices.specs.Devices.{device_of}
 use Rattle.sqlite.specs.Held.{state}
-use Rattle.http_desk.specs.Serving.{ServesBytes}
-use Rattle.http_desk.proofs.ServingLemmas.{unserved}
+use Rattle.desk_serving.specs.Serving.{ServesBytes}
+use Rattle.http_desk.proofs.ReplayLemmas.{unserved}
 use Rattle.http_desk.proofs.answering.answer_next.Goals as goal
 
 pub returns-in-Err-Memory-clause-answered : goal.returns-in-Err-Memory-clause-answered

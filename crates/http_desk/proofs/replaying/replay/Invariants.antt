@@ -1,6 +1,6 @@
 use Rattle.std.proofs.Common.{◌≡◌, ◌≤◌, ◌-◌, ◌*◌, ◌+◌, length}
 use Rattle.desk_devices.specs.Devices.{device_of, failures_of}
-use Rattle.desk_records.specs.RecordLists.{max_records}
+use Rattle.http_desk.specs.RecordLists.{max_records}
 use Rattle.http_desk.proofs.ReplayLemmas.{Progress}
 use Rattle.http_desk.proofs.replaying.replay.Given as goal
 

@@ -1,4 +1,0 @@
-pub mod LengthLemmas
-pub mod LineLemmas
-pub mod FoundLemmas
-pub mod ListLemmas

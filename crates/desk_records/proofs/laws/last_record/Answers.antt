@@ -1,6 +1,0 @@
-use Rattle.std.proofs.Common.{refl}
-use Rattle.desk_records.proofs.FoundLemmas.{wanted_none}
-use Rattle.desk_records.proofs.laws.last_record.Goals as goal
-
-pub returns-clause-end : goal.returns-clause-end
-returns-clause-end c = λ items rest each few wants. record { text = refl; each = each; few = few; ends = λ _. wanted_none rest wants }

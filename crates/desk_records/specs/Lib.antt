@@ -1,4 +1,0 @@
-pub mod Records
-pub mod RecordReading
-pub mod Finds
-pub mod RecordLists

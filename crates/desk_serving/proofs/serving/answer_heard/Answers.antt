@@ -1,0 +1,24 @@
+use Rattle.std.proofs.Common.{arith, refl}
+use Rattle.desk_serving.proofs.serving.answer_heard.Goals as goal
+
+pub returns : goal.returns
+returns g c = (
+  c.step-answer.result,
+  record {
+    item = (c.args.day, c.caller.result, c.request.result);
+    asks = record { on_day = refl; caller = c.caller.ensures; asked = c.request.ensures };
+    clean = λ clean. omega (arith, clean, c.step-answer.ensures.survives.clean);
+    survives = c.step-answer.ensures.survives;
+    turn = λ honest. record {
+      served = c.step-answer.ensures.served honest;
+      kept = c.step-answer.ensures.kept honest;
+      rows = c.step-answer.ensures.rows honest;
+      shut = c.step-answer.ensures.shut honest;
+      survives = c.step-answer.ensures.survives;
+      durable = c.step-answer.ensures.durable honest;
+      leaves = c.step-answer.ensures.leaves honest;
+      made = c.step-answer.ensures.made honest;
+    };
+  },
+  c.answer_bytes.ensures,
+)

@@ -1,0 +1,38 @@
+-- What serving one request does: what is heard of its bytes, what the office does, and the text that answers. `old` is the office before a
+-- call and `new` the office after it. The rules are Depot's own.
+use Rattle.std.specs.Prelude.{◌≡◌, ℕ, List, Bool, true, false, Ok, Err}
+use Rattle.jiff.specs.Types.{Date}
+use Rattle.sqlite.specs.Held.{Held, state}
+use Rattle.sqlite.specs.State.{State, HasCleanDisk, Survives}
+use Rattle.sqlite.specs.Store.{Ghosts}
+use Rattle.office_core.specs.declared.answer.Answer.{Answer}
+use Rattle.office_history.specs.Runs.{Item}
+use Rattle.office_engine.specs.Keeping.{CommitsTo, IsTurn, after_item}
+use Rattle.desk_routes.specs.declared.refusal.DeskRefusal.{DeskRefusal}
+use Rattle.desk_hearing.specs.Asked.{HeardValue, asked_of}
+use Rattle.desk_hearing.specs.Hearing.{Hears}
+use Rattle.desk_answers.specs.Answers.{answer_text, refusal_text}
+
+-- the item of a run that asks what was heard, on that day
+pub record IsItemOf (day : Date) (heard : HeardValue) (item : Item) : Type 0 where
+  pub on_day : item.0 ≡ day
+  pub caller : item.1.now ≡ heard.caller
+  pub asked : asked_of item.2 ≡ heard.asked
+
+-- the office serves what was heard, with this answer: as one turn of a run does, on an honest disk; what a crash may leave then is the
+-- office before or after it
+pub record IsHeardServed (day : Date) (heard : HeardValue) (old new : State) (answer : Answer) : Type 0 where
+  pub item : Item
+  pub asks : IsItemOf day heard item
+  pub clean : HasCleanDisk new → HasCleanDisk old
+  pub survives : Survives old new (CommitsTo old (after_item item))
+  pub turn : HasCleanDisk new → IsTurn old new item answer
+
+-- the office serves what the bytes ask
+abbrev pub ServesBytes : Date → List ℕ → State → State → Answer → Type 0
+ServesBytes day bytes old new answer = (heard : HeardValue) × Hears bytes (Ok heard) × IsHeardServed day heard old new answer
+
+-- the bytes are answered with this text by the office, or, where the desk refuses them, by the desk, and then the office is as it was
+abbrev pub IsAnswered : {S : Type 0} → Ghosts S → Bool → Date → List ℕ → Held S → Held S → List ℕ → Type 0
+IsAnswered g true day bytes old new text = (answer : Answer) × ServesBytes day bytes (state g old) (state g new) answer × (text ≡ answer_text answer)
+IsAnswered g false day bytes old new text = (refusal : DeskRefusal) × Hears bytes (Err refusal) × (new ≡ old) × (text ≡ refusal_text refusal)

@@ -1,0 +1,7 @@
+//! One request, from the bytes that a reader gives to the bytes that a writer takes: heard, served by the office, answered.
+#![tactic(auto)]
+
+pub mod laws;
+mod serving;
+
+pub use serving::{DeskFault, Response, Unanswered, respond, serve_one};
