@@ -70,11 +70,12 @@ def marked(text):
 def page_of(overall, helps):
     """The man page."""
     usage, more = overall.rstrip("\n").split("\n\n")
-    calls = [line.removeprefix("Usage: ").strip() for line in usage.split("\n")]
+    version, *uses = usage.split("\n")
+    calls = [line.removeprefix("Usage: ").strip() for line in uses]
     for_what, *rest = more.split("\n")
     lines = [
         '.\\" Made of what `depot --help` says, by diff/manual.py: change it there, and not here.',
-        ".TH DEPOT 1",
+        f'.TH DEPOT 1 "" "{escaped(version)}"',
         ".SH NAME",
         f"depot \\- {escaped(for_what.removeprefix('Depot ').rstrip('.'))}",
         ".SH SYNOPSIS",

@@ -14,8 +14,8 @@ use Rattle.clap.specs.declared.builder.command.Command.{Command}
 use Rattle.clap.specs.declared.parser.matches.ArgMatches.{ArgMatches}
 use Rattle.clap.proofs.CallerLemmas.{required_in_chain}
 use Rattle.clap.proofs.WalkLemmas.{first_value-rows}
-use Rattle.command_line.specs.Lines.{command_of, value_of}
-use Rattle.command_line.specs.CommandBuilding.{AreReadBy, IsReadBy, Takes, are_names, is_own_name, names_of, needed_names, rule_for, rules_for}
+use Rattle.command_line.specs.Lines.{command_of, value_under}
+use Rattle.command_line.specs.CommandBuilding.{AreReadBy, IsReadBy, TakesArguments, are_names, is_own_name, names_of, needed_names, rule_for, rules_for}
 use Rattle.command_line.specs.declared.words.Argument.{Argument}
 
 -- ---- the rules that clap reads
@@ -30,7 +30,7 @@ added_rules old new (rule ∷ rules) (arg ∷ args) read added =
     ∙ ap (λ (start : App). fold with_rule start rules) (added.1.shape read.0.own ∙ ap (with_rule (app_of old)) read.0.rule)
 
 -- what is built is the command that takes the arguments
-pub wanted_app : (name : Text) (rules : List Rule) (command : Command) → Takes name rules command → app_of command ≡ command_of name rules
+pub wanted_app : (name : Text) (rules : List Rule) (command : Command) → TakesArguments name rules command → app_of command ≡ command_of name rules
 wanted_app name rules command takes =
     added_rules takes.start command rules takes.args takes.read takes.added
     ∙ ap (λ (start : App). fold with_rule start rules) takes.app
@@ -154,7 +154,7 @@ needed P (rule ∷ rules) each = go (needed P rules (λ k e lt required. each (s
     go others false is = rw is others
 
 -- each argument that has to stand has a value
-pub needed_is_given : (name : Text) (rules : List Rule) (command : Command) (matches : ArgMatches) → Takes name rules command → are_names (names_of rules) ≡ true
+pub needed_is_given : (name : Text) (rules : List Rule) (command : Command) (matches : ArgMatches) → TakesArguments name rules command → are_names (names_of rules) ≡ true
     → IsParsedFrom command matches → All (λ (wanted : Text). is_some (first_value (found_of matches) wanted) ≡ true) (needed_names rules)
 needed_is_given name rules command matches takes good parsed =
     needed (λ (wanted : Text). is_some (first_value (found_of matches) wanted) ≡ true) rules one
@@ -176,13 +176,13 @@ needed_is_given name rules command matches takes good parsed =
 
 -- ---- the same of what a parse answers
 
-pub given_by_words : (name : Text) (rules : List Rule) (command : Command) (r : Result ArgMatches Error) → Takes name rules command → are_names (names_of rules) ≡ true
+pub given_by_words : (name : Text) (rules : List Rule) (command : Command) (r : Result ArgMatches Error) → TakesArguments name rules command → are_names (names_of rules) ≡ true
     → IfOk r (IsParsedFrom command) → IfOk r (λ matches. All (λ (wanted : Text). is_some (first_value (found_of matches) wanted) ≡ true) (needed_names rules))
 given_by_words name rules command (Ok matches) takes good parsed = needed_is_given name rules command matches takes good parsed
 given_by_words name rules command (Err e) takes good parsed = tt
 
 pub values_by_words : (a b : App) (words : List Text) (r : Result ArgMatches Error) → a ≡ b → is_simple_and_free b ≡ true → IfOk r (HasMatchesOf a words)
-    → IfOk r (λ matches. (wanted : Text) → first_value (found_of matches) wanted ≡ value_of b wanted words)
+    → IfOk r (λ matches. (wanted : Text) → first_value (found_of matches) wanted ≡ value_under b wanted words)
 values_by_words a b words (Ok matches) same simple has = λ wanted.
     first_value-rows (found_of matches) wanted
     ∙ ap (first_of wanted) ((has (ap is_simple same ∙ (and_parts _ _ simple).0)).0 ∙ ap (λ (c : App). matches_of c words) same)

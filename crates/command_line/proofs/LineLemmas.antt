@@ -12,7 +12,7 @@ use Rattle.clap.specs.declared.error.kind.ErrorKind.TheVariants.{OutOfMemory}
 use Rattle.clap.specs.declared.parser.matches.ArgMatches.{ArgMatches}
 use Rattle.bag_text.specs.Text.{texts}
 use Rattle.command_line.specs.CommandBuilding.{IsLineOf, MakesNoLine, are_names, command_for, names_of, rules_for}
-use Rattle.command_line.specs.Lines.{AskNothing, Asks, Finds, HasValues, Names, command_of, command_of_subcommand, name_text, rules_of, subcommand_of, value_of, values_for}
+use Rattle.command_line.specs.Lines.{AskNothing, Asks, FindsText, HasValues, Names, command_of, command_of_subcommand, name_text, subcommand_rules, subcommand_of, value_under, values_for}
 use Rattle.command_line.specs.Usage.{NamesNone, help_words, no_subcommand_text, uses_text, usage_for, usage_for_word}
 use Rattle.command_line.specs.declared.line.Line.{Line}
 use Rattle.command_line.specs.declared.subcommand.Subcommand.{Subcommand}
@@ -28,7 +28,7 @@ pub same_some : {X : Type 0} (o : Option X) (x y : X) → o ≡ Some x → o ≡
 same_some o x y is is_too = ap (λ p. unwrap_or p x) (sym is ∙ is_too)
 
 -- where the text that is found is no such value, none is found
-pub not_found : (values : Text → Option Text) (name word : Text) (P : Text → Type 0) → values name ≡ Some word → (P word → ⊥) → Finds values name P → ⊥
+pub not_found : (values : Text → Option Text) (name word : Text) (P : Text → Type 0) → values name ≡ Some word → (P word → ⊥) → FindsText values name P → ⊥
 not_found values name word P is bad found = bad (subst P (same_some _ found.0 word found.1 is) found.2)
 
 -- ---- the subcommands
@@ -46,7 +46,7 @@ is_simple_command Replay = refl
 is_simple_command Serve = refl
 
 -- and none takes two arguments of one name
-pub has_names : (subcommand : Subcommand) → are_names (names_of (rules_of subcommand)) ≡ true
+pub has_names : (subcommand : Subcommand) → are_names (names_of (subcommand_rules subcommand)) ≡ true
 has_names Check = refl
 has_names Pack = refl
 has_names Unpack = refl
@@ -109,13 +109,14 @@ pub none_asked : (words : List Text) → NamesNone words → AskNothing words
 none_asked words none line asks = none (subcommand_of line) asks.first
 
 -- what is said of them
-pub no_word_usage : (words : List (Bor Text)) → slice_get words 0 ≡ None → uses_text ≡ usage_for (texts words)
-no_word_usage [] none = refl
-no_word_usage (x ∷ words) none = absurd (none-some x (sym none))
+pub no_word_usage : (version : Text) (words : List (Bor Text)) → slice_get words 0 ≡ None → uses_text version ≡ usage_for version (texts words)
+no_word_usage version [] none = refl
+no_word_usage version (x ∷ words) none = absurd (none-some x (sym none))
 
-pub first_usage : (words : List (Bor Text)) (word : Bor Text) → slice_get words 0 ≡ Some word → usage_for_word word.now ≡ usage_for (texts words)
-first_usage [] word first = absurd (none-some word first)
-first_usage (x ∷ words) word first = ap (λ o. usage_for_word (unwrap_or o word).now) (sym first)
+pub first_usage : (version : Text) (words : List (Bor Text)) (word : Bor Text) → slice_get words 0 ≡ Some word
+    → usage_for_word version word.now ≡ usage_for version (texts words)
+first_usage version [] word first = absurd (none-some word first)
+first_usage version (x ∷ words) word first = ap (λ o. usage_for_word version (unwrap_or o word).now) (sym first)
 
 -- ---- lines
 
@@ -153,14 +154,14 @@ not_taken words subcommand named fault line asks =
 -- ---- what a command that is built for the subcommand makes of the words
 
 -- it is the subcommand's command
-pub same_command : (subcommand : Subcommand) (usage : Usage) → usage.name.now ≡ name_text subcommand → rules_for usage.arguments.now ≡ rules_of subcommand
+pub same_command : (subcommand : Subcommand) (usage : Usage) → usage.name.now ≡ name_text subcommand → rules_for usage.arguments.now ≡ subcommand_rules subcommand
     → command_for usage ≡ command_of_subcommand subcommand
 unfolding command_of_subcommand
 same_command subcommand usage name rules = ap₂ command_of name rules
 
 -- what it finds
 abbrev pub AreFoundBy : App → List Text → ArgMatches → Type 0
-AreFoundBy command words matches = (wanted : Text) → first_value (found_of matches) wanted ≡ value_of command wanted words
+AreFoundBy command words matches = (wanted : Text) → first_value (found_of matches) wanted ≡ value_under command wanted words
 
 pub lines_asked : (words : List Text) (subcommand : Subcommand) (command : App) (matches : ArgMatches) (read : Result Line UseFault) → command ≡ command_of_subcommand subcommand
     → Names words subcommand → fault_of command words ≡ [] → AreFoundBy command words matches → IfOk read (IsLineOf subcommand matches) → IfOk read (Asks words)
@@ -186,5 +187,6 @@ refused_by_clap words subcommand command error fault same named (inr among) memo
 -- ---- words that name no subcommand
 
 -- what is said of a word that doesn't ask for help
-pub named_usage : (word text : Text) → list_any (bytes_eq word) help_words ≡ false → text ≡ no_subcommand_text word → text ≡ usage_for_word word
-named_usage word text other is = is ∙ ap (λ help. if help then uses_text else no_subcommand_text word) (sym other)
+pub named_usage : (version word text : Text) → list_any (bytes_eq word) help_words ≡ false → text ≡ no_subcommand_text version word
+    → text ≡ usage_for_word version word
+named_usage version word text other is = is ∙ ap (λ help. if help then uses_text version else no_subcommand_text version word) (sym other)

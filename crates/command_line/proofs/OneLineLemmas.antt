@@ -4,7 +4,7 @@ use Rattle.std.specs.Str.Parse.{digits_value}
 use Rattle.clap.specs.Words.{Text}
 use Rattle.jiff.specs.Types.{Date}
 use Rattle.office_core.specs.Days.{day_text}
-use Rattle.command_line.specs.Lines.{Asks, Finds, FindsDay, HasValues, IsDayText, IsNameOrNone, Writes, name_word, subcommand_of, values_for, with_day, words_of}
+use Rattle.command_line.specs.Lines.{Asks, FindsText, FindsDay, HasValues, IsDayText, IsNameOrNone, WritesNumber, name_word, subcommand_of, values_for, with_day, words_of}
 use Rattle.command_line.specs.declared.line.Line.{Line}
 use Rattle.command_line.specs.declared.line.Line.TheVariants as lines
 use Rattle.command_line.specs.declared.subcommand.Subcommand.{Subcommand}
@@ -44,13 +44,13 @@ written Serve values =
 same_text : (values : Text → Option Text) (name text : Text) → values name ≡ Some text → text ≡ text_at values name
 same_text values name text is = ap (λ o. unwrap_or o []) (sym is)
 
-same_day : (values : Text → Option Text) (name : Text) (day : Date) → Finds values name (λ text. IsDayText text day) → day_text day ≡ text_at values name
+same_day : (values : Text → Option Text) (name : Text) (day : Date) → FindsText values name (λ text. IsDayText text day) → day_text day ≡ text_at values name
 same_day values name day found = sym found.2.1 ∙ same_text values name found.0 found.1
 
-same_name : (values : Text → Option Text) (name : Text) (wanted : Option Text) → Finds values name (λ text. IsNameOrNone text wanted) → name_word wanted ≡ text_at values name
+same_name : (values : Text → Option Text) (name : Text) (wanted : Option Text) → FindsText values name (λ text. IsNameOrNone text wanted) → name_word wanted ≡ text_at values name
 same_name values name wanted found = sym found.2.1 ∙ same_text values name found.0 found.1
 
-same_number : (values : Text → Option Text) (name text : Text) (number : ℕ) → values name ≡ Some text → Writes text number
+same_number : (values : Text → Option Text) (name text : Text) (number : ℕ) → values name ≡ Some text → WritesNumber text number
     → decimal number ≡ decimal (digits_value 10 (text_at values name))
 same_number values name text number is writes = ap decimal (sym writes.1) ∙ ap (λ (t : Text). decimal (digits_value 10 t)) (same_text values name text is)
 

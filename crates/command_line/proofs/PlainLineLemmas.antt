@@ -10,7 +10,7 @@ use Rattle.office_core.specs.Actions.{action_text}
 use Rattle.office_core.specs.Days.{IsDay, day_text}
 use Rattle.office_core.specs.declared.action.Action.{Action}
 use Rattle.office_core.specs.declared.action.Action.TheVariants.{Class, Collection, Deposit, List as Listing, Record, Holds, Download, Audit, Hold, Release, Dispose}
-use Rattle.command_line.specs.Lines.{AskNothing, Asks, FindsDay, IsPlainLine, IsPlainQuestion, IsPlainWord, IsQuestion, Writes, command_of_subcommand, name_word, values_for, with_day, words_of}
+use Rattle.command_line.specs.Lines.{AskNothing, Asks, FindsDay, IsPlainLine, IsPlainQuestion, IsPlainWord, IsQuestion, WritesNumber, command_of_subcommand, name_word, values_for, with_day, words_of}
 use Rattle.command_line.specs.declared.line.Line.{Line}
 use Rattle.command_line.specs.declared.line.Line.TheVariants as lines
 use Rattle.command_line.specs.declared.subcommand.Subcommand.TheVariants.{Explain}
@@ -34,7 +34,7 @@ numeral_is_plain (x ∷ ds) is = inr (λ dash.
 decimal_is_plain : (n : ℕ) → n < 2 ^ 64 → IsPlainWord (decimal n)
 decimal_is_plain n lt = numeral_is_plain (decimal n) (decimal_is_IsNumeral n lt).0
 
-writes : (n : ℕ) → n < 2 ^ 64 → Writes (decimal n) n
+writes : (n : ℕ) → n < 2 ^ 64 → WritesNumber (decimal n) n
 writes n lt = decimal_is_IsNumeral n lt
 
 -- so is a day

@@ -9,7 +9,7 @@ use Rattle.clap.specs.declared.builder.arg.Arg.{Arg}
 use Rattle.clap.specs.declared.builder.command.Command.{Command}
 use Rattle.clap.specs.declared.builder.command.Command.TheViews.{out-Command}
 use Rattle.clap.specs.declared.parser.matches.ArgMatches.{ArgMatches}
-use Rattle.command_line.specs.Lines.{HasValues, command_of, rules_of, subcommand_of}
+use Rattle.command_line.specs.Lines.{HasValues, command_of, subcommand_rules, subcommand_of}
 use Rattle.command_line.specs.declared.line.Line.{Line}
 use Rattle.command_line.specs.declared.subcommand.Subcommand.{Subcommand}
 use Rattle.command_line.specs.declared.words.Argument.{Argument}
@@ -52,7 +52,7 @@ AreReadBy (rule ∷ rules) [] = ⊥
 AreReadBy (rule ∷ rules) (arg ∷ args) = IsReadBy rule arg × AreReadBy rules args
 
 -- the command is a new one, to which arguments with these rules were added in turn
-pub record Takes (name : Text) (rules : List Rule) (command : Command) : Type 0 where
+pub record TakesArguments (name : Text) (rules : List Rule) (command : Command) : Type 0 where
   pub start : Command
   pub args : List Arg
   pub app : app_of start ≡ new_app name
@@ -80,7 +80,7 @@ names_of = map (λ rule. rule.id)
 
 -- clap found a value under each name that the subcommand requires
 abbrev pub HasNeeded : Subcommand → ArgMatches → Type 0
-HasNeeded subcommand matches = All (λ (wanted : Text). is_some (first_value (found_of matches) wanted) ≡ true) (needed_names (rules_of subcommand))
+HasNeeded subcommand matches = All (λ (wanted : Text). is_some (first_value (found_of matches) wanted) ≡ true) (needed_names (subcommand_rules subcommand))
 
 -- a line of the subcommand, and the values that clap found are its
 abbrev pub IsLineOf : Subcommand → ArgMatches → Line → Type 0

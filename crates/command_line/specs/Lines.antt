@@ -38,16 +38,16 @@ abbrev pub free_option : Text → Text → Rule
 free_option option name = record (new_rule name) { long = Some option; action = Some Set }
 
 -- what each subcommand takes, the words in their order
-abbrev pub rules_of : Subcommand → List Rule
-rules_of Check = wanted_word (codes "FILE") ∷ []
-rules_of Pack = wanted_word (codes "DIR") ∷ wanted_word (codes "FILE") ∷ []
-rules_of Unpack = wanted_word (codes "FILE") ∷ wanted_word (codes "DIR") ∷ []
-rules_of Explain =
+abbrev pub subcommand_rules : Subcommand → List Rule
+subcommand_rules Check = wanted_word (codes "FILE") ∷ []
+subcommand_rules Pack = wanted_word (codes "DIR") ∷ wanted_word (codes "FILE") ∷ []
+subcommand_rules Unpack = wanted_word (codes "FILE") ∷ wanted_word (codes "DIR") ∷ []
+subcommand_rules Explain =
     free_option (codes "day") (codes "DAY") ∷ wanted_word (codes "POLICY") ∷ wanted_word (codes "CALLER") ∷ wanted_word (codes "ACTION") ∷ wanted_word (codes "COLLECTION") ∷ wanted_word (codes "CLASS") ∷ []
-rules_of Policy = wanted_word (codes "STORE") ∷ wanted_word (codes "POLICY") ∷ []
-rules_of Ask = wanted_word (codes "STORE") ∷ wanted_word (codes "DAY") ∷ []
-rules_of Replay = free_option (codes "policy") (codes "POLICY") ∷ wanted_word (codes "STORE") ∷ []
-rules_of Serve =
+subcommand_rules Policy = wanted_word (codes "STORE") ∷ wanted_word (codes "POLICY") ∷ []
+subcommand_rules Ask = wanted_word (codes "STORE") ∷ wanted_word (codes "DAY") ∷ []
+subcommand_rules Replay = free_option (codes "policy") (codes "POLICY") ∷ wanted_word (codes "STORE") ∷ []
+subcommand_rules Serve =
     wanted_option (codes "port") (codes "P") ∷ wanted_option (codes "count") (codes "N") ∷ wanted_word (codes "STORE") ∷ wanted_word (codes "DAY") ∷ []
 
 -- the command of this name that takes arguments with these rules, in this order
@@ -56,25 +56,25 @@ command_of name rules = fold with_rule (new_app name) rules
 
 -- the command that clap reads the words of a subcommand with
 unfoldable pub command_of_subcommand : Subcommand → App
-command_of_subcommand subcommand = command_of (name_text subcommand) (rules_of subcommand)
+command_of_subcommand subcommand = command_of (name_text subcommand) (subcommand_rules subcommand)
 
 -- ---- values
 
 -- the value that clap finds under this name, where it finds one
-abbrev pub value_of : App → Text → List Text → Option Text
-value_of command name words = first_of name (matches_of command words)
+abbrev pub value_under : App → Text → List Text → Option Text
+value_under command name words = first_of name (matches_of command words)
 
 -- the values that clap finds for a subcommand, by their names
 abbrev pub values_for : Subcommand → List Text → Text → Option Text
-values_for subcommand words name = value_of (command_of_subcommand subcommand) name words
+values_for subcommand words name = value_under (command_of_subcommand subcommand) name words
 
 -- under this name there is a text, and of that text the fact holds
-abbrev pub Finds : (Text → Option Text) → Text → (Text → Type 0) → Type 0
-Finds values name P = (text : Text) × (values name ≡ Some text) × P text
+abbrev pub FindsText : (Text → Option Text) → Text → (Text → Type 0) → Type 0
+FindsText values name P = (text : Text) × (values name ≡ Some text) × P text
 
 -- one decimal digit or more, and nothing else, which write this number; zeros may stand in front
-abbrev pub Writes : Text → ℕ → Type 0
-Writes text number = IsNumeral 10 text × (digits_value 10 text ≡ number)
+abbrev pub WritesNumber : Text → ℕ → Type 0
+WritesNumber text number = IsNumeral 10 text × (digits_value 10 text ≡ number)
 
 -- the highest port, and the most connections that a call serves
 abbrev pub max_port : ℕ
@@ -84,10 +84,10 @@ abbrev pub max_count : ℕ
 max_count = 1_000_000
 
 abbrev pub IsPort : Text → ℕ → Type 0
-IsPort text port = Writes text port × (port ≤ max_port)
+IsPort text port = WritesNumber text port × (port ≤ max_port)
 
 abbrev pub IsCount : Text → ℕ → Type 0
-IsCount text count = Writes text count × (1 ≤ count) × (count ≤ max_count)
+IsCount text count = WritesNumber text count × (1 ≤ count) × (count ≤ max_count)
 
 -- a day as `2024-03-01`
 abbrev pub IsDayText : Text → Date → Type 0
@@ -109,7 +109,7 @@ IsNameOrNone text name = IsWritable name × (text ≡ name_word name)
 -- under this name there is this day, or nothing
 abbrev pub FindsDay : (Text → Option Text) → Text → Option Date → Type 0
 FindsDay values name None = values name ≡ None
-FindsDay values name (Some day) = Finds values name (λ text. IsDayText text day)
+FindsDay values name (Some day) = FindsText values name (λ text. IsDayText text day)
 
 -- what `explain` is asked
 pub record IsQuestion (values : Text → Option Text) (asked : Asked) : Type 0 where
@@ -117,15 +117,15 @@ pub record IsQuestion (values : Text → Option Text) (asked : Asked) : Type 0 w
   pub policy : values (codes "POLICY") ≡ Some asked.policy.now
   pub caller : values (codes "CALLER") ≡ Some asked.caller.now
   pub action : values (codes "ACTION") ≡ Some (action_text asked.action)
-  pub collection : Finds values (codes "COLLECTION") (λ text. IsNameOrNone text asked.collection)
-  pub class : Finds values (codes "CLASS") (λ text. IsNameOrNone text asked.class)
+  pub collection : FindsText values (codes "COLLECTION") (λ text. IsNameOrNone text asked.collection)
+  pub class : FindsText values (codes "CLASS") (λ text. IsNameOrNone text asked.class)
 
 -- what `serve` is told
 pub record IsServing (values : Text → Option Text) (port count : ℕ) (store : Text) (day : Date) : Type 0 where
-  pub at_port : Finds values (codes "P") (λ text. IsPort text port)
-  pub at_count : Finds values (codes "N") (λ text. IsCount text count)
+  pub at_port : FindsText values (codes "P") (λ text. IsPort text port)
+  pub at_count : FindsText values (codes "N") (λ text. IsCount text count)
   pub at_store : values (codes "STORE") ≡ Some store
-  pub at_day : Finds values (codes "DAY") (λ text. IsDayText text day)
+  pub at_day : FindsText values (codes "DAY") (λ text. IsDayText text day)
 
 -- ---- lines
 
@@ -147,7 +147,7 @@ HasValues values (lines.Pack folder file) = (values (codes "DIR") ≡ Some folde
 HasValues values (lines.Unpack file folder) = (values (codes "FILE") ≡ Some file.now) × (values (codes "DIR") ≡ Some folder.now)
 HasValues values (lines.Explain asked) = IsQuestion values asked
 HasValues values (lines.Policy store policy) = (values (codes "STORE") ≡ Some store.now) × (values (codes "POLICY") ≡ Some policy.now)
-HasValues values (lines.Ask store day) = (values (codes "STORE") ≡ Some store.now) × Finds values (codes "DAY") (λ text. IsDayText text day)
+HasValues values (lines.Ask store day) = (values (codes "STORE") ≡ Some store.now) × FindsText values (codes "DAY") (λ text. IsDayText text day)
 HasValues values (lines.Replay policy store) = (values (codes "POLICY") ≡ option_map (λ file. file.now) policy) × (values (codes "STORE") ≡ Some store.now)
 HasValues values (lines.Serve port count store day) = IsServing values port count store.now day
 

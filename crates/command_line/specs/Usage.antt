@@ -29,26 +29,30 @@ more_lines =
     codes "Depot checks and keeps BagIt bags, serves them by a policy, and destroys them when due." ++ 10
     ∷ codes "depot COMMAND --help says what each command takes." ++ 10 ∷ []
 
--- how the program is used: the lines of usage, and those after an empty line
-abbrev pub uses_text : List ℕ
-uses_text = usage_lines ++ 10 ∷ more_lines
+-- the line of the version
+abbrev pub version_line : Text → List ℕ
+version_line version = codes "depot " ++ version ++ 10 ∷ []
+
+-- how the program of this version is used: the line of the version, the lines of usage, and those after an empty line
+abbrev pub uses_text : Text → List ℕ
+uses_text version = version_line version ++ usage_lines ++ 10 ∷ more_lines
 
 -- the words that ask how the program is used
 abbrev pub help_words : List Text
 help_words = codes "help" ∷ codes "--help" ∷ codes "-h" ∷ []
 
 -- that the program has no subcommand of this name, and how it is used
-abbrev pub no_subcommand_text : Text → List ℕ
-no_subcommand_text word = codes "depot has no subcommand " ++ printed_text word ++ 10 ∷ uses_text
+abbrev pub no_subcommand_text : Text → Text → List ℕ
+no_subcommand_text version word = codes "depot has no subcommand " ++ printed_text word ++ 10 ∷ uses_text version
 
 -- what is said of such a first word
-abbrev pub usage_for_word : Text → List ℕ
-usage_for_word word = if list_any (bytes_eq word) help_words then uses_text else no_subcommand_text word
+abbrev pub usage_for_word : Text → Text → List ℕ
+usage_for_word version word = if list_any (bytes_eq word) help_words then uses_text version else no_subcommand_text version word
 
 -- what is said of such words
-abbrev pub usage_for : List Text → List ℕ
-usage_for [] = uses_text
-usage_for (word ∷ words) = usage_for_word word
+abbrev pub usage_for : Text → List Text → List ℕ
+usage_for version [] = uses_text version
+usage_for version (word ∷ words) = usage_for_word version word
 
 -- ---- how it is said
 

@@ -8,6 +8,7 @@ mod subcommand;
 mod usages;
 mod use_fault;
 mod values;
+mod version;
 mod words;
 
 pub use line::Line;
@@ -15,3 +16,4 @@ pub use number::MAX_COUNT;
 pub use reading::read_line;
 pub use subcommand::Subcommand;
 pub use use_fault::UseFault;
+pub use version::VERSION;

@@ -1,7 +1,7 @@
 //! Numbers among the words.
 
 ghost use Rattle.std.specs.Prelude.{◌≡◌, ◌==◌, ◌<◌, ◌^◌, ℕ, MatchOption, slice_index};
-ghost use Rattle.command_line.specs.Lines.{IsCount, IsPort, Writes};
+ghost use Rattle.command_line.specs.Lines.{IsCount, IsPort, WritesNumber};
 
 /// The most connections that a call serves.
 pub const MAX_COUNT: u32 = 1_000_000;
@@ -21,8 +21,8 @@ fn has_plus(text: &[u8]) -> bool
 
 /// The number that decimal digits write. Zeros may stand in front.
 fn read_number(text: &str) -> Option<u32>
-    ensures { MatchOption result ((number : ℕ) → Writes text.now number → number < 2 ^ 32 → ⊥)
-        (Writes text.now) }
+    ensures { MatchOption result ((number : ℕ) → WritesNumber text.now number → number < 2 ^ 32 → ⊥)
+        (WritesNumber text.now) }
 {
     if has_plus(text.as_bytes()) {
         return None;

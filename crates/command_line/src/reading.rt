@@ -5,14 +5,15 @@ ghost use Rattle.std.specs.List.{list_any};
 ghost use Rattle.std.specs.Str.{bytes_eq};
 ghost use Rattle.bag_text.specs.Text.{texts};
 ghost use Rattle.command_line.specs.Lines.{AskNothing, Asks, IsPlainLine, Names, words_of};
-ghost use Rattle.command_line.specs.Usage.{IsExplainedBy, NamesNone, help_words, usage_for, usage_for_word};
+ghost use Rattle.command_line.specs.Usage.{IsExplainedBy, NamesNone, help_words, usage_for, usage_for_word, uses_text};
 ghost use Rattle.command_line.specs.declared.line.Line.{Line};
 ghost use Rattle.command_line.specs.declared.use_fault.UseFault.TheVariants.{Memory};
 
 use crate::line::Line;
 use crate::subcommand::Subcommand;
-use crate::use_fault::{UseFault, clap_fault, fault_of_use};
+use crate::use_fault::{UseFault, clap_fault};
 use crate::values::line_of;
+use crate::version::VERSION;
 use crate::words::matches_of;
 use fault_words::Escaped;
 use std::alloc::Global;
@@ -47,6 +48,16 @@ fn read_named<'a>(
     }
 }
 
+/// How the program is used, as it is told.
+fn told_uses(alloc: Global) -> UseFault
+    ensures { IsExplainedBy (uses_text VERSION.now) result }
+{
+    match format!(in alloc; "depot {VERSION}\n{USES}") {
+        Ok(text) => UseFault::Use(text),
+        Err(_) => UseFault::Memory,
+    }
+}
+
 /// Whether the word asks how the program is used.
 fn asks_for_help(word: &str) -> bool
     ensures { result ≡ list_any (bytes_eq word.now) help_words }
@@ -56,13 +67,13 @@ fn asks_for_help(word: &str) -> bool
 
 /// What is said of a first word that names no subcommand.
 fn usage_for_word(alloc: Global, word: &str) -> UseFault
-    ensures { IsExplainedBy (usage_for_word word.now) result }
+    ensures { IsExplainedBy (usage_for_word VERSION.now word.now) result }
 {
     if asks_for_help(word) {
-        return fault_of_use(alloc, USES);
+        return told_uses(alloc);
     }
     let name = Escaped(word);
-    match format!(in alloc; "depot has no subcommand {name}\n{USES}") {
+    match format!(in alloc; "depot has no subcommand {name}\ndepot {VERSION}\n{USES}") {
         Ok(text) => UseFault::Use(text),
         Err(_) => UseFault::Memory,
     }
@@ -74,10 +85,10 @@ fn read_words<'a>(alloc: Global, words: &'a [&'a str]) -> Result<Line<'a>, UseFa
     ensures refused { IfErr result (λ fault.
         (fault ≡ Memory) ⊎ AskNothing (texts words.entry.now)) }
     ensures uses { NamesNone (texts words.entry.now)
-        → IfErr result (IsExplainedBy (usage_for (texts words.entry.now))) }
+        → IfErr result (IsExplainedBy (usage_for VERSION.now (texts words.entry.now))) }
 {
     let Some(word) = words.first() else {
-        return Err(fault_of_use(alloc, USES));
+        return Err(told_uses(alloc));
     };
     match Subcommand::read(word) {
         Some(subcommand) => read_named(alloc, subcommand, words),
@@ -97,7 +108,7 @@ pub fn read_line<'a>(alloc: Global, words: &'a [&'a str]) -> Result<Line<'a>, Us
         (fault ≡ Memory) ⊎ AskNothing (texts words.entry.now)) }
     // Where the first word names no subcommand, the text says so, and which there are.
     ensures uses { NamesNone (texts words.entry.now)
-        → IfErr result (IsExplainedBy (usage_for (texts words.entry.now))) }
+        → IfErr result (IsExplainedBy (usage_for VERSION.now (texts words.entry.now))) }
     // Each line that can be written in plain words is read of them, memory aside.
     ensures plain { (line : Line) → IsPlainLine line → texts words.entry.now ≡ words_of line
         → Asks (texts words.entry.now) line × IfErr result (λ fault. fault ≡ Memory) }

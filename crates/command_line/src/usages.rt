@@ -2,7 +2,7 @@
 
 ghost use Rattle.std.specs.Prelude.{◌≡◌};
 ghost use Rattle.command_line.specs.CommandBuilding.{rules_for};
-ghost use Rattle.command_line.specs.Lines.{name_text, rules_of};
+ghost use Rattle.command_line.specs.Lines.{name_text, subcommand_rules};
 
 use crate::subcommand::Subcommand;
 use crate::words::{Argument, Usage};
@@ -179,7 +179,7 @@ impl Subcommand {
     /// How it is used.
     pub fn usage(self) -> &'static Usage<'static>
         ensures name { result.now.name.now ≡ name_text self }
-        ensures rules { rules_for result.now.arguments.now ≡ rules_of self }
+        ensures rules { rules_for result.now.arguments.now ≡ subcommand_rules self }
     {
         match self {
             Subcommand::Check => &CHECK,

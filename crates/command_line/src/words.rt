@@ -4,8 +4,8 @@ ghost use Rattle.std.specs.Prelude.{◌≡◌, ◌∷◌, [], ℕ, IfOk, Some, t
 ghost use Rattle.std.specs.List.{All};
 ghost use Rattle.clap.specs.Words.{FailsBy, Text, fault_of, first_value, found_of, is_simple_and_free};
 ghost use Rattle.bag_text.specs.Text.{texts};
-ghost use Rattle.command_line.specs.Lines.{value_of};
-ghost use Rattle.command_line.specs.CommandBuilding.{AreReadBy, IsReadBy, Takes, are_names, command_for, names_of, needed_names, rule_for, rules_for};
+ghost use Rattle.command_line.specs.Lines.{value_under};
+ghost use Rattle.command_line.specs.CommandBuilding.{AreReadBy, IsReadBy, TakesArguments, are_names, command_for, names_of, needed_names, rule_for, rules_for};
 
 use clap::{Arg, ArgAction, ArgMatches, Command, Error};
 use std::alloc::{AllocError, Global};
@@ -59,7 +59,7 @@ fn args_of<'a>(alloc: Global, arguments: &[Argument<'a>]) -> Result<Vec<Arg<'a>>
 
 /// The command that reads the words of the subcommand.
 fn command_of<'a>(alloc: Global, usage: &Usage<'a>) -> Result<Command<'a>, AllocError>
-    ensures { IfOk result (Takes usage.now.name.now (rules_for usage.now.arguments.now)) }
+    ensures { IfOk result (TakesArguments usage.now.name.now (rules_for usage.now.arguments.now)) }
 {
     let args = args_of(alloc, usage.arguments)?;
     let name = usage.name;
@@ -83,7 +83,7 @@ pub fn matches_of<'a>(
         (needed_names (rules_for usage.now.arguments.now))) }
     ensures values { IfOk result (λ matches. (wanted : Text)
         → first_value (found_of matches) wanted
-        ≡ value_of (command_for usage.now) wanted (texts words.entry.now)) }
+        ≡ value_under (command_for usage.now) wanted (texts words.entry.now)) }
     ensures faults { FailsBy (fault_of (command_for usage.now) (texts words.entry.now))
         result }
 {

@@ -21,7 +21,7 @@ use Rattle.bag_check.proofs.FaultLemmas.{one_first_fault}
 use Rattle.bag_check.proofs.ValidLemmas.{none_stands}
 use Rattle.bag_check.proofs.JudgeLaws.{valid_judged}
 use Rattle.commands.specs.declared.outcome.Outcome.{Outcome}
-use Rattle.commands.specs.Checking.{SaysValid, SaysInvalid, SaysUnreadable, SaysTooLong, SaysOfBag, valid, invalid, Says, too_long, unreadable, of_bag}
+use Rattle.commands.specs.Checking.{SaysValid, SaysInvalid, SaysUnreadable, SaysTooLong, SaysOfBag, valid, invalid, SaysOfBytes, too_long, unreadable, of_bag}
 
 abbrev Answer : Type 0
 Answer = Result Outcome AllocError
@@ -42,12 +42,12 @@ says_invalid files fault (Ok outcome) (inl is) memory prints = let refused = mem
 says_invalid files fault (Ok outcome) (inr (first, is, comes)) memory prints = invalid first comes (prints first is)
 
 pub says_of_bag : (bytes : List ℕ) (files : List File) (r : Answer) → length bytes ≤ max_form → IsBag files → bytes ≡ set_text files
-    → IfOk r (SaysOfBag files) → IfOk r (Says bytes)
+    → IfOk r (SaysOfBag files) → IfOk r (SaysOfBytes bytes)
 says_of_bag bytes files (Err e) few is form says = tt
 says_of_bag bytes files (Ok outcome) few is form says = of_bag files (record { short = few; bag = is; form = form }) says
 
 pub says_unreadable : (bytes : List ℕ) (fault : SetFault) (r : Answer) → length bytes ≤ max_form → (fault ≢ sets.Memory → FaultIs bytes fault)
-    → (fault ≡ sets.Memory → IsErr r) → IfOk r (SaysUnreadable bytes fault) → IfOk r (Says bytes)
+    → (fault ≡ sets.Memory → IsErr r) → IfOk r (SaysUnreadable bytes fault) → IfOk r (SaysOfBytes bytes)
 says_unreadable bytes fault (Err e) few is memory prints = tt
 says_unreadable bytes fault (Ok outcome) few is memory prints =
     unreadable fault few (is (λ out. let refused = memory out in absurd cc)) prints
@@ -74,7 +74,7 @@ one_bag bytes a b of of_too = two_texts a b of.bag of_too.bag (sym of.form ∙ o
 never_both : (bytes : List ℕ) (files : List File) (fault : SetFault) → IsFormOf files bytes → FaultIs bytes fault → ⊥
 never_both bytes files fault of is = form_has_none files fault of.bag (subst (λ (t : List ℕ). FaultIs t fault) of.form is)
 
-pub valid_is_said : (bytes : List ℕ) (r : Answer) → IfOk r (Says bytes) → (files : List File) (v : Version) → IsFormOf files bytes → Valid files v
+pub valid_is_said : (bytes : List ℕ) (r : Answer) → IfOk r (SaysOfBytes bytes) → (files : List File) (v : Version) → IsFormOf files bytes → Valid files v
     → IfOk r (SaysValid (report_of v files))
 valid_is_said bytes (Err e) says files v of ok = tt
 valid_is_said bytes (Ok outcome) (too_long long prints) files v of ok = let short = of.short in absurd (omega arith)
@@ -82,7 +82,7 @@ valid_is_said bytes (Ok outcome) (unreadable fault few is prints) files v of ok 
 valid_is_said bytes (Ok outcome) (of_bag found found_of says) files v of ok =
     valid_here files v outcome of.bag ok (subst (λ (bag : List File). SaysOfBag bag outcome) (one_bag bytes found files found_of of) says)
 
-pub invalid_is_said : (bytes : List ℕ) (r : Answer) → IfOk r (Says bytes) → (files : List File) (fault : Fault) → IsFormOf files bytes → FirstFault files fault
+pub invalid_is_said : (bytes : List ℕ) (r : Answer) → IfOk r (SaysOfBytes bytes) → (files : List File) (fault : Fault) → IsFormOf files bytes → FirstFault files fault
     → IfOk r (SaysInvalid fault)
 invalid_is_said bytes (Err e) says files fault of first = tt
 invalid_is_said bytes (Ok outcome) (too_long long prints) files fault of first = let short = of.short in absurd (omega arith)
@@ -90,7 +90,7 @@ invalid_is_said bytes (Ok outcome) (unreadable other few is prints) files fault 
 invalid_is_said bytes (Ok outcome) (of_bag found found_of says) files fault of first =
     invalid_here files fault outcome of.bag first (subst (λ (bag : List File). SaysOfBag bag outcome) (one_bag bytes found files found_of of) says)
 
-pub unreadable_is_said : (bytes : List ℕ) (r : Answer) → IfOk r (Says bytes) → (fault : SetFault) → length bytes ≤ max_form → FaultIs bytes fault
+pub unreadable_is_said : (bytes : List ℕ) (r : Answer) → IfOk r (SaysOfBytes bytes) → (fault : SetFault) → length bytes ≤ max_form → FaultIs bytes fault
     → IfOk r (SaysUnreadable bytes fault)
 unreadable_is_said bytes (Err e) says fault few is = tt
 unreadable_is_said bytes (Ok outcome) (too_long long prints) fault few is = absurd (omega arith)
@@ -98,7 +98,7 @@ unreadable_is_said bytes (Ok outcome) (unreadable other less is_too prints) faul
     subst (λ (f : SetFault). SaysUnreadable bytes f outcome) (one_fault_stands bytes other fault is_too is) prints
 unreadable_is_said bytes (Ok outcome) (of_bag files of says) fault few is = absurd (never_both bytes files fault of is)
 
-pub too_long_is_said : (bytes : List ℕ) (r : Answer) → IfOk r (Says bytes) → max_form < length bytes → IfOk r SaysTooLong
+pub too_long_is_said : (bytes : List ℕ) (r : Answer) → IfOk r (SaysOfBytes bytes) → max_form < length bytes → IfOk r SaysTooLong
 too_long_is_said bytes (Err e) says long = tt
 too_long_is_said bytes (Ok outcome) (too_long again prints) long = prints
 too_long_is_said bytes (Ok outcome) (unreadable fault few is prints) long = absurd (omega arith)

@@ -5,12 +5,12 @@ use Rattle.office_core.proofs.PolicyAnswers.{refusal_is}
 use Rattle.office_core.specs.Policies.{PolicyValue, named_policy_fault, policy_of}
 use Rattle.office_core.specs.declared.policy_fault.PolicyFault.{PolicyFault}
 use Rattle.office_core.specs.declared.policy_fault.PolicyFault.TheVariants.{Memory}
-use Rattle.commands.specs.Explaining.{HasFault, Spells}
+use Rattle.commands.specs.Explaining.{HasFault, SpellsPolicyBytes}
 
 abbrev Read : Type 0
 Read = Result PolicyValue PolicyFault
 
-pub read_is_spelled : (bytes text : List ℕ) (result : Read) → text ≡ bytes → IsUtf8 bytes → Answers named_policy_fault result (policy_of text) → IfOk result (Spells bytes)
+pub read_is_spelled : (bytes text : List ℕ) (result : Read) → text ≡ bytes → IsUtf8 bytes → Answers named_policy_fault result (policy_of text) → IfOk result (SpellsPolicyBytes bytes)
 read_is_spelled bytes text (Ok policy) same utf8 answers = record { utf8 = utf8; read = ap policy_of (sym same) ∙ answers }
 read_is_spelled bytes text (Err fault) same utf8 answers = tt
 

@@ -77,7 +77,7 @@ pub data SaysOfBag (files : List File) (outcome : Outcome) : Type 0 where
   invalid : (fault : Fault) → FirstFault files fault → SaysInvalid fault outcome → SaysOfBag files outcome
 
 -- What is said of bytes: that they are too many, that they are no form and why, or what is said of the bag.
-pub data Says (bytes : List ℕ) (outcome : Outcome) : Type 0 where
-  too_long : max_form < length bytes → SaysTooLong outcome → Says bytes outcome
-  unreadable : (fault : SetFault) → length bytes ≤ max_form → FaultIs bytes fault → SaysUnreadable bytes fault outcome → Says bytes outcome
-  of_bag : (files : List File) → IsFormOf files bytes → SaysOfBag files outcome → Says bytes outcome
+pub data SaysOfBytes (bytes : List ℕ) (outcome : Outcome) : Type 0 where
+  too_long : max_form < length bytes → SaysTooLong outcome → SaysOfBytes bytes outcome
+  unreadable : (fault : SetFault) → length bytes ≤ max_form → FaultIs bytes fault → SaysUnreadable bytes fault outcome → SaysOfBytes bytes outcome
+  of_bag : (files : List File) → IsFormOf files bytes → SaysOfBag files outcome → SaysOfBytes bytes outcome

@@ -45,7 +45,7 @@ unlisted_line policy name = if is_listed policy name then None else Some (unlist
 -- ---- the file
 
 -- the bytes are the text of this policy
-pub record Spells (bytes : List ℕ) (policy : PolicyValue) : Type 0 where
+pub record SpellsPolicyBytes (bytes : List ℕ) (policy : PolicyValue) : Type 0 where
   pub utf8 : IsUtf8 bytes
   pub read : policy_of bytes ≡ Ok policy
 
@@ -105,8 +105,8 @@ SaysDayMissing outcome = Prints outcome [] (Some (missing_day_words ++ 10 ∷ []
 
 -- What is said of a file: the rule that decides, that none does, that a day is missing, or the file's fault.
 pub data Explains (bytes : List ℕ) (asked : Asked) (outcome : Outcome) : Type 0 where
-  allowed : (policy : PolicyValue) (day : Date) (rule : ℕ) → Spells bytes policy → IsOnDay bytes asked day → IsAllowedBy policy asked day rule → Prints outcome (allow_text rule) (unlisted_line policy asked.caller.now) Accepted → Explains bytes asked outcome
-  denied : (policy : PolicyValue) (day : Date) (rule : ℕ) → Spells bytes policy → IsOnDay bytes asked day → IsDeniedBy policy asked day rule → Prints outcome (deny_text rule) (unlisted_line policy asked.caller.now) Refused → Explains bytes asked outcome
-  by_default : (policy : PolicyValue) (day : Date) → Spells bytes policy → IsOnDay bytes asked day → IsUndecided policy asked day → Prints outcome default_text (unlisted_line policy asked.caller.now) Refused → Explains bytes asked outcome
-  undated : (policy : PolicyValue) → Spells bytes policy → WantsDay bytes asked → SaysDayMissing outcome → Explains bytes asked outcome
+  allowed : (policy : PolicyValue) (day : Date) (rule : ℕ) → SpellsPolicyBytes bytes policy → IsOnDay bytes asked day → IsAllowedBy policy asked day rule → Prints outcome (allow_text rule) (unlisted_line policy asked.caller.now) Accepted → Explains bytes asked outcome
+  denied : (policy : PolicyValue) (day : Date) (rule : ℕ) → SpellsPolicyBytes bytes policy → IsOnDay bytes asked day → IsDeniedBy policy asked day rule → Prints outcome (deny_text rule) (unlisted_line policy asked.caller.now) Refused → Explains bytes asked outcome
+  by_default : (policy : PolicyValue) (day : Date) → SpellsPolicyBytes bytes policy → IsOnDay bytes asked day → IsUndecided policy asked day → Prints outcome default_text (unlisted_line policy asked.caller.now) Refused → Explains bytes asked outcome
+  undated : (policy : PolicyValue) → SpellsPolicyBytes bytes policy → WantsDay bytes asked → SaysDayMissing outcome → Explains bytes asked outcome
   refused : (fault : PolicyFault) → HasFault bytes fault → SaysBadPolicy bytes fault outcome → Explains bytes asked outcome

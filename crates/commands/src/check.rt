@@ -8,7 +8,7 @@ ghost use Rattle.bag_text.specs.declared.set_fault.SetFault.{SetFault};
 ghost use Rattle.bag_check.specs.Validity.{Valid, report_of};
 ghost use Rattle.bag_check.specs.Faults.{Fault, FirstFault};
 ghost use Rattle.bag_check.specs.Answers.{report_seen, named_fault};
-ghost use Rattle.commands.specs.Checking.{AreFirstOf, Says, SaysInvalid, SaysOfBag, SaysTooLong, SaysUnreadable, SaysValid, bytes_to_read};
+ghost use Rattle.commands.specs.Checking.{AreFirstOf, SaysOfBytes, SaysInvalid, SaysOfBag, SaysTooLong, SaysUnreadable, SaysValid, bytes_to_read};
 ghost use Rattle.bag_check.specs.declared.fault.BagFault.TheVariants.{Memory};
 ghost use Rattle.bag_text.specs.declared.set_fault.SetFault.TheVariants as sets;
 
@@ -102,7 +102,7 @@ fn bag_outcome(alloc: Global, bag: &BagSet<'_>) -> Result<Outcome, AllocError>
 
 /// What is said of the bytes.
 fn bytes_outcome(alloc: Global, bytes: &[u8]) -> Result<Outcome, AllocError>
-    ensures { IfOk result (Says bytes.now) }
+    ensures { IfOk result (SaysOfBytes bytes.now) }
 {
     if bytes.len() as u64 > MAX_FORM {
         return too_long_outcome(alloc);
@@ -117,7 +117,7 @@ fn bytes_outcome(alloc: Global, bytes: &[u8]) -> Result<Outcome, AllocError>
 /// it ends.
 pub fn check_outcome(alloc: Global, bytes: &[u8]) -> Result<Outcome, AllocError>
     // What is said is so.
-    ensures says { IfOk result (Says bytes.now) }
+    ensures says { IfOk result (SaysOfBytes bytes.now) }
 
     // Too many bytes are refused as such.
     ensures too_long { max_form < length bytes.now → IfOk result SaysTooLong }
@@ -141,9 +141,9 @@ pub fn check_outcome(alloc: Global, bytes: &[u8]) -> Result<Outcome, AllocError>
 pub fn judge<R: Read>(alloc: Global, form: &mut R) -> Result<Outcome, Trouble>
     // What is said is so of the first bytes that the reader gives.
     ensures says { IfOk result (λ outcome. (bytes : List ℕ)
-        × AreFirstOf (R.remaining form.old) (R.remaining form.new) bytes × Says bytes outcome) }
+        × AreFirstOf (R.remaining form.old) (R.remaining form.new) bytes × SaysOfBytes bytes outcome) }
     ensures given { IfSome (R.remaining form.old) (λ given.
-        IfOk result (Says (take bytes_to_read given))) }
+        IfOk result (SaysOfBytes (take bytes_to_read given))) }
 {
     let bytes = streams::read_at_most(alloc, MAX_FORM + 1, form)?;
     Ok(check_outcome(alloc, bytes.as_slice())?)

@@ -6,7 +6,7 @@ ghost use Rattle.office_core.specs.Days.{IsDay};
 ghost use Rattle.office_core.specs.Policies.{PolicyValue, may_have_days};
 ghost use Rattle.office_core.specs.declared.policy_fault.PolicyFault.{PolicyFault};
 ghost use Rattle.commands.specs.Printing.{Prints};
-ghost use Rattle.commands.specs.Explaining.{Explains, HasFault, IsAllowedBy, IsDeniedBy, IsOnDay, IsUndecided, SaysBadPolicy, SaysDayMissing, SaysDecision, Spells, WantsDay, allow_text, bad_policy_text, decision_on, deny_text, default_text, is_listed, unlisted_line};
+ghost use Rattle.commands.specs.Explaining.{Explains, HasFault, IsAllowedBy, IsDeniedBy, IsOnDay, IsUndecided, SaysBadPolicy, SaysDayMissing, SaysDecision, SpellsPolicyBytes, WantsDay, allow_text, bad_policy_text, decision_on, deny_text, default_text, is_listed, unlisted_line};
 ghost use Rattle.commands.specs.PolicyFiles.{IsAllOf};
 ghost use Rattle.commands.specs.declared.ending.Ending.TheVariants.{Accepted, Refused};
 
@@ -139,7 +139,7 @@ fn outcome_without_day(
     policy: &Policy,
     asked: &Asked<'_>,
 ) -> Result<Outcome, AllocError>
-    requires text { Spells bytes.now policy.now }
+    requires text { SpellsPolicyBytes bytes.now policy.now }
     requires no_day { asked.now.day ≡ None }
     ensures { IfOk result (Explains bytes.now asked.now) }
 {
@@ -156,7 +156,7 @@ fn spelled_outcome(
     policy: &Policy,
     asked: &Asked<'_>,
 ) -> Result<Outcome, AllocError>
-    requires { Spells bytes.now policy.now }
+    requires { SpellsPolicyBytes bytes.now policy.now }
     ensures { IfOk result (Explains bytes.now asked.now) }
 {
     match asked.day {
@@ -202,25 +202,25 @@ pub fn explain_outcome(
     // is told where the policy doesn't list the caller. Where no rule of the policy may have days,
     // that is said whichever day is named, and where none is.
     ensures allowed { (policy : PolicyValue) (day : Date) (rule : ℕ)
-        → Spells bytes.now policy → IsOnDay bytes.now asked.now day
+        → SpellsPolicyBytes bytes.now policy → IsOnDay bytes.now asked.now day
         → IsAllowedBy policy asked.now day rule
         → IfOk result (λ outcome. Prints outcome (allow_text rule)
         (unlisted_line policy asked.now.caller.now) Accepted) }
     // And likewise where it denies.
     ensures denied { (policy : PolicyValue) (day : Date) (rule : ℕ)
-        → Spells bytes.now policy → IsOnDay bytes.now asked.now day
+        → SpellsPolicyBytes bytes.now policy → IsOnDay bytes.now asked.now day
         → IsDeniedBy policy asked.now day rule
         → IfOk result (λ outcome. Prints outcome (deny_text rule)
         (unlisted_line policy asked.now.caller.now) Refused) }
     // Where no rule matches, it is denied by default.
     ensures by_default { (policy : PolicyValue) (day : Date)
-        → Spells bytes.now policy → IsOnDay bytes.now asked.now day
+        → SpellsPolicyBytes bytes.now policy → IsOnDay bytes.now asked.now day
         → IsUndecided policy asked.now day
         → IfOk result (λ outcome. Prints outcome default_text
         (unlisted_line policy asked.now.caller.now) Refused) }
     // Where rules of the policy may have days and none is named, nothing is printed, standard error is
     // told that a day is missing and why, and it ends as misused.
-    ensures undated { (policy : PolicyValue) → Spells bytes.now policy
+    ensures undated { (policy : PolicyValue) → SpellsPolicyBytes bytes.now policy
         → WantsDay bytes.now asked.now → IfOk result SaysDayMissing }
     // A file that is no policy is refused with its first fault, and standard error is told it in words,
     // with its place.

@@ -2,8 +2,8 @@
 
 ghost use Rattle.std.specs.Prelude.{◌≡◌, ◌≢◌, ◌⊎◌, ℕ, IfErr, IfOk, IfSome, List, string_bytes};
 ghost use Rattle.office_core.specs.declared.policy_fault.PolicyFault.TheVariants.{Memory};
-ghost use Rattle.commands.specs.Explaining.{HasFault, Spells, bad_policy_text};
-ghost use Rattle.commands.specs.PolicyFiles.{IsAllOf, IsRead, IsRefused};
+ghost use Rattle.commands.specs.Explaining.{HasFault, SpellsPolicyBytes, bad_policy_text};
+ghost use Rattle.commands.specs.PolicyFiles.{IsAllOf, IsRead, IsPolicyRefused};
 
 use crate::trouble::Trouble;
 use fault_words::policy_reason;
@@ -37,7 +37,7 @@ fn refused_policy(
 ) -> Result<RefusedPolicy, AllocError>
     requires fault { HasFault bytes.now fault }
     requires known { fault ≢ Memory }
-    ensures { IfOk result (IsRefused bytes.now) }
+    ensures { IfOk result (IsPolicyRefused bytes.now) }
 {
     let reason = policy_reason(alloc, bytes, fault)?;
     Ok(RefusedPolicy { fault, reason })
@@ -45,7 +45,7 @@ fn refused_policy(
 
 /// The policy that the bytes are, or their first fault.
 fn policy_of_bytes(alloc: Global, bytes: &[u8]) -> Result<Policy, PolicyFault>
-    ensures spells { IfOk result (Spells bytes.now) }
+    ensures spells { IfOk result (SpellsPolicyBytes bytes.now) }
     ensures refused { IfErr result (λ fault. (fault ≡ Memory) ⊎ HasFault bytes.now fault) }
 {
     match str::from_utf8(bytes) {

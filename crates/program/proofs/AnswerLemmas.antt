@@ -9,7 +9,7 @@ use Rattle.commands.specs.declared.ending.Ending.TheVariants.{Misused}
 use Rattle.commands.specs.declared.outcome.Outcome.{Outcome}
 use Rattle.desk_devices.specs.declared.counted.Counted.{Counted}
 use Rattle.office_commands.specs.declared.done.Done.{Done}
-use Rattle.program.specs.Answering.{Answers, IsExplained, IsPrinted, IsUnanswered, printed, unanswered}
+use Rattle.program.specs.Answering.{PrintsIfAny, IsExplained, IsPrinted, IsUnanswered, printed, unanswered}
 use Rattle.program.specs.Streams.{counted_seen}
 use Rattle.program.specs.declared.stopped.Stopped.{Stopped}
 
@@ -43,6 +43,6 @@ module _ {O : Type 0} (w : Writes O) (IsSaid : Outcome → Type 0) (result : Res
   abbrev pub Prints : Result Outcome Stopped → Type 0
   Prints said = MatchResult said (λ outcome. IsPrinted outcome result (counted_seen w old) (counted_seen w new)) (λ stopped. (result ≡ Err stopped) × (new ≡ old))
 
-  pub answers : (said : Result Outcome Stopped) → IfOk said IsSaid → IfErr said IsUnanswered → Prints said → Answers IsSaid result (counted_seen w old) (counted_seen w new)
+  pub answers : (said : Result Outcome Stopped) → IfOk said IsSaid → IfErr said IsUnanswered → Prints said → PrintsIfAny IsSaid result (counted_seen w old) (counted_seen w new)
   answers (Ok outcome) says none is = printed outcome says is
   answers (Err stopped) says none is = unanswered stopped none is.0 (ap (counted_seen w) is.1)

@@ -11,7 +11,7 @@ use Rattle.bag_folders.specs.declared.packing.Packed.{Packed}
 use Rattle.bag_folders.specs.declared.said.Said.{Said}
 use Rattle.bag_folders.specs.declared.unpack_fault.UnpackFault.{UnpackFault}
 use Rattle.bag_folders.specs.declared.unpacking.Unpacked.{Unpacked}
-use Rattle.commands.specs.Checking.{AreFirstOf, Says, bytes_to_read}
+use Rattle.commands.specs.Checking.{AreFirstOf, SaysOfBytes, bytes_to_read}
 use Rattle.commands.specs.Explaining.{Explains}
 use Rattle.commands.specs.Printing.{reason_of}
 use Rattle.commands.specs.declared.asked.Asked.{Asked}
@@ -27,9 +27,9 @@ use Rattle.program.specs.declared.stopped.Stopped.TheVariants.{Folder, Output, S
 -- `check` says this of the bytes of the file. Where that is `-` they are the first that the input has, and it has the rest left.
 pub record IsJudged {R : Type 0} (file : List ℕ) (was now : Stream R) (outcome : Outcome) : Type 0 where
   pub bytes : List ℕ
-  pub says : Says bytes outcome
+  pub says : SaysOfBytes bytes outcome
   pub taken : file ≡ codes "-" → AreFirstOf was.bytes now.bytes bytes
-  pub given : file ≡ codes "-" → IfSome was.bytes (λ given. Says (take bytes_to_read given) outcome)
+  pub given : file ≡ codes "-" → IfSome was.bytes (λ given. SaysOfBytes (take bytes_to_read given) outcome)
 
 -- `explain` says this of the bytes of the policy
 abbrev pub IsExplained : Asked → Outcome → Type 0
@@ -71,6 +71,6 @@ IsPrinted outcome (Err (Folder failed)) was now = ⊥
 IsPrinted outcome (Err (Store fault)) was now = ⊥
 
 -- What is said is printed; or there is nothing to say, and the output is left alone.
-pub data Answers {O : Type 0} (IsSaid : Outcome → Type 0) (result : Result Done Stopped) (was now : Stream O) : Type 0 where
-  printed : (outcome : Outcome) → IsSaid outcome → IsPrinted outcome result was now → Answers IsSaid result was now
-  unanswered : (stopped : Stopped) → IsUnanswered stopped → result ≡ Err stopped → now ≡ was → Answers IsSaid result was now
+pub data PrintsIfAny {O : Type 0} (IsSaid : Outcome → Type 0) (result : Result Done Stopped) (was now : Stream O) : Type 0 where
+  printed : (outcome : Outcome) → IsSaid outcome → IsPrinted outcome result was now → PrintsIfAny IsSaid result was now
+  unanswered : (stopped : Stopped) → IsUnanswered stopped → result ≡ Err stopped → now ≡ was → PrintsIfAny IsSaid result was now

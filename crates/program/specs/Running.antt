@@ -16,7 +16,7 @@ use Rattle.office_commands.specs.declared.done.Done.{Done}
 use Rattle.office_commands.specs.declared.fault.CommandFault.{CommandFault}
 use Rattle.office_commands.specs.declared.work.Work.{Work}
 use Rattle.office_commands.specs.declared.work.Work.TheVariants as works
-use Rattle.program.specs.Answering.{Answers, IsExplained, IsJudged, IsPackSaid, IsUnpackSaid}
+use Rattle.program.specs.Answering.{PrintsIfAny, IsExplained, IsJudged, IsPackSaid, IsUnpackSaid}
 use Rattle.program.specs.Streams.{Seen, Stream, traffic}
 use Rattle.program.specs.Telling.{TellsMemory, TellsOf, TellsWhy}
 use Rattle.program.specs.declared.stopped.Stopped.{Stopped}
@@ -37,15 +37,15 @@ abbrev pub on_store : {D : Type 0} → Ghosts D → Image → Type 0 → Command
 on_store g first alone = λ store work. ComesOfWork g first store work alone
 
 -- a command on a store ended so
-abbrev pub IsOfStore : (Result Done CommandFault → Type 0) → Result Done Stopped → Type 0
-IsOfStore Comes (Ok done) = Comes (Ok done)
-IsOfStore Comes (Err (Store fault)) = Comes (Err fault)
-IsOfStore Comes (Err (Unread trouble)) = ⊥
-IsOfStore Comes (Err (Folder failed)) = ⊥
-IsOfStore Comes (Err (Output error)) = ⊥
+abbrev pub IsEndOnStore : (Result Done CommandFault → Type 0) → Result Done Stopped → Type 0
+IsEndOnStore Comes (Ok done) = Comes (Ok done)
+IsEndOnStore Comes (Err (Store fault)) = Comes (Err fault)
+IsEndOnStore Comes (Err (Unread trouble)) = ⊥
+IsEndOnStore Comes (Err (Folder failed)) = ⊥
+IsEndOnStore Comes (Err (Output error)) = ⊥
 
 abbrev pub DoesOnStore : {R O E : Type 0} → CommandOn → List ℕ → FileWork → Result Done Stopped → Seen R O E → Seen R O E → Type 0
-DoesOnStore OnStore store work result was now = IsOfStore (λ came. OnStore store work came (traffic was) (traffic now)) result
+DoesOnStore OnStore store work result was now = IsEndOnStore (λ came. OnStore store work came (traffic was) (traffic now)) result
 
 -- the work on a store that a line asks for
 pub record StoreWork : Type 0 where
@@ -63,12 +63,12 @@ work_of (Pack folder file) = None
 work_of (Unpack file folder) = None
 
 -- What the line asks for is done.
-abbrev pub Does : {R O E : Type 0} → CommandOn → Line → Result Done Stopped → Seen R O E → Seen R O E → Type 0
-Does OnStore (Check file) result was now = Answers (IsJudged file.now was.input now.input) result was.output now.output
-Does OnStore (Explain asked) result was now = Answers (IsExplained asked) result was.output now.output
-Does OnStore (Pack folder file) result was now = Answers IsPackSaid result was.output now.output
-Does OnStore (Unpack file folder) result was now = Answers IsUnpackSaid result was.output now.output
-Does OnStore line result was now = IfSome (work_of line) (λ asked. DoesOnStore OnStore asked.store asked.work result was now)
+abbrev pub DoesLine : {R O E : Type 0} → CommandOn → Line → Result Done Stopped → Seen R O E → Seen R O E → Type 0
+DoesLine OnStore (Check file) result was now = PrintsIfAny (IsJudged file.now was.input now.input) result was.output now.output
+DoesLine OnStore (Explain asked) result was now = PrintsIfAny (IsExplained asked) result was.output now.output
+DoesLine OnStore (Pack folder file) result was now = PrintsIfAny IsPackSaid result was.output now.output
+DoesLine OnStore (Unpack file folder) result was now = PrintsIfAny IsUnpackSaid result was.output now.output
+DoesLine OnStore line result was now = IfSome (work_of line) (λ asked. DoesOnStore OnStore asked.store asked.work result was now)
 
 -- the line explains a policy, and names no day
 abbrev pub IsUndated : Line → Type 0
@@ -99,13 +99,13 @@ IsTold (Err stopped) was now ending = TellsOf stopped was now ending
 -- What the line asks for is done with this result, of which standard error is told.
 pub record Comes {R O E : Type 0} (OnStore : CommandOn) (alone : Type 0) (line : Line) (was now : Seen R O E) (ending : Ending) : Type 0 where
   pub result : Result Done Stopped
-  pub does : Does OnStore line result was now
+  pub does : DoesLine OnStore line result was now
   pub told : IsTold result was.error now.error ending
   pub input : reads_input line ≡ false → now.input ≡ was.input
   pub store : is_on_store line ≡ false → alone
 
 -- There was no memory to read the words.
-pub record IsUnread {R O E : Type 0} (alone : Type 0) (was now : Seen R O E) (ending : Ending) : Type 0 where
+pub record AreWordsUnread {R O E : Type 0} (alone : Type 0) (was now : Seen R O E) (ending : Ending) : Type 0 where
   pub told : TellsMemory was.error now.error ending
   pub input : now.input ≡ was.input
   pub output : now.output ≡ was.output
@@ -114,4 +114,4 @@ pub record IsUnread {R O E : Type 0} (alone : Type 0) (was now : Seen R O E) (en
 -- the words ask for a line, and it comes to this; or there was no memory to read them
 abbrev pub ComesOfWords : {R O E : Type 0} → CommandOn → Type 0 → List (List ℕ) → Seen R O E → Seen R O E → Ending → Type 0
 ComesOfWords OnStore alone words was now ending =
-    ((line : Line) × Asks words line × Comes OnStore alone line was now ending) ⊎ IsUnread alone was now ending
+    ((line : Line) × Asks words line × Comes OnStore alone line was now ending) ⊎ AreWordsUnread alone was now ending

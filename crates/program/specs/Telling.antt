@@ -4,7 +4,7 @@ use Rattle.std.specs.Io.KnownBytes.{Appends}
 use Rattle.std.specs.IoError.{error_kind}
 use Rattle.std.specs.declared.io.ErrorKind.{ErrorKind}
 use Rattle.std.specs.declared.io.ErrorKind.TheVariants.{InvalidData}
-use Rattle.streams.specs.Writing.{BeginsWith, IsCutShort}
+use Rattle.streams.specs.Writing.{GoesOnWith, IsCutShort}
 use Rattle.bag_check.specs.FaultTexts.{printed_text}
 use Rattle.bag_folders.specs.declared.failed.Failed.TheVariants as folders
 use Rattle.commands.specs.Failing.{failure_in, failure_of, message_of}
@@ -23,25 +23,25 @@ use Rattle.program.specs.declared.tried.Tried.TheVariants as tried
 -- ---- a text
 
 -- the text comes after what standard error held, and the program ends in this way; or standard error fails, and has a beginning of the text
-abbrev pub Tells : {E : Type 0} → List ℕ → Ending → Stream E → Stream E → Ending → Type 0
-Tells text end was now ending =
+abbrev pub TellsPerson : {E : Type 0} → List ℕ → Ending → Stream E → Stream E → Ending → Type 0
+TellsPerson text end was now ending =
     ((ending ≡ end) × Appends was.bytes now.bytes text) ⊎ ((ending ≡ Unsaid) × IsCutShort text was.bytes now.bytes)
 
 -- the same, and more may follow the text
 abbrev pub TellsFirst : {E : Type 0} → List ℕ → Ending → Stream E → Stream E → Ending → Type 0
 TellsFirst text end was now ending =
-    ((ending ≡ end) × BeginsWith text was.bytes now.bytes) ⊎ ((ending ≡ Unsaid) × IsCutShort text was.bytes now.bytes)
+    ((ending ≡ end) × GoesOnWith text was.bytes now.bytes) ⊎ ((ending ≡ Unsaid) × IsCutShort text was.bytes now.bytes)
 
 -- that memory ran out
 abbrev pub TellsMemory : {E : Type 0} → Stream E → Stream E → Ending → Type 0
-TellsMemory was now ending = Tells (message_of Memory) Failed was now ending
+TellsMemory was now ending = TellsPerson (message_of Memory) Failed was now ending
 
 -- ---- why an answer is what it is
 
 -- the reason, where there is one; else standard error is left alone
 abbrev pub TellsWhy : {E : Type 0} → Option (List ℕ) → Ending → Stream E → Stream E → Ending → Type 0
 TellsWhy None end was now ending = (ending ≡ end) × (now ≡ was)
-TellsWhy (Some reason) end was now ending = Tells reason end was now ending
+TellsWhy (Some reason) end was now ending = TellsPerson reason end was now ending
 
 -- ---- why a run fails
 
@@ -80,16 +80,16 @@ tried_text tried.Output = codes "write standard output"
 
 -- this text, and the program ends as misused; or that there was no memory to read the words
 abbrev pub Refuses : {E : Type 0} → List ℕ → Stream E → Stream E → Ending → Type 0
-Refuses text was now ending = Tells text Misused was now ending ⊎ TellsMemory was now ending
+Refuses text was now ending = TellsPerson text Misused was now ending ⊎ TellsMemory was now ending
 
 abbrev pub TellsOfUse : {E : Type 0} → UseFault → Stream E → Stream E → Ending → Type 0
-TellsOfUse (uses.Use reason) was now ending = Tells (string_bytes reason) Misused was now ending
+TellsOfUse (uses.Use reason) was now ending = TellsPerson (string_bytes reason) Misused was now ending
 TellsOfUse uses.Memory was now ending = TellsMemory was now ending
 
 -- what is said where the words could not be had: that one is no text, or the failure's line
-abbrev pub refusal_text : ErrorKind → List ℕ
-refusal_text InvalidData = codes "a word is not UTF-8: give names of files and folders in UTF-8" ++ 10 ∷ []
-refusal_text kind = message_of (failure_of kind)
+abbrev pub unread_text : ErrorKind → List ℕ
+unread_text InvalidData = codes "a word is not UTF-8: give names of files and folders in UTF-8" ++ 10 ∷ []
+unread_text kind = message_of (failure_of kind)
 
 abbrev pub refusal_ending : ErrorKind → Ending
 refusal_ending InvalidData = Misused

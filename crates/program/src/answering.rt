@@ -2,7 +2,7 @@
 
 ghost use Rattle.std.specs.Prelude.{◌≡◌, IfErr, IfOk, codes, take};
 ghost use Rattle.bag_folders.specs.Unpacking.{SomeFile};
-ghost use Rattle.commands.specs.Checking.{Says, bytes_to_read};
+ghost use Rattle.commands.specs.Checking.{SaysOfBytes, bytes_to_read};
 ghost use Rattle.commands.specs.Explaining.{Explains};
 ghost use Rattle.program.specs.Answering.{IsExplained, IsJudged, IsUnanswered};
 ghost use Rattle.program.specs.Streams.{reader_seen};
@@ -29,7 +29,7 @@ pub fn answer_check<F: Files + AllocGlobal, R: Read>(
         (reader_seen R.Read input.old) (reader_seen R.Read input.new)) }
     // Of a file that is named it is all that the file gives, up to the most that is judged.
     ensures file { (file.now ≡ codes "-" → ⊥) → IfOk result (λ outcome.
-        SomeFile ⟦<F::File as Read>⟧ (λ given. Says (take bytes_to_read given) outcome)) }
+        SomeFile ⟦<F::File as Read>⟧ (λ given. SaysOfBytes (take bytes_to_read given) outcome)) }
     ensures stopped { IfErr result IsUnanswered }
     ensures left { (file.now ≡ codes "-" → ⊥) → input.new ≡ input.old }
 {

@@ -5,7 +5,7 @@ ghost use Rattle.sqlite.specs.WalFiles.{image_at};
 ghost use Rattle.office_commands.specs.Tasks.{reads_input as work_reads_input};
 ghost use Rattle.commands.specs.Printing.{IsAnswer};
 ghost use Rattle.program.specs.Answering.{IsPrinted};
-ghost use Rattle.program.specs.Running.{Does, DoesOnStore, IsUndated, is_on_store, on_store, reads_input};
+ghost use Rattle.program.specs.Running.{DoesLine, DoesOnStore, IsUndated, is_on_store, on_store, reads_input};
 ghost use Rattle.program.specs.Streams.{counted_seen, seen_of};
 
 use crate::answering::{answer_check, answer_explain};
@@ -76,7 +76,7 @@ pub fn perform_line<S: Start, R: Read, O: Write, E: Write>(
     line: &Line<'_>,
     streams: &mut Streams<R, O, E>,
 ) -> Result<Done, Stopped>
-    ensures does { Does
+    ensures does { DoesLine
         (on_store ⟦<FileFrom<S> as Disk>⟧ (image_at S.Start) (start.new ≡ start.old))
         line.now result
         (seen_of R.Read O.Write E.Write streams.old) (seen_of R.Read O.Write E.Write streams.new) }

@@ -16,7 +16,7 @@ use crate::performing::perform_line;
 use crate::reporting::tell_end;
 use crate::standard::Streams;
 use crate::telling::refuse;
-use command_line::{Line, read_line};
+use command_line::{Line, VERSION, read_line};
 use commands::Ending;
 use sqlite::{FileFrom, Start};
 use sqlite_disk::Disk;
@@ -66,7 +66,7 @@ pub fn run<S: Start, R: Read, O: Write, E: Write>(
     ensures left { AskNothing (texts words.now) → (streams.new.input ≡ streams.old.input)
         × (streams.new.output ≡ streams.old.output) × (start.new ≡ start.old) }
     // Where they name no subcommand, standard error is told so, and how the program is used.
-    ensures uses { NamesNone (texts words.now) → Refuses (usage_for (texts words.now))
+    ensures uses { NamesNone (texts words.now) → Refuses (usage_for VERSION.now (texts words.now))
         (writer_seen E.Write streams.old.error) (writer_seen E.Write streams.new.error) result }
     // No other words end as misused, but for those that explain a policy and name no day: where its
     // rules may have days, `Explains` says so.

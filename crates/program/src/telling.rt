@@ -5,7 +5,7 @@ ghost use Rattle.std.specs.IoError.{error_kind};
 ghost use Rattle.commands.specs.Failing.{message_of};
 ghost use Rattle.commands.specs.declared.ending.Ending.TheVariants.{Failed};
 ghost use Rattle.program.specs.Streams.{writer_seen};
-ghost use Rattle.program.specs.Telling.{Tells, TellsOfUse, TellsWhy, refusal_ending, refusal_text};
+ghost use Rattle.program.specs.Telling.{TellsPerson, TellsOfUse, TellsWhy, refusal_ending, unread_text};
 
 use command_line::UseFault;
 use commands::{Ending, Failure};
@@ -15,7 +15,7 @@ use streams::write_text;
 /// Tells standard error the text, and ends so. Where it doesn't take all of it, the status alone says
 /// that something failed.
 pub fn tell<E: Write>(text: &str, ending: Ending, error: &mut E) -> Ending
-    ensures { Tells text.now ending (writer_seen E.Write error.old) (writer_seen E.Write error.new)
+    ensures { TellsPerson text.now ending (writer_seen E.Write error.old) (writer_seen E.Write error.new)
         result }
 {
     match write_text(text, error) {
@@ -37,7 +37,7 @@ pub fn tell_why<E: Write>(reason: &Option<String>, ending: Ending, error: &mut E
 
 /// Says that the program failed.
 pub fn fail<E: Write>(failure: Failure, error: &mut E) -> Ending
-    ensures { Tells (message_of failure) Failed
+    ensures { TellsPerson (message_of failure) Failed
         (writer_seen E.Write error.old) (writer_seen E.Write error.new) result }
 {
     tell(failure.message(), Ending::Failed, error)
@@ -61,7 +61,7 @@ const NOT_UTF8: &str = "a word is not UTF-8: give names of files and folders in 
 pub fn refuse_words<E: Write>(why: &Error, error: &mut E) -> Ending
     // A word that is no text is a fault of use, and whatever else the words failed for a failure.
     // Standard error is told which.
-    ensures { let kind = error_kind why.now in Tells (refusal_text kind) (refusal_ending kind)
+    ensures { let kind = error_kind why.now in TellsPerson (unread_text kind) (refusal_ending kind)
         (writer_seen E.Write error.old) (writer_seen E.Write error.new) result }
 {
     match why.kind() {

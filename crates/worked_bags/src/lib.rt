@@ -1,85 +1,91 @@
-//! Small bags, written out, and what `check` says of each; small policies, and what `explain` says.
+//! Small bags, written out, and what `check` says of each; a small policy, and what `explain` says.
 #![tactic(auto)]
 
 mod forms;
 mod many;
 mod marks;
-mod policies;
 
 use commands::Ending;
-pub use forms::BAG;
-use forms::{LISTED_TWICE, OXUM, PERCENT_0_97, STRANGE_NAME, TAGGED, UNLISTED, WRONG_CHECKSUM};
+pub use forms::{BAG, BAG_0_97, NO_PAYLOAD, PERCENT};
 pub use many::many_files;
 pub use marks::{bytes_of, text_of};
-use policies::ONE_RULE;
-pub use policies::POLICY;
 
-/// A transfer form, the line that `check` prints of it, what it tells standard error, and how it ends.
-pub type WorkedBag = (&'static [u8], &'static str, &'static str, Ending);
-
-/// A small bag.
-pub const SMALL: WorkedBag = (
-    BAG,
-    "valid 1.0 files 1 bytes 3 manifests 1\n",
-    "",
-    Ending::Accepted,
+/// A name, a transfer form, the line that `check` prints of it, what it tells standard error, and how it
+/// ends.
+pub type WorkedBag = (
+    &'static str,
+    &'static [u8],
+    &'static str,
+    &'static str,
+    Ending,
 );
 
-/// A percent sign in a name, which the manifest spells `%25`: in version 0.97 that stands for itself.
-pub const PERCENT_SIGN_0_97: WorkedBag = (
-    PERCENT_0_97,
-    "invalid B11 manifest-sha256.txt data/a%25250Ab\n",
-    "manifest-sha256.txt lists data/a%25250Ab, but the bag has no such file (B11)\n",
-    Ending::Refused,
-);
-
-/// A payload file that one of two payload manifests lists.
-pub const LISTED_IN_ONE: WorkedBag = (
-    UNLISTED,
-    "invalid B12 manifest-sha512.txt data/a\n",
-    "data/a is in the payload, but manifest-sha512.txt does not list it (B12)\n",
-    Ending::Refused,
-);
-
-/// Two lines for one path.
-pub const TWO_LINES: WorkedBag = (
-    LISTED_TWICE,
-    "invalid B6 manifest-sha256.txt L6 2\n",
-    "line 2 of manifest-sha256.txt lists a path that an earlier line lists (B6 L6)\n",
-    Ending::Refused,
-);
-
-/// A wrong checksum.
-pub const CHECKSUM: WorkedBag = (
-    WRONG_CHECKSUM,
-    "invalid B17 manifest-sha256.txt data/a\n",
-    "the digest of data/a is not the checksum in manifest-sha256.txt (B17)\n",
-    Ending::Refused,
-);
-
-/// A name with LF, CR, `%`, a blank and bytes past ASCII.
-pub const PRINTED_NAME: WorkedBag = (
-    STRANGE_NAME,
-    "invalid B12 manifest-sha256.txt data/%0A%0D%25%20%C3%A9\n",
-    "data/%0A%0D%25%20%C3%A9 is in the payload, but manifest-sha256.txt does not list it (B12)\n",
-    Ending::Refused,
-);
-
-/// A tag manifest, and no payload.
-pub const TAG_MANIFEST: WorkedBag = (
-    TAGGED,
-    "valid 1.0 files 0 bytes 0 manifests 2\n",
-    "",
-    Ending::Accepted,
-);
-
-/// A `Payload-Oxum` that is right.
-pub const COUNTED: WorkedBag = (
-    OXUM,
-    "valid 1.0 files 1 bytes 3 manifests 1\n",
-    "",
-    Ending::Accepted,
-);
+/// Small bags.
+pub static BAGS: [WorkedBag; 8] = [
+    (
+        "a valid bag",
+        BAG,
+        "valid 1.0 files 1 bytes 3 manifests 1\n",
+        "",
+        Ending::Accepted,
+    ),
+    // A percent sign in the name `data/a%0Ab`, which the manifest spells `%25`: in version 0.97 that stands
+    // for itself.
+    (
+        "a decoded path",
+        b"BAGSET 1\nFILE 9 55\nbagit.txtBagIt-Version: 0.97\nTag-File-Character-Encoding: UTF-8\n\nFILE 10 3\ndata/a%0Ababc\nFILE 19 79\nmanifest-sha256.txtba7816bf8f01cfea414140de5dae2223b00361a396177a9cb410ff61f20015ad  data/a%250Ab\n\nEND\n",
+        "invalid B11 manifest-sha256.txt data/a%25250Ab\n",
+        "manifest-sha256.txt lists data/a%25250Ab, but the bag has no such file (B11)\n",
+        Ending::Refused,
+    ),
+    // A payload file that one of two payload manifests lists: bag A and an empty `manifest-sha512.txt`.
+    (
+        "an unlisted file",
+        b"BAGSET 1\nFILE 9 54\nbagit.txtBagIt-Version: 1.0\nTag-File-Character-Encoding: UTF-8\n\nFILE 6 3\ndata/aabc\nFILE 19 73\nmanifest-sha256.txtba7816bf8f01cfea414140de5dae2223b00361a396177a9cb410ff61f20015ad  data/a\n\nFILE 19 0\nmanifest-sha512.txt\nEND\n",
+        "invalid B12 manifest-sha512.txt data/a\n",
+        "data/a is in the payload, but manifest-sha512.txt does not list it (B12)\n",
+        Ending::Refused,
+    ),
+    // Bag A with the manifest's line twice.
+    (
+        "two lines for one path",
+        b"BAGSET 1\nFILE 9 54\nbagit.txtBagIt-Version: 1.0\nTag-File-Character-Encoding: UTF-8\n\nFILE 6 3\ndata/aabc\nFILE 19 146\nmanifest-sha256.txtba7816bf8f01cfea414140de5dae2223b00361a396177a9cb410ff61f20015ad  data/a\nba7816bf8f01cfea414140de5dae2223b00361a396177a9cb410ff61f20015ad  data/a\n\nEND\n",
+        "invalid B6 manifest-sha256.txt L6 2\n",
+        "line 2 of manifest-sha256.txt lists a path that an earlier line lists (B6 L6)\n",
+        Ending::Refused,
+    ),
+    // Bag A with the checksum's last digit `e`.
+    (
+        "a wrong checksum",
+        b"BAGSET 1\nFILE 9 54\nbagit.txtBagIt-Version: 1.0\nTag-File-Character-Encoding: UTF-8\n\nFILE 6 3\ndata/aabc\nFILE 19 73\nmanifest-sha256.txtba7816bf8f01cfea414140de5dae2223b00361a396177a9cb410ff61f20015ae  data/a\n\nEND\n",
+        "invalid B17 manifest-sha256.txt data/a\n",
+        "the digest of data/a is not the checksum in manifest-sha256.txt (B17)\n",
+        Ending::Refused,
+    ),
+    // A payload file whose name has LF, CR, `%`, a blank and bytes past ASCII, and which isn't listed.
+    (
+        "a strange name",
+        b"BAGSET 1\nFILE 9 54\nbagit.txtBagIt-Version: 1.0\nTag-File-Character-Encoding: UTF-8\n\nFILE 11 0\ndata/\n\r% \xC3\xA9\nFILE 6 3\ndata/aabc\nFILE 19 73\nmanifest-sha256.txtba7816bf8f01cfea414140de5dae2223b00361a396177a9cb410ff61f20015ad  data/a\n\nEND\n",
+        "invalid B12 manifest-sha256.txt data/%0A%0D%25%20%C3%A9\n",
+        "data/%0A%0D%25%20%C3%A9 is in the payload, but manifest-sha256.txt does not list it (B12)\n",
+        Ending::Refused,
+    ),
+    (
+        "a tag manifest",
+        NO_PAYLOAD,
+        "valid 1.0 files 0 bytes 0 manifests 2\n",
+        "",
+        Ending::Accepted,
+    ),
+    // Bag A with a right `Payload-Oxum`, in capitals, among other labels.
+    (
+        "a counted payload",
+        b"BAGSET 1\nFILE 12 34\nbag-info.txtSource: a\n  b\nPAYLOAD-OXUM : 3.1 \n\nFILE 9 54\nbagit.txtBagIt-Version: 1.0\nTag-File-Character-Encoding: UTF-8\n\nFILE 6 3\ndata/aabc\nFILE 19 73\nmanifest-sha256.txtba7816bf8f01cfea414140de5dae2223b00361a396177a9cb410ff61f20015ad  data/a\n\nEND\n",
+        "valid 1.0 files 1 bytes 3 manifests 1\n",
+        "",
+        Ending::Accepted,
+    ),
+];
 
 /// A policy and what `explain` is asked, the line that it prints, what it tells standard error, and how
 /// it ends.
@@ -97,7 +103,7 @@ pub struct WorkedQuestion {
 
 /// The one rule denies everything: a policy of few allocations.
 pub const DENIED_EVERYTHING: WorkedQuestion = WorkedQuestion {
-    policy: ONE_RULE,
+    policy: b"version = 1\nrule = [{effect=\"deny\",role=\"*\",action=\"*\",collection=\"*\",class=\"*\"}]\n",
     caller: "eve",
     action: "list",
     collection: "maps",

@@ -40,7 +40,7 @@ static MARKS: &str = r#"
 {rule-clerk} [[rule]]\neffect = "allow"\nrole = "clerk"\naction = "list"\ncollection = "*"\nclass = "y10"\n
 {no-day} the option --day DAY is missing: the policy has version 2, in which rules may count on certain days alone\n
 {strangers} version = 1\n\n[callers]\nbert = "stranger"\n\n[[rule]]\neffect = "deny"\nrole = "stranger"\naction = "download"\ncollection = "-"\nclass = "*"\n\n[[rule]]\neffect = "allow"\nrole = "stranger"\naction = "download"\ncollection = "*"\nclass = "*"\n
-{uses} Usage: depot check FILE\n       depot pack DIR FILE\n       depot unpack FILE DIR\n       depot explain [--day DAY] POLICY CALLER ACTION COLLECTION CLASS\n       depot policy STORE POLICY\n       depot ask STORE DAY\n       depot replay [--policy POLICY] STORE\n       depot serve --port P --count N STORE DAY\n\nDepot checks and keeps BagIt bags, serves them by a policy, and destroys them when due.\ndepot COMMAND --help says what each command takes.\n
+{uses} depot {version}\nUsage: depot check FILE\n       depot pack DIR FILE\n       depot unpack FILE DIR\n       depot explain [--day DAY] POLICY CALLER ACTION COLLECTION CLASS\n       depot policy STORE POLICY\n       depot ask STORE DAY\n       depot replay [--policy POLICY] STORE\n       depot serve --port P --count N STORE DAY\n\nDepot checks and keeps BagIt bags, serves them by a policy, and destroys them when due.\ndepot COMMAND --help says what each command takes.\n
 "#;
 
 /// Marks of bytes. Two of them stand for a byte that no text has.

@@ -4,14 +4,14 @@ use Rattle.clap.specs.Words.{AddsArg, AddsInTurn}
 use Rattle.clap.specs.Simple.{app_of_fields}
 use Rattle.clap.specs.declared.builder.command.Command.{Command}
 use Rattle.clap.specs.declared.builder.command.Command.TheOpen.{Command-F}
-use Rattle.command_line.specs.CommandBuilding.{Takes, rules_for}
+use Rattle.command_line.specs.CommandBuilding.{TakesArguments, rules_for}
 use Rattle.command_line.proofs.words.command_of.Goals as goal
 
 -- the help text and the name in usage change nothing that clap reads of a command
 pub returns : goal.returns
 returns c =
     let name = c.in_ok-bin_name.ensures.0 in
-    IfOk-weaker c.args-2.result (AddsInTurn AddsArg c.in_ok-bin_name.field-0 c.in_ok-args.args.items) (Takes c.args.usage.now.name.now (rules_for c.args.usage.now.arguments.now)) (λ command chain. record {
+    IfOk-weaker c.args-2.result (AddsInTurn AddsArg c.in_ok-bin_name.field-0 c.in_ok-args.args.items) (TakesArguments c.args.usage.now.name.now (rules_for c.args.usage.now.arguments.now)) (λ command chain. record {
       start = c.in_ok-bin_name.field-0;
       args = c.in_ok-args.args.items;
       app = ap app_of_fields name ∙ ap app_of_fields c.about.ensures ∙ c.new.ensures.app;

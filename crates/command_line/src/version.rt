@@ -1,0 +1,4 @@
+//! The version of the program.
+
+/// The version of the program. It stands here alone: whatever else tells it takes it from here.
+pub const VERSION: &str = "1.0";
