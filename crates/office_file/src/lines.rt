@@ -52,7 +52,7 @@ fn outcome(
 
 /// Judges a bag from standard input.
 pub fn judge(rt: &HostRuntime, worked: WorkedBag) -> Outcome {
-    let (form, line, reason, ending) = worked;
+    let (_, form, line, reason, ending) = worked;
     let found = run_words(rt, ["check", "-"].as_slice(), form);
     outcome(found, line, reason, ending)
 }

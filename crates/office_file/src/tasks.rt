@@ -8,7 +8,7 @@ use crate::timed::{self, Call};
 use crate::upgrading::{told_version, upgraded};
 use anyhow::{Context, Result, bail};
 use office_engine::Office;
-use office_recovery::open_file;
+use office_tables::open_file;
 use sqlite::{Alter, Connection, Error, File, FileStore, Unknown};
 use std::time::{Duration, Instant};
 

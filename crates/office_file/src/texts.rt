@@ -1,5 +1,8 @@
 //! What requests are drawn from: names, days, bags and policies.
 
+use worked_bags::{BAG, BAG_0_97, NO_PAYLOAD, PERCENT};
+use worked_sessions::POLICY;
+
 /// Who calls, as often as each is to. The policies list two of them.
 pub static CALLERS: [&str; 8] = ["anna", "anna", "anna", "anna", "anna", "carl", "eve", ""];
 
@@ -36,47 +39,24 @@ pub static CLOSING_DAYS: [&str; 4] = ["1969-12-31", "2024-02-28", "2024-02-29", 
 /// Paths that are asked for: two files, a name spelled as in a manifest, and one that is no path.
 pub static PATHS: [&str; 4] = ["data/a", "bagit.txt", "data/a%0Ab", "data/../a"];
 
-const BAG: &[u8] =
-    b"BAGSET 1\nFILE 9 54\nbagit.txtBagIt-Version: 1.0\nTag-File-Character-Encoding: UTF-8\n\nFILE 6 3\ndata/aabc\nFILE 19 73\nmanifest-sha256.txtba7816bf8f01cfea414140de5dae2223b00361a396177a9cb410ff61f20015ad  data/a\n\nEND\n";
-
-const OLDER: &[u8] =
-    b"BAGSET 1\nFILE 9 55\nbagit.txtBagIt-Version: 0.97\nTag-File-Character-Encoding: UTF-8\n\nFILE 6 3\ndata/aabc\nFILE 19 73\nmanifest-sha256.txtba7816bf8f01cfea414140de5dae2223b00361a396177a9cb410ff61f20015ad  data/a\n\nEND\n";
-
-const PERCENT: &[u8] =
-    b"BAGSET 1\nFILE 9 54\nbagit.txtBagIt-Version: 1.0\nTag-File-Character-Encoding: UTF-8\n\nFILE 10 3\ndata/a%0Ababc\nFILE 19 79\nmanifest-sha256.txtba7816bf8f01cfea414140de5dae2223b00361a396177a9cb410ff61f20015ad  data/a%250Ab\n\nEND\n";
-
-const NO_PAYLOAD: &[u8] =
-    b"BAGSET 1\nFILE 9 54\nbagit.txtBagIt-Version: 1.0\nTag-File-Character-Encoding: UTF-8\n\nFILE 19 0\nmanifest-sha256.txt\nFILE 22 86\ntagmanifest-sha256.txte3b0c44298fc1c149afbf4c8996fb92427ae41e4649b934ca495991b7852b855  manifest-sha256.txt\n\nEND\n";
-
-const OTHER_BYTES: &[u8] =
-    b"BAGSET 1\nFILE 9 54\nbagit.txtBagIt-Version: 1.0\nTag-File-Character-Encoding: UTF-8\n\nFILE 6 3\ndata/aabd\nFILE 19 73\nmanifest-sha256.txtba7816bf8f01cfea414140de5dae2223b00361a396177a9cb410ff61f20015ad  data/a\n\nEND\n";
-
-const CUT: &[u8] =
-    b"BAGSET 1\nFILE 9 54\nbagit.txtBagIt-Version: 1.0\nTag-File-Character-Encoding: UTF-8\n";
-
 /// Four valid bags, one of them three times, each of which has files in common with another; one whose file
 /// has other bytes than its manifest says, one that is cut, and none.
 pub static BAGS: [&[u8]; 9] = [
     BAG,
     BAG,
     BAG,
-    OLDER,
+    BAG_0_97,
     PERCENT,
     NO_PAYLOAD,
-    OTHER_BYTES,
-    CUT,
+    b"BAGSET 1\nFILE 9 54\nbagit.txtBagIt-Version: 1.0\nTag-File-Character-Encoding: UTF-8\n\nFILE 6 3\ndata/aabd\nFILE 19 73\nmanifest-sha256.txtba7816bf8f01cfea414140de5dae2223b00361a396177a9cb410ff61f20015ad  data/a\n\nEND\n",
+    b"BAGSET 1\nFILE 9 54\nbagit.txtBagIt-Version: 1.0\nTag-File-Character-Encoding: UTF-8\n",
     b"",
 ];
 
-const ARCHIVIST_AND_CLERK: &str =
-    "version = 1\n\n[callers]\nanna = \"archivist\"\ncarl = \"clerk\"\n\n[[rule]]\neffect = \"deny\"\nrole = \"archivist\"\naction = \"dispose\"\ncollection = \"tax\"\nclass = \"*\"\n\n[[rule]]\neffect = \"allow\"\nrole = \"archivist\"\naction = \"*\"\ncollection = \"*\"\nclass = \"*\"\n\n[[rule]]\neffect = \"allow\"\nrole = \"clerk\"\naction = \"list\"\ncollection = \"*\"\nclass = \"y10\"\n";
-
-const EVERYBODY: &str =
-    "version = 1\n\n[[rule]]\neffect = \"deny\"\nrole = \"*\"\naction = \"hold\"\ncollection = \"*\"\nclass = \"y1\"\n\n[[rule]]\neffect = \"allow\"\nrole = \"stranger\"\naction = \"*\"\ncollection = \"*\"\nclass = \"*\"\n";
-
-/// The first, in version 2, where the rules that deny and that let list count on some of the days alone.
-const ON_DAYS: &str =
-    "version = 2\n\n[callers]\nanna = \"archivist\"\ncarl = \"clerk\"\n\n[[rule]]\neffect = \"deny\"\nrole = \"archivist\"\naction = \"dispose\"\ncollection = \"tax\"\nclass = \"*\"\nlast = \"2024-02-29\"\n\n[[rule]]\neffect = \"deny\"\nrole = \"archivist\"\naction = \"*\"\ncollection = \"*\"\nclass = \"y1\"\nfirst = \"2024-03-01\"\nlast = \"2024-03-01\"\n\n[[rule]]\neffect = \"allow\"\nrole = \"archivist\"\naction = \"*\"\ncollection = \"*\"\nclass = \"*\"\n\n[[rule]]\neffect = \"allow\"\nrole = \"clerk\"\naction = \"list\"\ncollection = \"*\"\nclass = \"y10\"\nfirst = \"2025-02-28\"\n";
-
-/// The policies. The first is installed before the first request.
-pub static POLICIES: [&str; 3] = [ARCHIVIST_AND_CLERK, EVERYBODY, ON_DAYS];
+/// The policies. The first is installed before the first request. The third is that in version 2, where the
+/// rules that deny and that let list count on some of the days alone.
+pub static POLICIES: [&str; 3] = [
+    POLICY,
+    "version = 1\n\n[[rule]]\neffect = \"deny\"\nrole = \"*\"\naction = \"hold\"\ncollection = \"*\"\nclass = \"y1\"\n\n[[rule]]\neffect = \"allow\"\nrole = \"stranger\"\naction = \"*\"\ncollection = \"*\"\nclass = \"*\"\n",
+    "version = 2\n\n[callers]\nanna = \"archivist\"\ncarl = \"clerk\"\n\n[[rule]]\neffect = \"deny\"\nrole = \"archivist\"\naction = \"dispose\"\ncollection = \"tax\"\nclass = \"*\"\nlast = \"2024-02-29\"\n\n[[rule]]\neffect = \"deny\"\nrole = \"archivist\"\naction = \"*\"\ncollection = \"*\"\nclass = \"y1\"\nfirst = \"2024-03-01\"\nlast = \"2024-03-01\"\n\n[[rule]]\neffect = \"allow\"\nrole = \"archivist\"\naction = \"*\"\ncollection = \"*\"\nclass = \"*\"\n\n[[rule]]\neffect = \"allow\"\nrole = \"clerk\"\naction = \"list\"\ncollection = \"*\"\nclass = \"y10\"\nfirst = \"2025-02-28\"\n",
+];

@@ -3,30 +3,4 @@
 #![tactic(auto)]
 
 #[cfg(test)]
-mod bags;
-#[cfg(test)]
-mod command_lines;
-#[cfg(test)]
-mod devices;
-#[cfg(test)]
-mod failing;
-#[cfg(test)]
-mod folder_devices;
-#[cfg(test)]
-mod folder_limits;
-#[cfg(test)]
-mod folders;
-#[cfg(test)]
-mod limits;
-#[cfg(test)]
-mod policies;
-#[cfg(test)]
-mod readers;
-#[cfg(test)]
-mod rows;
-#[cfg(test)]
-mod texts;
-#[cfg(test)]
-mod whole_streams;
-#[cfg(test)]
-mod words;
+mod tests;

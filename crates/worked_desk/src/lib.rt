@@ -2,16 +2,4 @@
 #![tactic(auto)]
 
 #[cfg(test)]
-mod answers;
-#[cfg(test)]
-mod devices;
-#[cfg(test)]
-mod forms;
-#[cfg(test)]
-mod heads;
-#[cfg(test)]
-mod hearing;
-#[cfg(test)]
-mod records;
-#[cfg(test)]
-mod routes;
+mod tests;

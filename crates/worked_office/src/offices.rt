@@ -169,6 +169,21 @@ pub fn create_and_equip<S: Alter + Drop>(
     }
 }
 
+/// Adopts the connection as an office. It is handed back where it isn't taken for one, with the code of the
+/// fault.
+fn adopt<S: Alter + Drop>(
+    alloc: Global,
+    conn: Connection<S>,
+) -> Result<Office<S>, (Option<String>, Connection<S>)> {
+    if !conn.is_autocommit() {
+        return Err((None, conn));
+    }
+    match Office::adopt(conn) {
+        Ok(office) => Ok(office),
+        Err((conn, fault)) => Err((code(alloc, fault), conn)),
+    }
+}
+
 /// Adopts the connection as an office, puts the row to it, which calls for the due list, too, where it asks
 /// for it, and then looks at the tables. The connection is handed back: with the code of the fault, where it
 /// isn't taken for an office.
@@ -178,16 +193,13 @@ fn put_row<S: Alter + Drop>(
     at: usize,
     row: &Row,
 ) -> (Option<String>, Connection<S>) {
-    if !conn.is_autocommit() {
-        return (None, conn);
-    }
-    match Office::adopt(conn) {
+    match adopt(alloc, conn) {
         Ok(mut office) => {
             let differs = ask_and_call(alloc, &mut office, row);
             let (told, conn) = look_behind(alloc, office, differs);
             (behind(alloc, at, told), conn)
         }
-        Err((conn, fault)) => (code(alloc, fault), conn),
+        Err(told) => told,
     }
 }
 
@@ -218,15 +230,12 @@ fn put_in_run<S: Alter + Drop>(
     conn: Connection<S>,
     text: &'static str,
 ) -> (Option<String>, Connection<S>) {
-    if !conn.is_autocommit() {
-        return (None, conn);
-    }
-    match Office::adopt(conn) {
+    match adopt(alloc, conn) {
         Ok(mut office) => {
             let differs = put_and_call(alloc, &mut office, Way::OneRun, text);
             look_behind(alloc, office, differs)
         }
-        Err((conn, fault)) => (code(alloc, fault), conn),
+        Err(told) => told,
     }
 }
 
@@ -266,12 +275,9 @@ pub fn adopt_and_look<S: Alter + Drop>(
     alloc: Global,
     conn: Connection<S>,
 ) -> (Option<String>, Connection<S>) {
-    if !conn.is_autocommit() {
-        return (None, conn);
-    }
-    match Office::adopt(conn) {
+    match adopt(alloc, conn) {
         Ok(office) => look(alloc, office),
-        Err((conn, fault)) => (code(alloc, fault), conn),
+        Err(told) => told,
     }
 }
 
@@ -297,15 +303,12 @@ pub fn adopt_and_install<S: Alter + Drop>(
     conn: Connection<S>,
     name: &str,
 ) -> (Option<String>, Connection<S>) {
-    if !conn.is_autocommit() {
-        return (None, conn);
-    }
-    match Office::adopt(conn) {
+    match adopt(alloc, conn) {
         Ok(mut office) => {
             let differs = install_named(alloc, &mut office, name);
             look_behind(alloc, office, differs)
         }
-        Err((conn, fault)) => (code(alloc, fault), conn),
+        Err(told) => told,
     }
 }
 
@@ -315,15 +318,12 @@ pub fn ask_stock<S: Alter + Drop>(
     conn: Connection<S>,
     wanted: &str,
 ) -> (Option<String>, Connection<S>) {
-    if !conn.is_autocommit() {
-        return (None, conn);
-    }
-    match Office::adopt(conn) {
+    match adopt(alloc, conn) {
         Ok(mut office) => {
             let differs = other_stock(alloc, &mut office, wanted);
             (differs, office.into_connection())
         }
-        Err((conn, fault)) => (code(alloc, fault), conn),
+        Err(told) => told,
     }
 }
 
@@ -335,14 +335,11 @@ pub fn adopt_and_put<S: Alter + Drop>(
     way: Way,
     text: &'static str,
 ) -> (Option<String>, Connection<S>) {
-    if !conn.is_autocommit() {
-        return (None, conn);
-    }
-    match Office::adopt(conn) {
+    match adopt(alloc, conn) {
         Ok(mut office) => {
             let differs = put_and_call(alloc, &mut office, way, text);
             (differs, office.into_connection())
         }
-        Err((conn, fault)) => (code(alloc, fault), conn),
+        Err(told) => told,
     }
 }

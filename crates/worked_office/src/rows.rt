@@ -2,7 +2,8 @@
 
 use crate::words::{number, word};
 use std::alloc::Global;
-use worked_sessions::{Asked, BAG, BAG_0_97, NO_PAYLOAD, PERCENT, Row};
+use worked_bags::{BAG, BAG_0_97, NO_PAYLOAD, PERCENT};
+use worked_sessions::{Asked, Row};
 
 /// The answer to a download of the bag `BAG`.
 const WHOLE: &str =

@@ -145,28 +145,31 @@ fn stop(
     })
 }
 
-/// Stops the log at its first call, then at its second, and so on, until it doesn't stop: how many stops there are.
-fn stops_of_log(alloc: Global, older: &Older<'_>) -> Result<u64, Fail> {
-    let mut left = leave(alloc, older)?;
-    for calls in 0..1_000 {
-        left = stop(alloc, older, calls, MANY, left)?;
-        if !left.stopped.0 {
-            return Ok(calls);
-        }
-    }
-    Err(Fail::new("no upgrade without a stop of the log"))
+/// Which of the two files stops.
+#[derive(Clone, Copy)]
+enum Stopping {
+    Log,
+    Database,
 }
 
-/// The same of the database file.
-fn stops_of_database(alloc: Global, older: &Older<'_>) -> Result<u64, Fail> {
+/// Stops the file at its first call, then at its second, and so on, until it doesn't stop: how many stops there are.
+fn stops_of(alloc: Global, older: &Older<'_>, file: Stopping) -> Result<u64, Fail> {
     let mut left = leave(alloc, older)?;
     for calls in 0..1_000 {
-        left = stop(alloc, older, MANY, calls, left)?;
-        if !left.stopped.1 {
+        let (log_calls, db_calls) = match file {
+            Stopping::Log => (calls, MANY),
+            Stopping::Database => (MANY, calls),
+        };
+        left = stop(alloc, older, log_calls, db_calls, left)?;
+        let has_stopped = match file {
+            Stopping::Log => left.stopped.0,
+            Stopping::Database => left.stopped.1,
+        };
+        if !has_stopped {
             return Ok(calls);
         }
     }
-    Err(Fail::new("no upgrade without a stop of the database file"))
+    Err(Fail::new("no upgrade without a stop"))
 }
 
 /// Each stop in an upgrade leaves the older office or the upgraded one, which go on alike. Fails where there are few
@@ -185,8 +188,8 @@ pub fn each_stop_in_an_upgrade_leaves_an_office_that_goes_on(alloc: Global) -> R
             renewed: *renewed,
             rest,
         };
-        let log = stops_of_log(alloc, &older)?;
-        let db = stops_of_database(alloc, &older)?;
+        let log = stops_of(alloc, &older, Stopping::Log)?;
+        let db = stops_of(alloc, &older, Stopping::Database)?;
         if log <= 10 || db <= 5 {
             return Err(Fail::new(format!(in alloc;
                 "few stops: {log} of the log, {db} of the database file"

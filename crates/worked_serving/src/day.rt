@@ -1,7 +1,10 @@
 //! A day of an office: requests as bytes, and the bytes that answer them, worked out by hand from
 //! `docs/HTTP.md`.
 
-use crate::answers::{NO_DEPOSIT, NO_HEAD, TOO_LARGE};
+use crate::answers::{
+    BAD_BODY, BAD_QUERY, DENIED, DEPOSIT_2, HELD_1, HOLD_1, HOLD_2, MAPS, NO_DEPOSIT, NO_DEPOSITS,
+    NO_FILE, NO_HEAD, NO_HOLDS, TOO_LARGE, Y1,
+};
 use crate::desk::{Devices, put};
 use crate::limits::take_limits;
 use http_desk::DeskFault;
@@ -9,24 +12,6 @@ use office_engine::Office;
 use sqlite::Alter;
 use std::alloc::Global;
 use std::test::Fail;
-
-const DENIED: &[u8] =
-    b"HTTP/1.1 403 Forbidden\r\nContent-Type: application/json\r\nContent-Length: 35\r\nConnection: close\r\n\r\n{\"error\":\"Denied\",\"rule\":\"default\"}";
-
-const BAD_BODY: &[u8] =
-    b"HTTP/1.1 400 Bad Request\r\nContent-Type: application/json\r\nContent-Length: 19\r\nConnection: close\r\n\r\n{\"error\":\"BadBody\"}";
-
-const BAD_QUERY: &[u8] =
-    b"HTTP/1.1 400 Bad Request\r\nContent-Type: application/json\r\nContent-Length: 20\r\nConnection: close\r\n\r\n{\"error\":\"BadQuery\"}";
-
-const NO_FILE: &[u8] =
-    b"HTTP/1.1 404 Not Found\r\nContent-Type: application/json\r\nContent-Length: 18\r\nConnection: close\r\n\r\n{\"error\":\"NoFile\"}";
-
-const NO_DEPOSITS: &[u8] =
-    b"HTTP/1.1 200 OK\r\nContent-Type: application/json\r\nContent-Length: 15\r\nConnection: close\r\n\r\n{\"deposits\":[]}";
-
-const NO_HOLDS: &[u8] =
-    b"HTTP/1.1 200 OK\r\nContent-Type: application/json\r\nContent-Length: 12\r\nConnection: close\r\n\r\n{\"holds\":[]}";
 
 /// A request of 2024-03-01, and the bytes that answer it.
 #[derive(Clone, Copy)]
@@ -110,11 +95,11 @@ static MORNING: [Case; 20] = [
     },
     Case {
         request: b"PUT /collections/maps HTTP/1.1\r\nDepot-Caller: anna\r\n\r\n",
-        answer: b"HTTP/1.1 200 OK\r\nContent-Type: application/json\r\nContent-Length: 21\r\nConnection: close\r\n\r\n{\"collection\":\"maps\"}",
+        answer: MAPS,
     },
     Case {
         request: b"PUT /classes/y1 HTTP/1.1\r\nDepot-Caller: anna\r\nContent-Length: 11\r\n\r\n{\"years\":1}",
-        answer: b"HTTP/1.1 200 OK\r\nContent-Type: application/json\r\nContent-Length: 24\r\nConnection: close\r\n\r\n{\"class\":\"y1\",\"years\":1}",
+        answer: Y1,
     },
     Case {
         request: b"PUT /classes/kept HTTP/1.1\r\nDepot-Caller: anna\r\nContent-Length: 14\r\n\r\n{\"years\":null}",
@@ -194,7 +179,7 @@ static DAY: [Case; 34] = [
     },
     Case {
         request: b"POST /deposits?collection=maps&class=y10&accession=A-2&closed=2024-02-29 HTTP/1.1\r\nDepot-Caller: anna\r\nContent-Length: 221\r\n\r\nBAGSET 1\nFILE 9 54\nbagit.txtBagIt-Version: 1.0\nTag-File-Character-Encoding: UTF-8\n\nFILE 10 3\ndata/a%0Ababc\nFILE 19 79\nmanifest-sha256.txtba7816bf8f01cfea414140de5dae2223b00361a396177a9cb410ff61f20015ad  data/a%250Ab\n\nEND\n",
-        answer: b"HTTP/1.1 201 Created\r\nContent-Type: application/json\r\nContent-Length: 13\r\nConnection: close\r\n\r\n{\"deposit\":2}",
+        answer: DEPOSIT_2,
     },
     Case {
         request: b"GET /deposits/2/files/data/a%250Ab HTTP/1.1\r\nDepot-Caller: anna\r\n\r\n",
@@ -218,15 +203,15 @@ static DAY: [Case; 34] = [
     },
     Case {
         request: b"POST /holds HTTP/1.1\r\nDepot-Caller: anna\r\nContent-Length: 39\r\n\r\n{\"collection\":\"maps\",\"matter\":\"Case 7\"}",
-        answer: b"HTTP/1.1 201 Created\r\nContent-Type: application/json\r\nContent-Length: 10\r\nConnection: close\r\n\r\n{\"hold\":1}",
+        answer: HOLD_1,
     },
     Case {
         request: b"POST /holds HTTP/1.1\r\nDepot-Caller: anna\r\nContent-Length: 31\r\n\r\n{\"deposit\":1,\"matter\":\"\\u00e9\"}",
-        answer: b"HTTP/1.1 201 Created\r\nContent-Type: application/json\r\nContent-Length: 10\r\nConnection: close\r\n\r\n{\"hold\":2}",
+        answer: HOLD_2,
     },
     Case {
         request: b"DELETE /deposits/1 HTTP/1.1\r\nDepot-Caller: anna\r\n\r\n",
-        answer: b"HTTP/1.1 409 Conflict\r\nContent-Type: application/json\r\nContent-Length: 25\r\nConnection: close\r\n\r\n{\"error\":\"Held\",\"hold\":1}",
+        answer: HELD_1,
     },
     Case {
         request: b"DELETE /holds/1 HTTP/1.1\r\nDepot-Caller: anna\r\n\r\n",

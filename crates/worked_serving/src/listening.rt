@@ -1,5 +1,6 @@
 //! What peers send to an office, and what they get, worked out by hand from `docs/HTTP.md`.
 
+use crate::answers::{MAPS, NO_DEPOSIT, TOO_LARGE, TRUNCATED};
 use crate::peers::{Peer, Then, call_all, hear_all};
 use desk_listening::{Drained, Patience, Sockets, drain, serve_connections};
 use http_desk::{Counted, FailAt, Portion};
@@ -12,29 +13,17 @@ use std::net::TcpListener;
 use std::test::Fail;
 use std::time::Duration;
 
-const NO_SUCH: &str =
-    "HTTP/1.1 404 Not Found\r\nContent-Type: application/json\r\nContent-Length: 35\r\nConnection: close\r\n\r\n{\"error\":\"NoSuch\",\"what\":\"deposit\"}";
-
-const TRUNCATED: &str =
-    "HTTP/1.1 400 Bad Request\r\nContent-Type: application/json\r\nContent-Length: 21\r\nConnection: close\r\n\r\n{\"error\":\"Truncated\"}";
-
-const TOO_LARGE: &str =
-    "HTTP/1.1 413 Content Too Large\r\nContent-Type: application/json\r\nContent-Length: 20\r\nConnection: close\r\n\r\n{\"error\":\"TooLarge\"}";
-
-const COLLECTION: &str =
-    "HTTP/1.1 200 OK\r\nContent-Type: application/json\r\nContent-Length: 21\r\nConnection: close\r\n\r\n{\"collection\":\"maps\"}";
-
 /// Asks for a deposit that isn't there.
 const ASKS: Peer = Peer {
     sends: "GET /deposits/7 HTTP/1.1\r\nDepot-Caller: anna\r\n\r\n",
     letters: 0,
     then: Then::EndsItsInput,
-    gets: NO_SUCH,
+    gets: NO_DEPOSIT,
 };
 
 const DEFINES: Peer = Peer {
     sends: "PUT /collections/maps HTTP/1.1\r\nDepot-Caller: anna\r\n\r\n",
-    gets: COLLECTION,
+    gets: MAPS,
     ..ASKS
 };
 
@@ -46,14 +35,14 @@ const STAYS: Peer = Peer {
 
 const GOES: Peer = Peer {
     then: Then::HangsUp,
-    gets: "",
+    gets: b"",
     ..ASKS
 };
 
 const GOES_AT_ONCE: Peer = Peer {
     sends: "",
     then: Then::HangsUp,
-    gets: "",
+    gets: b"",
     ..ASKS
 };
 
@@ -72,7 +61,7 @@ const SENDS_NOTHING: Peer = Peer {
 /// Is too slow: it is left without an answer.
 const STOPS: Peer = Peer {
     then: Then::Waits,
-    gets: "",
+    gets: b"",
     ..SENDS_HALF
 };
 

@@ -24,7 +24,7 @@ pub struct Peer {
     /// How many letters it sends after that.
     pub letters: usize,
     pub then: Then,
-    pub gets: &'static str,
+    pub gets: &'static [u8],
 }
 
 impl Peer {
@@ -69,7 +69,7 @@ pub fn hear_all(
         if let Some(mut stream) = stream {
             let mut bytes = Vec::new(rt.alloc());
             stream.read_to_end(&mut bytes)?;
-            compare(rt.alloc(), &bytes, peer.gets.as_bytes())?;
+            compare(rt.alloc(), &bytes, peer.gets)?;
         }
     }
     Ok(())

@@ -1,12 +1,17 @@
 //! Sessions that last several days, worked out by hand from `docs/HTTP.md`: one with holds on classes, and one
 //! under a policy whose rules have days.
 
+use crate::answers::{
+    BAD_BODY, DENIED, DEPOSIT_1, DEPOSIT_2, DEPOSIT_3, HELD_1, HOLD_1, HOLD_2, HOLD_3, NO_CLASS,
+    NO_HOLDS,
+};
 use crate::desk::{Devices, compare, serve_request};
 use office_core::read_policy;
 use office_engine::Office;
 use sqlite::Alter;
 use std::alloc::Global;
 use std::test::Fail;
+use worked_sessions::POLICY_WITH_DAYS;
 
 /// A request of that day, and the bytes that answer it.
 #[derive(Clone, Copy)]
@@ -22,12 +27,12 @@ static HOLDS: [Case; 26] = [
     Case {
         day: "2024-03-02",
         request: b"POST /holds HTTP/1.1\r\nDepot-Caller: anna\r\nContent-Length: 32\r\n\r\n{\"class\":\"y1\",\"matter\":\"Case 7\"}",
-        answer: b"HTTP/1.1 201 Created\r\nContent-Type: application/json\r\nContent-Length: 10\r\nConnection: close\r\n\r\n{\"hold\":1}",
+        answer: HOLD_1,
     },
     Case {
         day: "2024-03-03",
         request: b"POST /deposits?collection=maps&class=y1&accession=A-1&closed=2024-02-29 HTTP/1.1\r\nDepot-Caller: anna\r\nContent-Length: 210\r\n\r\nBAGSET 1\nFILE 9 54\nbagit.txtBagIt-Version: 1.0\nTag-File-Character-Encoding: UTF-8\n\nFILE 6 3\ndata/aabc\nFILE 19 73\nmanifest-sha256.txtba7816bf8f01cfea414140de5dae2223b00361a396177a9cb410ff61f20015ad  data/a\n\nEND\n",
-        answer: b"HTTP/1.1 201 Created\r\nContent-Type: application/json\r\nContent-Length: 13\r\nConnection: close\r\n\r\n{\"deposit\":1}",
+        answer: DEPOSIT_1,
     },
     Case {
         day: "2024-03-03",
@@ -37,7 +42,7 @@ static HOLDS: [Case; 26] = [
     Case {
         day: "2024-03-04",
         request: b"POST /holds HTTP/1.1\r\nDepot-Caller: anna\r\nContent-Length: 39\r\n\r\n{\"collection\":\"maps\",\"matter\":\"Case 7\"}",
-        answer: b"HTTP/1.1 201 Created\r\nContent-Type: application/json\r\nContent-Length: 10\r\nConnection: close\r\n\r\n{\"hold\":2}",
+        answer: HOLD_2,
     },
     Case {
         day: "2024-03-04",
@@ -47,7 +52,7 @@ static HOLDS: [Case; 26] = [
     Case {
         day: "2024-03-05",
         request: b"POST /deposits?collection=maps&class=y10&accession=A-2&closed=2024-02-29 HTTP/1.1\r\nDepot-Caller: anna\r\nContent-Length: 210\r\n\r\nBAGSET 1\nFILE 9 54\nbagit.txtBagIt-Version: 1.0\nTag-File-Character-Encoding: UTF-8\n\nFILE 6 3\ndata/aabc\nFILE 19 73\nmanifest-sha256.txtba7816bf8f01cfea414140de5dae2223b00361a396177a9cb410ff61f20015ad  data/a\n\nEND\n",
-        answer: b"HTTP/1.1 201 Created\r\nContent-Type: application/json\r\nContent-Length: 13\r\nConnection: close\r\n\r\n{\"deposit\":2}",
+        answer: DEPOSIT_2,
     },
     Case {
         day: "2024-03-05",
@@ -57,7 +62,7 @@ static HOLDS: [Case; 26] = [
     Case {
         day: "2024-03-05",
         request: b"POST /deposits?collection=tax&class=y1&accession=A-3&closed=2024-02-29 HTTP/1.1\r\nDepot-Caller: anna\r\nContent-Length: 210\r\n\r\nBAGSET 1\nFILE 9 54\nbagit.txtBagIt-Version: 1.0\nTag-File-Character-Encoding: UTF-8\n\nFILE 6 3\ndata/aabc\nFILE 19 73\nmanifest-sha256.txtba7816bf8f01cfea414140de5dae2223b00361a396177a9cb410ff61f20015ad  data/a\n\nEND\n",
-        answer: b"HTTP/1.1 201 Created\r\nContent-Type: application/json\r\nContent-Length: 13\r\nConnection: close\r\n\r\n{\"deposit\":3}",
+        answer: DEPOSIT_3,
     },
     Case {
         day: "2024-03-05",
@@ -72,12 +77,12 @@ static HOLDS: [Case; 26] = [
     Case {
         day: "2030-01-01",
         request: b"DELETE /deposits/1 HTTP/1.1\r\nDepot-Caller: anna\r\n\r\n",
-        answer: b"HTTP/1.1 409 Conflict\r\nContent-Type: application/json\r\nContent-Length: 25\r\nConnection: close\r\n\r\n{\"error\":\"Held\",\"hold\":1}",
+        answer: HELD_1,
     },
     Case {
         day: "2030-01-02",
         request: b"DELETE /holds/1 HTTP/1.1\r\nDepot-Caller: carl\r\n\r\n",
-        answer: b"HTTP/1.1 403 Forbidden\r\nContent-Type: application/json\r\nContent-Length: 35\r\nConnection: close\r\n\r\n{\"error\":\"Denied\",\"rule\":\"default\"}",
+        answer: DENIED,
     },
     Case {
         day: "2030-01-02",
@@ -97,7 +102,7 @@ static HOLDS: [Case; 26] = [
     Case {
         day: "2030-01-02",
         request: b"GET /deposits/3/holds HTTP/1.1\r\nDepot-Caller: anna\r\n\r\n",
-        answer: b"HTTP/1.1 200 OK\r\nContent-Type: application/json\r\nContent-Length: 12\r\nConnection: close\r\n\r\n{\"holds\":[]}",
+        answer: NO_HOLDS,
     },
     Case {
         day: "2030-01-03",
@@ -117,7 +122,7 @@ static HOLDS: [Case; 26] = [
     Case {
         day: "2030-01-04",
         request: b"POST /holds HTTP/1.1\r\nDepot-Caller: anna\r\nContent-Length: 33\r\n\r\n{\"matter\":\"Case 7\",\"class\":\"y10\"}",
-        answer: b"HTTP/1.1 201 Created\r\nContent-Type: application/json\r\nContent-Length: 10\r\nConnection: close\r\n\r\n{\"hold\":3}",
+        answer: HOLD_3,
     },
     Case {
         day: "2030-01-04",
@@ -132,28 +137,24 @@ static HOLDS: [Case; 26] = [
     Case {
         day: "2030-01-04",
         request: b"POST /holds HTTP/1.1\r\nDepot-Caller: anna\r\nContent-Length: 31\r\n\r\n{\"class\":\"z\",\"matter\":\"Case 7\"}",
-        answer: b"HTTP/1.1 404 Not Found\r\nContent-Type: application/json\r\nContent-Length: 33\r\nConnection: close\r\n\r\n{\"error\":\"NoSuch\",\"what\":\"class\"}",
+        answer: NO_CLASS,
     },
     Case {
         day: "2030-01-04",
         request: b"POST /holds HTTP/1.1\r\nDepot-Caller: carl\r\nContent-Length: 31\r\n\r\n{\"class\":\"z\",\"matter\":\"Case 7\"}",
-        answer: b"HTTP/1.1 404 Not Found\r\nContent-Type: application/json\r\nContent-Length: 33\r\nConnection: close\r\n\r\n{\"error\":\"NoSuch\",\"what\":\"class\"}",
+        answer: NO_CLASS,
     },
     Case {
         day: "2030-01-04",
         request: b"POST /holds HTTP/1.1\r\nDepot-Caller: carl\r\nContent-Length: 32\r\n\r\n{\"class\":\"y1\",\"matter\":\"Case 7\"}",
-        answer: b"HTTP/1.1 403 Forbidden\r\nContent-Type: application/json\r\nContent-Length: 35\r\nConnection: close\r\n\r\n{\"error\":\"Denied\",\"rule\":\"default\"}",
+        answer: DENIED,
     },
     Case {
         day: "2030-01-04",
         request: b"POST /holds HTTP/1.1\r\nDepot-Caller: anna\r\nContent-Length: 52\r\n\r\n{\"class\":\"y1\",\"collection\":\"maps\",\"matter\":\"Case 7\"}",
-        answer: b"HTTP/1.1 400 Bad Request\r\nContent-Type: application/json\r\nContent-Length: 19\r\nConnection: close\r\n\r\n{\"error\":\"BadBody\"}",
+        answer: BAD_BODY,
     },
 ];
-
-/// The policy of the office, but for its first rule, which denies to the end of 2024 alone.
-static POLICY: &str =
-    "version = 2\n\n[callers]\nanna = \"archivist\"\ncarl = \"clerk\"\n\n[[rule]]\neffect = \"deny\"\nrole = \"archivist\"\naction = \"dispose\"\ncollection = \"tax\"\nclass = \"*\"\nlast = \"2024-12-31\"\n\n[[rule]]\neffect = \"allow\"\nrole = \"archivist\"\naction = \"*\"\ncollection = \"*\"\nclass = \"*\"\n\n[[rule]]\neffect = \"allow\"\nrole = \"clerk\"\naction = \"list\"\ncollection = \"*\"\nclass = \"y10\"\n";
 
 /// A deposit that the first rule keeps from destruction on its last day, and not on the next. The days come in no
 /// order: each answer takes the rules of its own day.
@@ -161,7 +162,7 @@ static RULES: [Case; 7] = [
     Case {
         day: "2024-03-01",
         request: b"POST /deposits?collection=tax&class=y10&accession=A-1&closed=2024-02-29 HTTP/1.1\r\nDepot-Caller: anna\r\nContent-Length: 210\r\n\r\nBAGSET 1\nFILE 9 54\nbagit.txtBagIt-Version: 1.0\nTag-File-Character-Encoding: UTF-8\n\nFILE 6 3\ndata/aabc\nFILE 19 73\nmanifest-sha256.txtba7816bf8f01cfea414140de5dae2223b00361a396177a9cb410ff61f20015ad  data/a\n\nEND\n",
-        answer: b"HTTP/1.1 201 Created\r\nContent-Type: application/json\r\nContent-Length: 13\r\nConnection: close\r\n\r\n{\"deposit\":1}",
+        answer: DEPOSIT_1,
     },
     Case {
         day: "2024-03-01",
@@ -215,7 +216,7 @@ pub fn take_holds<S: Alter>(alloc: Global, office: &mut Office<S>) -> Result<(),
 
 /// A session under a policy whose rules have days.
 pub fn take_rules<S: Alter>(alloc: Global, office: &mut Office<S>) -> Result<(), Fail> {
-    let policy = read_policy(alloc, POLICY)?;
+    let policy = read_policy(alloc, POLICY_WITH_DAYS)?;
     if office.install(alloc, &policy).is_err() {
         return Err("the policy was not installed".into());
     }

@@ -3,7 +3,6 @@
 #![tactic(auto)]
 
 mod asking;
-mod bags;
 mod files;
 mod keeping;
 mod offices;
@@ -13,7 +12,6 @@ mod showing;
 mod wording;
 
 pub use asking::Asked;
-pub use bags::{BAG, BAG_0_97, NO_PAYLOAD, PERCENT};
 pub use files::{Disks, MANY, SMALL_CACHES, copy_files, empty, has_stopped, lose};
 pub use keeping::{kept_otherwise, look};
 pub use offices::AnyOffice;

@@ -2,6 +2,18 @@
 
 use crate::parts::Part;
 
+/// What is in no office of these sessions.
+const ABSENT: &str = "read|role|eve > None\n\
+    read|years|Y2 > None\n\
+    read|collection|map > false\n\
+    read|deposit|3 > None\n\
+    read|accession|2026/ > None\n\
+    read|files|3 > []\n\
+    read|content|1|data/A > None\n\
+    read|content|3|data/a > None\n\
+    read|hold|3 > None\n\
+    read|live holds|3|plans|y9 > []";
+
 /// A change that goes before another in one transaction is rolled back with it.
 pub static REFUSALS: [&[Part]; 4] = [
     // Of an office with one deposit, a file of it and a hold.
@@ -34,18 +46,12 @@ pub static REFUSALS: [&[Part]; 4] = [
         (
             "steps",
             "held > 1|5|10|20;--;--;--;y2|2;--;maps;--;1|2026/1|maps|y2|10|11|2|300|||0;--;\
-             1|data/a|abc;--;1|1|||suit|100|;--;1|3;--;\n\
-             read|role|eve > None\n\
-             read|years|Y2 > None\n\
-             read|collection|map > false\n\
-             read|deposit|3 > None\n\
-             read|accession|2026/ > None\n\
-             read|files|3 > []\n\
-             read|content|1|data/A > None\n\
-             read|content|3|data/a > None\n\
-             read|hold|3 > None\n\
-             read|live holds|3|plans|y9 > []\n\
-             read|rules > []\n\
+             1|data/a|abc;--;1|1|||suit|100|;--;1|3;--;",
+        ),
+        ("steps", ABSENT),
+        (
+            "steps",
+            "read|rules > []\n\
              read|deposits > [DepositRow { number: 1, accession: \"2026/1\", collection: \
              \"maps\", class: \"y2\", closed: 10, deposited: 11, files: 2, bytes: 300, gone: \
              None }]\n\
@@ -79,19 +85,7 @@ pub static REFUSALS: [&[Part]; 4] = [
     // Nothing is found in an empty office.
     &[
         ("steps", "create"),
-        (
-            "steps",
-            "read|role|eve > None\n\
-             read|years|Y2 > None\n\
-             read|collection|map > false\n\
-             read|deposit|3 > None\n\
-             read|accession|2026/ > None\n\
-             read|files|3 > []\n\
-             read|content|1|data/A > None\n\
-             read|content|3|data/a > None\n\
-             read|hold|3 > None\n\
-             read|live holds|3|plans|y9 > []",
-        ),
+        ("steps", ABSENT),
         (
             "steps",
             "read|rules > []\n\

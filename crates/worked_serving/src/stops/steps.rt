@@ -1,6 +1,7 @@
 //! A session with an office, worked out by hand: its steps, the rows of the tables in between, and
 //! a session that goes on.
 
+use crate::answers::{DEPOSIT_1, DEPOSIT_2, DEPOSIT_3, HOLD_1, HOLD_2, HOLD_3, MAPS, Y1};
 use crate::desk::{Devices, compare, serve_request};
 use http_desk::Portion;
 use office_core::read_policy;
@@ -9,7 +10,8 @@ use office_tables::TableFault;
 use sqlite::Alter;
 use std::alloc::Global;
 use std::test::Fail;
-use worked_sessions::{Asked, BAG, BAG_0_97, answer_in_words};
+use worked_bags::{BAG, BAG_0_97};
+use worked_sessions::{Asked, answer_in_words};
 
 /// How the requests come.
 #[derive(Clone, Copy)]
@@ -46,14 +48,14 @@ static STEPS: [Step; 13] = [
         asked: Asked::Collection("maps"),
         told: b"collection maps",
         request: b"PUT /collections/maps HTTP/1.1\r\nDepot-Caller: anna\r\n\r\n",
-        answer: b"HTTP/1.1 200 OK\r\nContent-Type: application/json\r\nContent-Length: 21\r\nConnection: close\r\n\r\n{\"collection\":\"maps\"}",
+        answer: MAPS,
     },
     Step {
         day: "2024-03-01",
         asked: Asked::Class("y1", 1),
         told: b"class y1 1",
         request: b"PUT /classes/y1 HTTP/1.1\r\nDepot-Caller: anna\r\nContent-Length: 11\r\n\r\n{\"years\":1}",
-        answer: b"HTTP/1.1 200 OK\r\nContent-Type: application/json\r\nContent-Length: 24\r\nConnection: close\r\n\r\n{\"class\":\"y1\",\"years\":1}",
+        answer: Y1,
     },
     Step {
         day: "2024-03-01",
@@ -66,7 +68,7 @@ static STEPS: [Step; 13] = [
         },
         told: b"deposit 1",
         request: b"POST /deposits?collection=maps&class=y1&accession=A-1&closed=2024-02-29 HTTP/1.1\r\nDepot-Caller: anna\r\nContent-Length: 210\r\n\r\nBAGSET 1\nFILE 9 54\nbagit.txtBagIt-Version: 1.0\nTag-File-Character-Encoding: UTF-8\n\nFILE 6 3\ndata/aabc\nFILE 19 73\nmanifest-sha256.txtba7816bf8f01cfea414140de5dae2223b00361a396177a9cb410ff61f20015ad  data/a\n\nEND\n",
-        answer: b"HTTP/1.1 201 Created\r\nContent-Type: application/json\r\nContent-Length: 13\r\nConnection: close\r\n\r\n{\"deposit\":1}",
+        answer: DEPOSIT_1,
     },
     Step {
         day: "2024-03-01",
@@ -79,7 +81,7 @@ static STEPS: [Step; 13] = [
         },
         told: b"deposit 2",
         request: b"POST /deposits?collection=maps&class=y1&accession=A-2&closed=2024-02-29 HTTP/1.1\r\nDepot-Caller: anna\r\nContent-Length: 211\r\n\r\nBAGSET 1\nFILE 9 55\nbagit.txtBagIt-Version: 0.97\nTag-File-Character-Encoding: UTF-8\n\nFILE 6 3\ndata/aabc\nFILE 19 73\nmanifest-sha256.txtba7816bf8f01cfea414140de5dae2223b00361a396177a9cb410ff61f20015ad  data/a\n\nEND\n",
-        answer: b"HTTP/1.1 201 Created\r\nContent-Type: application/json\r\nContent-Length: 13\r\nConnection: close\r\n\r\n{\"deposit\":2}",
+        answer: DEPOSIT_2,
     },
     Step {
         day: "2024-03-02",
@@ -93,21 +95,21 @@ static STEPS: [Step; 13] = [
         asked: Asked::HoldDeposit(1),
         told: b"hold 1",
         request: b"POST /holds HTTP/1.1\r\nDepot-Caller: anna\r\nContent-Length: 31\r\n\r\n{\"deposit\":1,\"matter\":\"Case 7\"}",
-        answer: b"HTTP/1.1 201 Created\r\nContent-Type: application/json\r\nContent-Length: 10\r\nConnection: close\r\n\r\n{\"hold\":1}",
+        answer: HOLD_1,
     },
     Step {
         day: "2024-03-02",
         asked: Asked::HoldCollection("maps"),
         told: b"hold 2",
         request: b"POST /holds HTTP/1.1\r\nDepot-Caller: anna\r\nContent-Length: 39\r\n\r\n{\"collection\":\"maps\",\"matter\":\"Case 7\"}",
-        answer: b"HTTP/1.1 201 Created\r\nContent-Type: application/json\r\nContent-Length: 10\r\nConnection: close\r\n\r\n{\"hold\":2}",
+        answer: HOLD_2,
     },
     Step {
         day: "2024-03-02",
         asked: Asked::HoldClass("y1"),
         told: b"hold 3",
         request: b"POST /holds HTTP/1.1\r\nDepot-Caller: anna\r\nContent-Length: 32\r\n\r\n{\"class\":\"y1\",\"matter\":\"Case 7\"}",
-        answer: b"HTTP/1.1 201 Created\r\nContent-Type: application/json\r\nContent-Length: 10\r\nConnection: close\r\n\r\n{\"hold\":3}",
+        answer: HOLD_3,
     },
     Step {
         day: "2024-03-05",
@@ -120,7 +122,7 @@ static STEPS: [Step; 13] = [
         },
         told: b"deposit 3",
         request: b"POST /deposits?collection=maps&class=y1&accession=A-3&closed=2024-02-29 HTTP/1.1\r\nDepot-Caller: anna\r\nContent-Length: 211\r\n\r\nBAGSET 1\nFILE 9 55\nbagit.txtBagIt-Version: 0.97\nTag-File-Character-Encoding: UTF-8\n\nFILE 6 3\ndata/aabc\nFILE 19 73\nmanifest-sha256.txtba7816bf8f01cfea414140de5dae2223b00361a396177a9cb410ff61f20015ad  data/a\n\nEND\n",
-        answer: b"HTTP/1.1 201 Created\r\nContent-Type: application/json\r\nContent-Length: 13\r\nConnection: close\r\n\r\n{\"deposit\":3}",
+        answer: DEPOSIT_3,
     },
     Step {
         day: "2024-03-05",

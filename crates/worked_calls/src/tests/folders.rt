@@ -1,6 +1,6 @@
 //! What comes of packing and unpacking small folders and forms, each in a folder of its test's own.
 
-use crate::rows::holds;
+use crate::tests::rows::{holds, rows_of};
 use bag_folders::{
     PackFault, Packed, Said, UnpackFault, Unpacked, pack, pack_said, unpack, unpack_said,
 };
@@ -222,14 +222,10 @@ fn pack_marked(rt: &HostRuntime, files: &str, rest: &str) -> Result<(), Fail> {
 #[test]
 fn packs_what_was_worked_out(rt: HostRuntime) -> Result<(), Fail> {
     begin(&rt, "folders")?;
-    let mut rows = 0usize;
-    for row in FOLDERS.lines() {
-        if let Some((files, rest)) = row.split_once(" => ") {
-            pack_marked(&rt, files, rest)?;
-            rows = rows.saturating_add(1);
-        }
+    let rows = rows_of(rt.alloc(), FOLDERS, 4)?;
+    for (files, rest) in &rows {
+        pack_marked(&rt, files, rest)?;
     }
-    assert!(rt; rows == 4);
     finish(&rt, "folders")
 }
 
@@ -291,7 +287,7 @@ BAGSET 2\nEND\n => unreadable S1\n => {no-form}
 BAGSET 1\nFILE 4 0\n../a\nEND\n => unreadable S5 9\n => {no-path}
 BAGSET 1\nFILE 2 0\n/a\nEND\n => unreadable S5 9\n => {no-path}
 BAGSET 1\nFILE 1 0\na\nFILE 3 0\na/b\nEND\n => unreadable S8\n => a path of the form is data, or names both a file and a folder (S8)\n
-BAGSET 1\nEND\n\n => unreadable S7\n => the form goes on behind its line END (S7)\n
+BAGSET 1\nEND\n\n => unreadable S7\n => the form goes on after its line END (S7)\n
 ";
 
 /// Unpacks what is no form.
@@ -324,14 +320,10 @@ fn unpack_marked(rt: &HostRuntime, text: &str, rest: &str) -> Result<(), Fail> {
 #[test]
 fn refuses_what_is_no_form(rt: HostRuntime) -> Result<(), Fail> {
     begin(&rt, "no-forms")?;
-    let mut rows = 0usize;
-    for row in NO_FORMS.lines() {
-        if let Some((text, rest)) = row.split_once(" => ") {
-            unpack_marked(&rt, text, rest)?;
-            rows = rows.saturating_add(1);
-        }
+    let rows = rows_of(rt.alloc(), NO_FORMS, 6)?;
+    for (text, rest) in &rows {
+        unpack_marked(&rt, text, rest)?;
     }
-    assert!(rt; rows == 6);
     finish(&rt, "no-forms")
 }
 

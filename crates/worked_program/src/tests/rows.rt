@@ -1,6 +1,6 @@
 //! Rows that say what `check` and `explain` print.
 
-use crate::runs::{Given, came_of};
+use crate::tests::runs::{Given, came_of};
 use commands::Ending;
 use std::alloc::{AllocError, Global};
 use std::test::Fail;

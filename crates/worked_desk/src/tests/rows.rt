@@ -2,7 +2,7 @@
 
 use std::process::Abort;
 
-/// Fails the test by the name of a row that doesn't hold.
+/// Fails the test by the text of a row that doesn't hold.
 pub fn holds(rt: &impl Abort, is_so: bool, row: &str) {
-    assert!(*rt; is_so, "{row}");
+    assert!(*rt; is_so, "{row:?}");
 }

@@ -1,7 +1,7 @@
 //! Streams that fail: what standard error is told, all of it, and how a run ends.
 
-use crate::output::{Taking, Told};
-use crate::runs::{Given, run_with};
+use crate::tests::output::{Taking, Told};
+use crate::tests::runs::{Given, run_with};
 use commands::Ending;
 use program::refuse_words;
 use std::io::{Error, ErrorKind};

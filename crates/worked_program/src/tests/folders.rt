@@ -1,8 +1,8 @@
 //! `pack` and `unpack`, refusals in words, and files that can't be read.
 
-use crate::runs::{begin, run_all};
-use crate::texts::meant;
-use crate::words::FAULTS;
+use crate::tests::runs::{begin, run_all};
+use crate::tests::texts::meant;
+use crate::tests::words::FAULTS;
 use std::fs;
 use std::fs::File;
 use std::os::unix::fs::symlink;

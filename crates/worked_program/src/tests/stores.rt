@@ -1,7 +1,7 @@
 //! Stores that are no office, or can't be opened: what each command says of them, and that they stay
 //! as they are.
 
-use crate::runs::{begin, run_all, run_one};
+use crate::tests::runs::{begin, run_all, run_one};
 use os::RangeLock;
 use sqlite::{Connection, Unknown};
 use std::alloc::{AllocError, Global};

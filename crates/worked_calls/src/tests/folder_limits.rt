@@ -1,6 +1,6 @@
 //! Folders and forms at their limits.
 
-use crate::folders::{begin, begin_with, finish, lay, pack_here, packs_as, unpacks_as};
+use crate::tests::folders::{begin, begin_with, finish, lay, pack_here, packs_as, unpacks_as};
 use std::fs::File;
 use std::test::*;
 use std::{fs, io};

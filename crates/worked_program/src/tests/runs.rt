@@ -1,7 +1,7 @@
 //! A run of the program, and what it is to come to.
 
-use crate::output::{Output, Taking, Told};
-use crate::texts::meant;
+use crate::tests::output::{Output, Taking, Told};
+use crate::tests::texts::meant;
 use commands::Ending;
 use desk_devices::{Counted, FailAt, Portion};
 use program::{Streams, run};

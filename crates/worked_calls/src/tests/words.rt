@@ -1,6 +1,6 @@
 //! The sentences that no run of `check` or `explain` tells, and files that are no form.
 
-use crate::rows::holds;
+use crate::tests::rows::{holds, rows_of};
 use bag_check::BagFault;
 use bag_text::{InfoFault, LineFault, SetFault};
 use fault_words::{
@@ -185,15 +185,11 @@ fn is_told(alloc: Global, policy: &str, reason: &str) -> Result<bool, AllocError
 }
 
 #[test]
-fn places_in_policies(rt: HostRuntime) -> Result<(), AllocError> {
-    let mut rows = 0usize;
-    for row in REFUSED_POLICIES.lines() {
-        if let Some((policy, reason)) = row.split_once(" => ") {
-            holds(&rt, is_told(rt.alloc(), policy, reason)?, row);
-            rows = rows.saturating_add(1);
-        }
+fn places_in_policies(rt: HostRuntime) -> Result<(), Fail> {
+    let rows = rows_of(rt.alloc(), REFUSED_POLICIES, 23)?;
+    for (policy, reason) in &rows {
+        holds(&rt, is_told(rt.alloc(), policy, reason)?, policy);
     }
-    assert!(rt; rows == 23, "{rows} rows");
     Ok(())
 }
 

@@ -1,8 +1,9 @@
 //! The words of the command line.
 
-use crate::rows::holds;
-use command_line::{Line, MAX_COUNT, UseFault, read_line};
+use crate::tests::rows::{holds, rows_of};
+use command_line::{Line, MAX_COUNT, UseFault, VERSION, read_line};
 use commands::Asked;
+use office_core::Name;
 use std::alloc::{AllocError, Global};
 use std::test::*;
 use worked_bags::text_of;
@@ -18,13 +19,21 @@ fn words_of(alloc: Global, text: &str) -> Result<Vec<&str>, AllocError> {
     Ok(words)
 }
 
+/// A name, or a line for none.
+fn name_text(name: Option<Name<'_>>) -> &str {
+    match name {
+        Some(name) => name.as_str(),
+        None => "-",
+    }
+}
+
 /// What is asked of a policy, between bars.
 fn asked_text(alloc: Global, asked: Asked<'_>) -> Result<String, AllocError> {
     let policy = asked.policy;
     let caller = asked.caller;
     let action = asked.action.as_str();
-    let collection = asked.collection.map_or("-", |name| name.as_str());
-    let class = asked.class.map_or("-", |name| name.as_str());
+    let collection = name_text(asked.collection);
+    let class = name_text(asked.class);
     let words = format!(in alloc; "explain|{policy}|{caller}|{action}|{collection}|{class}")?;
     match asked.day {
         Some(day) => format!(in alloc; "{words}|{day}"),
@@ -155,15 +164,11 @@ fn say(alloc: Global, text: &str, wanted: &str) -> Result<bool, AllocError> {
 }
 
 #[test]
-fn words(rt: HostRuntime) -> Result<(), AllocError> {
-    let mut rows = 0usize;
-    for row in WORDS.lines() {
-        if let Some((text, wanted)) = row.split_once(" => ") {
-            holds(&rt, say(rt.alloc(), text, wanted)?, row);
-            rows = rows.saturating_add(1);
-        }
+fn words(rt: HostRuntime) -> Result<(), Fail> {
+    let rows = rows_of(rt.alloc(), WORDS, 59)?;
+    for (text, wanted) in &rows {
+        holds(&rt, say(rt.alloc(), text, wanted)?, text);
     }
-    assert!(rt; rows == 59);
     assert!(rt; MAX_COUNT == 1_000_000);
     Ok(())
 }
@@ -200,7 +205,7 @@ fn fault_of(alloc: Global, text: &str) -> Result<String, Fail> {
 
 /// Whether what is said is the text with these marks, or begins with it where it is no whole line.
 fn is_said(alloc: Global, said: &str, wanted: &str) -> Result<bool, AllocError> {
-    let wanted = text_of(alloc, wanted)?;
+    let wanted = text_of(alloc, wanted)?.replace(alloc, "{version}", VERSION)?;
     let is_whole = !wanted.ends_with('\n') || said.len() == wanted.len();
     Ok(is_whole && said.starts_with(wanted.as_str()))
 }
@@ -213,14 +218,10 @@ fn is_fault(alloc: Global, text: &str, wanted: &str) -> Result<bool, Fail> {
 
 #[test]
 fn faults_of_use(rt: HostRuntime) -> Result<(), Fail> {
-    let mut rows = 0usize;
-    for row in FAULTS.lines() {
-        if let Some((text, wanted)) = row.split_once(" => ") {
-            holds(&rt, is_fault(rt.alloc(), text, wanted)?, row);
-            rows = rows.saturating_add(1);
-        }
+    let rows = rows_of(rt.alloc(), FAULTS, 17)?;
+    for (text, wanted) in &rows {
+        holds(&rt, is_fault(rt.alloc(), text, wanted)?, text);
     }
-    assert!(rt; rows == 17);
     assert!(rt; UseFault::Memory.to_string(rt.alloc())?.as_str() == "memory");
     Ok(())
 }

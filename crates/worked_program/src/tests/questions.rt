@@ -1,7 +1,7 @@
 //! Questions to small policies, and texts that are none, with what `explain` says of each.
 
-use crate::rows::{prints, words_of};
-use crate::runs::run_all;
+use crate::tests::rows::{prints, words_of};
+use crate::tests::runs::run_all;
 use std::alloc::Global;
 use std::fs;
 use std::test::*;

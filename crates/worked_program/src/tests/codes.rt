@@ -57,7 +57,7 @@ BAGSET 1\n{declared}{payload}FILE 19 139\nmanifest-sha256.txt{abc}  data/a\na781
 BAGSET 1\n{declared}{payload}FILE 19 74\nmanifest-sha256.txt0{abc}  data/a\n\nEND\n => invalid B6 manifest-sha256.txt L3 1\n
 BAGSET 1\n{declared}{payload}FILE 19 74\nmanifest-sha256.txt {abc}  data/a\n\nEND\n => invalid B6 manifest-sha256.txt L3 1\n
 BAGSET 1\n{declared}{payload}FILE 19 81\nmanifest-sha256.txt\r\n\r \t\n#\n{abc}  data/a\n\nEND\n => invalid B6 manifest-sha256.txt L3 4\n
-BAGSET 1\n{declared}{payload}FILE 19 64\nmanifest-sha256.txt{abc}\nEND\n => invalid B6 manifest-sha256.txt L4 1\n => line 1 of manifest-sha256.txt has no path behind its checksum (B6 L4)\n
+BAGSET 1\n{declared}{payload}FILE 19 64\nmanifest-sha256.txt{abc}\nEND\n => invalid B6 manifest-sha256.txt L4 1\n => line 1 of manifest-sha256.txt has no path after its checksum (B6 L4)\n
 BAGSET 1\n{declared}{payload}FILE 19 140\nmanifest-sha256.txt{abc} data/a\n{abc} \t \n\nEND\n => invalid B6 manifest-sha256.txt L4 2\n
 BAGSET 1\n{declared}{payload}FILE 19 73\nmanifest-sha256.txt{abc} *data/a\n\nEND\n => invalid B6 manifest-sha256.txt L5 1\n => line 1 of manifest-sha256.txt has no good path: it begins with *, has more than 1,024 bytes or a NUL, or has a segment that is empty, . or .. (B6 L5)\n
 BAGSET 1\n{declared}{payload}FILE 19 74\nmanifest-sha256.txt{abc} ./data/a\n\nEND\n => invalid B6 manifest-sha256.txt L5 1\n
@@ -175,7 +175,7 @@ BAGSETS => unreadable S1\n
 {gzip} => unreadable S1\n => {no-form}this looks like a gzip file{wanted}
 BagIt-Version: 1.0\nTag-File-Character-Encoding: UTF-8\n => unreadable S1\n => {no-form}this looks like a bag's bagit.txt{wanted}
 BAGSET 1\r\nEND\r\n => unreadable S1\n => {no-form}this looks like a transfer form whose line ends were changed; a form is carried byte for byte\n
-# No entry, a zero in front, numbers out of their range where the text ends, and another byte than LF behind a content.
+# No entry, a zero in front, numbers out of their range where the text ends, and another byte than LF after a content.
 BAGSET 1\nEND\r\n => unreadable S2 9\n
 BAGSET 1\n{declared}FILE 6 03\ndata/aabc\n{listed}END\n => unreadable S2 83\n => the entry at byte 83 is neither the line END nor a file with the lengths that its header gives (S2)\n
 BAGSET 1\nFILE 0 => unreadable S2 9\n
@@ -189,7 +189,7 @@ BAGSET 1\nEN => unreadable S3\n
 BAGSET 1\nFILE 1024 => unreadable S3\n
 BAGSET 1\nFILE 1 1677721 => unreadable S3\n
 BAGSET 1\nFILE 1 1\nab => unreadable S3\n
-# Within one entry: the end of the text, the byte behind the content, the path, its place.
+# Within one entry: the end of the text, the byte after the content, the path, its place.
 BAGSET 1\nFILE 2 1\n..b => unreadable S3\n
 BAGSET 1\nFILE 1 0\n{ff}x => unreadable S2 9\n
 # Paths, and another name between a folder and what is in it.
@@ -198,10 +198,10 @@ BAGSET 1\nFILE 1 0\nb\nFILE 1 0\nb\nEND\n => unreadable S4 20\n
 BAGSET 1\nFILE 1 0\n{ff}\nEND\n => unreadable S5 9\n => {no-path}
 BAGSET 1\nFILE 1 0\na\nFILE 2 0\nb/\nEND\n => unreadable S5 20\n
 BAGSET 1\nFILE 1 0\nb\nFILE 2 0\na/\nEND\n => unreadable S5 20\n
-BAGSET 1\nEND\nEND\n => unreadable S7\n => the form goes on behind its line END (S7)\n
+BAGSET 1\nEND\nEND\n => unreadable S7\n => the form goes on after its line END (S7)\n
 BAGSET 1\nFILE 4 0\ndata\nEND\n => unreadable S8\n => a path of the form is data, or names both a file and a folder (S8)\n
 BAGSET 1\nFILE 1 0\na\nFILE 2 0\na!\nFILE 3 0\na/b\nEND\n => unreadable S8\n
-# Entries one after the other, then what is behind the end, and names that clash last.
+# Entries one after the other, then what follows the end, and names that clash last.
 BAGSET 1\nFILE 1 0\nb\nFILE 1 0\na\nFILES => unreadable S4 20\n
 BAGSET 1\nFILE 4 0\ndata\nEND\n\n => unreadable S7\n
 ";

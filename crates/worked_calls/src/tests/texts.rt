@@ -1,6 +1,6 @@
 //! The calls of `bag_text`: texts that are read and written, and the faults at each limit.
 
-use crate::rows::holds;
+use crate::tests::rows::holds;
 use bag_text::{
     Algorithm, BagInfo, BagPath, BagSet, Checksum, Listing, MAX_CONTENT, MAX_FILES, MAX_PATH,
     Manifest, Version, as_text, has_digits_alone, read_bag_info, read_bagset, read_declaration,
@@ -231,8 +231,9 @@ fn no_label(rt: HostRuntime) -> Result<(), AllocError> {
     Ok(())
 }
 
-/// Texts, and the fault of each as a path, or nothing. Of two faults the least stands.
-static PATHS: [(&str, &str); 17] = [
+/// Texts, and the fault of each as a path, or nothing. Of two faults the least stands. `{1024}` is as many
+/// bytes.
+static PATHS: [(&str, &str); 20] = [
     ("a", ""),
     ("...", ""),
     ("a b/.c", ""),
@@ -250,6 +251,9 @@ static PATHS: [(&str, &str); 17] = [
     ("data/../a", "P4"),
     ("\0/..", "P4"),
     ("a\0b", "P5"),
+    ("{1024}", ""),
+    ("{1024}a", "P2"),
+    ("{1024}a/../\0", "P2"),
 ];
 
 /// The fault of a text as a path, or the path as it was read.
@@ -260,35 +264,21 @@ fn said_of_path(alloc: Global, text: &str) -> Result<String, AllocError> {
     }
 }
 
-/// Whether the text has that fault as a path, or is one where none is named.
-fn is_path(alloc: Global, text: &str, fault: &str) -> Result<bool, AllocError> {
-    let wanted = if fault.is_empty() { text } else { fault };
-    Ok(said_of_path(alloc, text)?.as_str() == wanted)
+/// Whether the text with the mark has that fault as a path, or is one where none is named.
+fn is_path(alloc: Global, marked: &str, fault: &str) -> Result<bool, AllocError> {
+    let long = "\u{e9}".repeat(alloc, 512)?;
+    let text = marked.replace(alloc, "{1024}", &long)?;
+    let said = said_of_path(alloc, &text)?;
+    if fault.is_empty() {
+        return Ok(said == text);
+    }
+    Ok(said.as_str() == fault)
 }
 
 #[test]
 fn paths(rt: HostRuntime) -> Result<(), AllocError> {
     for (text, fault) in &PATHS {
         holds(&rt, is_path(rt.alloc(), text, fault)?, text);
-    }
-    Ok(())
-}
-
-/// What stands after 1,024 bytes of a path, and the fault then.
-static ENDS: [(&str, &str); 3] = [("", ""), ("a", "P2"), ("a/../\0", "P2")];
-
-/// A path of 1,024 bytes, and its end.
-fn long_path(alloc: Global, end: &str) -> Result<String, AllocError> {
-    let mut path = "\u{e9}".repeat(alloc, 512)?;
-    path.push_str(end)?;
-    Ok(path)
-}
-
-#[test]
-fn paths_have_at_most_1024_bytes(rt: HostRuntime) -> Result<(), AllocError> {
-    for (end, fault) in &ENDS {
-        let path = long_path(rt.alloc(), end)?;
-        holds(&rt, is_path(rt.alloc(), &path, fault)?, end);
     }
     Ok(())
 }

@@ -1,6 +1,6 @@
 //! The calls of `office_core` and `office_rows`: days, limits, names, policies, decisions and verdicts.
 
-use crate::rows::holds;
+use crate::tests::rows::{holds, rows_of};
 use fault_words::InWords;
 use office_core::{
     Accession, Action, Ask, Day, Decision, Due, Effect, FIRST_DAY_NUMBER, Facts, LAST_DAY_NUMBER,
@@ -111,17 +111,12 @@ fn due_days(rt: HostRuntime) -> Result<(), AllocError> {
     Ok(())
 }
 
-/// The number of a due day, if there is one.
-fn number_of(due: Due) -> Option<i32> {
-    match due {
+/// The number of the day from which that deposit is due, if ever.
+fn due_number(closing: &str, years: u8) -> Option<i32> {
+    match due_of(closing, Some(years))? {
         Due::On(date) => Some(date.number()),
         Due::Never => None,
     }
-}
-
-/// The number of the day from which that deposit is due, if ever.
-fn due_number(closing: &str, years: u8) -> Option<i32> {
-    number_of(due_of(closing, Some(years))?)
 }
 
 #[test]
@@ -194,90 +189,76 @@ fn names(rt: HostRuntime) -> Result<(), AllocError> {
     Ok(())
 }
 
-/// Who asks for what, and what a policy decides of it.
-struct Case {
-    caller: &'static str,
-    role: &'static str,
-    action: Action,
-    collection: Option<&'static str>,
-    class: &'static str,
-    /// The place of the rule that decides, from 0, and what it decides.
-    first: Option<usize>,
-    decision: Option<Decision>,
-}
+/// A caller and the role that a policy gives it, what it asks for, the collection and the class; and the
+/// place of the rule that decides, from 0, its number, from 1, and what it decides.
+type Case = (
+    &'static str,
+    &'static str,
+    Action,
+    Option<&'static str>,
+    &'static str,
+    Option<(usize, usize, Effect)>,
+);
 
 static CASES: [Case; 5] = [
-    Case {
-        caller: "anna",
-        role: "archivist",
-        action: Action::Dispose,
-        collection: Some("tax"),
-        class: "y1",
-        first: Some(0),
-        decision: Some(Decision {
-            rule: 1,
-            effect: Effect::Deny,
-        }),
-    },
-    Case {
-        caller: "anna",
-        role: "archivist",
-        action: Action::Dispose,
-        collection: Some("maps"),
-        class: "y1",
-        first: Some(1),
-        decision: Some(Decision {
-            rule: 2,
-            effect: Effect::Allow,
-        }),
-    },
-    Case {
-        caller: "anna",
-        role: "archivist",
-        action: Action::Class,
-        collection: None,
-        class: "y1",
-        first: Some(1),
-        decision: Some(Decision {
-            rule: 2,
-            effect: Effect::Allow,
-        }),
-    },
-    Case {
-        caller: "carl",
-        role: "clerk",
-        action: Action::List,
-        collection: Some("maps"),
-        class: "y10",
-        first: Some(2),
-        decision: Some(Decision {
-            rule: 3,
-            effect: Effect::Allow,
-        }),
-    },
-    Case {
-        caller: "eve",
-        role: "stranger",
-        action: Action::List,
-        collection: Some("maps"),
-        class: "y10",
-        first: None,
-        decision: None,
-    },
+    (
+        "anna",
+        "archivist",
+        Action::Dispose,
+        Some("tax"),
+        "y1",
+        Some((0, 1, Effect::Deny)),
+    ),
+    (
+        "anna",
+        "archivist",
+        Action::Dispose,
+        Some("maps"),
+        "y1",
+        Some((1, 2, Effect::Allow)),
+    ),
+    (
+        "anna",
+        "archivist",
+        Action::Class,
+        None,
+        "y1",
+        Some((1, 2, Effect::Allow)),
+    ),
+    (
+        "carl",
+        "clerk",
+        Action::List,
+        Some("maps"),
+        "y10",
+        Some((2, 3, Effect::Allow)),
+    ),
+    ("eve", "stranger", Action::List, Some("maps"), "y10", None),
 ];
+
+/// Whether the rules decide so.
+fn decides(policy: &Policy, ask: &Ask<'_>, decided: Option<(usize, usize, Effect)>) -> bool {
+    let first = first_match(policy.rules(), ask);
+    let decision = decide(policy.rules(), ask);
+    match decided {
+        Some((place, rule, effect)) => {
+            first == Some(place) && decision == Some(Decision { rule, effect })
+        }
+        None => first.is_none() && decision.is_none(),
+    }
+}
 
 /// Whether the policy gives that role and decides so.
 fn is_decided(policy: &Policy, case: &Case) -> bool {
+    let (caller, role, action, collection, class, decided) = *case;
     let ask = Ask {
-        role: policy.role_of(case.caller),
-        action: case.action,
-        collection: case.collection,
-        class: Some(case.class),
+        role: policy.role_of(caller),
+        action,
+        collection,
+        class: Some(class),
         day: Day::first(),
     };
-    ask.role == case.role
-        && first_match(policy.rules(), &ask) == case.first
-        && decide(policy.rules(), &ask) == case.decision
+    ask.role == role && decides(policy, &ask, decided)
 }
 
 #[test]
@@ -286,7 +267,7 @@ fn decisions(rt: HostRuntime) -> Result<(), Fail> {
     let policy = read_policy(rt.alloc(), &text)?;
     assert!(rt; policy.callers().len() == 2);
     for case in &CASES {
-        holds(&rt, is_decided(&policy, case), case.caller);
+        holds(&rt, is_decided(&policy, case), case.0);
     }
     Ok(())
 }
@@ -392,83 +373,17 @@ fn numbers_of_rules_and_callers(rt: HostRuntime) -> Result<(), AllocError> {
 }
 
 /// What is known of a request: the action, whether a rule allows it, the day of the deposit's
-/// destruction, the least hold, and the day from which it is due, if ever. Then the day of the request,
-/// and the verdict, as `Debug` shows it.
-struct Known {
-    action: Action,
-    is_allowed: bool,
-    gone: &'static str,
-    hold: Option<u32>,
-    due: &'static str,
-    day: &'static str,
-    verdict: &'static str,
-}
-
-static KNOWN: [Known; 7] = [
-    Known {
-        action: Action::Dispose,
-        is_allowed: true,
-        gone: "",
-        hold: None,
-        due: "2025-02-28",
-        day: "2025-02-28",
-        verdict: "Allow",
-    },
-    Known {
-        action: Action::Dispose,
-        is_allowed: true,
-        gone: "",
-        hold: None,
-        due: "2025-02-28",
-        day: "2025-02-27",
-        verdict: "NotDue(2025-02-28)",
-    },
-    Known {
-        action: Action::Dispose,
-        is_allowed: true,
-        gone: "",
-        hold: Some(2),
-        due: "2025-02-28",
-        day: "2025-02-27",
-        verdict: "Held(2)",
-    },
-    Known {
-        action: Action::Dispose,
-        is_allowed: true,
-        gone: "2025-02-27",
-        hold: Some(2),
-        due: "2025-02-28",
-        day: "2025-02-27",
-        verdict: "Gone(2025-02-27)",
-    },
-    Known {
-        action: Action::Dispose,
-        is_allowed: false,
-        gone: "2025-02-27",
-        hold: Some(2),
-        due: "2025-02-28",
-        day: "2025-02-27",
-        verdict: "DeniedByDefault",
-    },
-    Known {
-        action: Action::Dispose,
-        is_allowed: true,
-        gone: "",
-        hold: None,
-        due: "",
-        day: "2025-02-28",
-        verdict: "Permanent",
-    },
-    Known {
-        action: Action::Audit,
-        is_allowed: true,
-        gone: "",
-        hold: Some(2),
-        due: "2025-02-28",
-        day: "2025-02-27",
-        verdict: "Allow",
-    },
-];
+/// destruction, the least hold, the day from which it is due, and the day of the request; and the verdict, as
+/// `Debug` shows it. A line stands for none.
+static KNOWN: &str = "
+dispose allowed - - 2025-02-28 2025-02-28 => Allow
+dispose allowed - - 2025-02-28 2025-02-27 => NotDue(2025-02-28)
+dispose allowed - 2 2025-02-28 2025-02-27 => Held(2)
+dispose allowed 2025-02-27 2 2025-02-28 2025-02-27 => Gone(2025-02-27)
+dispose denied 2025-02-27 2 2025-02-28 2025-02-27 => DeniedByDefault
+dispose allowed - - - 2025-02-28 => Permanent
+audit allowed - 2 2025-02-28 2025-02-27 => Allow
+";
 
 /// The day from which a deposit is due, or never.
 fn due_from(day: &str) -> Due {
@@ -478,35 +393,43 @@ fn due_from(day: &str) -> Due {
     }
 }
 
-/// The verdict on what is known, where its day is one.
-fn verdict_on(known: &Known) -> Option<Verdict> {
+/// The verdict on what the words say, where they are the words of a row.
+fn verdict_on(words: &[&str]) -> Option<Verdict> {
+    let [action, rule, gone, hold, due, day] = words else {
+        return None;
+    };
     let allows = Decision {
         rule: 2,
         effect: Effect::Allow,
     };
     let facts = Facts {
-        action: known.action,
-        decision: if known.is_allowed { Some(allows) } else { None },
-        gone: Day::read(known.gone),
-        hold: known.hold,
-        due: due_from(known.due),
+        action: Action::read(action)?,
+        decision: if *rule == "allowed" {
+            Some(allows)
+        } else {
+            None
+        },
+        gone: Day::read(gone),
+        hold: hold.parse().ok(),
+        due: due_from(due),
     };
-    Some(verdict(&facts, Day::read(known.day)?))
+    Some(verdict(&facts, Day::read(day)?))
 }
 
 /// The verdict in words, or no text.
-fn verdict_words(alloc: Global, known: &Known) -> Result<String, AllocError> {
-    match verdict_on(known) {
+fn verdict_words(alloc: Global, known: &str) -> Result<String, AllocError> {
+    let words: Vec<&str> = known.split(' ').collect(alloc)?;
+    match verdict_on(words.as_slice()) {
         Some(verdict) => format!(in alloc; "{verdict:?}"),
         None => Ok(String::new(alloc)),
     }
 }
 
 #[test]
-fn verdicts(rt: HostRuntime) -> Result<(), AllocError> {
-    for known in &KNOWN {
+fn verdicts(rt: HostRuntime) -> Result<(), Fail> {
+    for (known, verdict) in &rows_of(rt.alloc(), KNOWN, 7)? {
         let said = verdict_words(rt.alloc(), known)?;
-        holds(&rt, said.as_str() == known.verdict, known.verdict);
+        holds(&rt, said.as_str() == *verdict, known);
     }
     assert!(rt; denial_verdict(None) == Some(Verdict::DeniedByDefault));
     Ok(())

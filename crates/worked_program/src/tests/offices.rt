@@ -1,7 +1,7 @@
 //! An office in a file from its first day on, and offices in memory.
 
-use crate::output::Taking;
-use crate::runs::{Given, begin, run_all, run_one, run_with};
+use crate::tests::output::Taking;
+use crate::tests::runs::{Given, begin, run_all, run_one, run_with};
 use std::fs;
 use std::net::{Ipv4Addr, TcpListener};
 use std::test::Fail;

@@ -1,9 +1,10 @@
 //! Texts that stand in many runs, worked out by hand from `docs/HTTP.md`, and their names.
 
+use command_line::VERSION;
 use std::alloc::{AllocError, Global};
 
 /// Each text after its name. It may have names that come after its own.
-static MEANINGS: [(&str, &str); 46] = [
+static MEANINGS: [(&str, &str); 47] = [
     // Two days of an office: classes, collections, three deposits, what a clerk sees of them, what is
     // due, and a class of which the years are cut.
     (
@@ -82,7 +83,7 @@ static MEANINGS: [(&str, &str); 46] = [
     // What standard error is told.
     (
         "~uses~",
-        "Usage: depot check FILE\n       depot pack DIR FILE\n       depot unpack FILE DIR\n       depot explain [--day DAY] POLICY CALLER ACTION COLLECTION CLASS\n       depot policy STORE POLICY\n       depot ask STORE DAY\n       depot replay [--policy POLICY] STORE\n       depot serve --port P --count N STORE DAY\n\nDepot checks and keeps BagIt bags, serves them by a policy, and destroys them when due.\ndepot COMMAND --help says what each command takes.\n",
+        "depot ~version~\nUsage: depot check FILE\n       depot pack DIR FILE\n       depot unpack FILE DIR\n       depot explain [--day DAY] POLICY CALLER ACTION COLLECTION CLASS\n       depot policy STORE POLICY\n       depot ask STORE DAY\n       depot replay [--policy POLICY] STORE\n       depot serve --port P --count N STORE DAY\n\nDepot checks and keeps BagIt bags, serves them by a policy, and destroys them when due.\ndepot COMMAND --help says what each command takes.\n",
     ),
     (
         "~missing~",
@@ -98,6 +99,7 @@ static MEANINGS: [(&str, &str); 46] = [
         "~zip~",
         "~S1~this looks like a zip file; a bag's transfer form is wanted, which depot pack makes of a folder\n",
     ),
+    ("~version~", VERSION),
     (
         "~S1~",
         "this is no transfer form: it does not begin with the line BAGSET 1 (S1)\n",

@@ -1,8 +1,8 @@
 //! What a file system that fails leaves.
 
-use crate::failing::{Failing, Fault};
-use crate::folders::{BAG_FILES, begin, begin_with, compare, finish, is_bag, pack_here};
-use crate::rows::holds;
+use crate::tests::failing::{Failing, Fault};
+use crate::tests::folders::{BAG_FILES, begin, begin_with, compare, finish, is_bag, pack_here};
+use crate::tests::rows::holds;
 use bag_folders::{PackFault, Packed, UnpackFault, Unpacked, pack, unpack};
 use std::fs;
 use std::test::*;

@@ -1,7 +1,7 @@
 //! What is said of a bag that is cut or changed at each of its bytes, and of bags at the limits.
 
-use crate::devices::told;
-use crate::rows::holds;
+use crate::tests::devices::told;
+use crate::tests::rows::holds;
 use commands::{Ending, check_outcome};
 use std::alloc::{AllocError, Global};
 use std::test::*;
@@ -148,7 +148,7 @@ static BEHIND: [(&str, &str); 4] = [
 ];
 
 /// Whether this line is said where that stands after two thousand files.
-fn says_behind(rt: &HostRuntime, rest: &str, line: &str) -> Result<bool, AllocError> {
+fn says_after(rt: &HostRuntime, rest: &str, line: &str) -> Result<bool, AllocError> {
     let mut form = many_files(rt.alloc(), 2000)?;
     form.extend_from_slice(rest.as_bytes())?;
     says(rt, form.as_slice(), line)
@@ -184,7 +184,7 @@ fn reads_longest_path(rt: &HostRuntime) -> Result<bool, AllocError> {
 #[test]
 fn two_thousand_files_and_one_more(rt: HostRuntime) -> Result<(), Fail> {
     for (rest, line) in &BEHIND {
-        holds(&rt, says_behind(&rt, rest, line)?, rest);
+        holds(&rt, says_after(&rt, rest, line)?, rest);
     }
     let reason = "the form has more files than the 2,000 that a bag may have (S6)\n";
     assert!(rt; tells_of_one_more(&rt, reason)?);

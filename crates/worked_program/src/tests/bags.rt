@@ -1,10 +1,10 @@
 //! What `check` says of small bags from standard input, and of texts that are no form; and of bags at
 //! the limits, from a stream and from a file.
 
-use crate::codes::{DECLARATIONS, ENTRIES, INFOS, MANIFESTS, PAYLOADS};
-use crate::output::Taking;
-use crate::rows::prints;
-use crate::runs::{Came, Given, came_of};
+use crate::tests::codes::{DECLARATIONS, ENTRIES, INFOS, MANIFESTS, PAYLOADS};
+use crate::tests::output::Taking;
+use crate::tests::rows::prints;
+use crate::tests::runs::{Came, Given, came_of};
 use commands::Ending;
 use std::alloc::Global;
 use std::fs;

@@ -1,8 +1,8 @@
 //! Forms and policies that come from readers: whole, longer than a form, refused, and cut by a reader
 //! that fails.
 
-use crate::devices::{Given, told};
-use crate::rows::holds;
+use crate::tests::devices::{Given, told};
+use crate::tests::rows::holds;
 use commands::{
     Asked, Ending, Outcome, Trouble, explain_outcome, explain_policy, judge, read_policy_from,
 };
@@ -176,10 +176,15 @@ fn question_of_a_stranger<'a>() -> Asked<'a> {
     }
 }
 
+/// What comes of a question to a policy, a text with marks.
+fn outcome_of(alloc: Global, policy: &str, asked: &Asked<'_>) -> Result<Outcome, AllocError> {
+    let policy = bytes_of(alloc, policy)?;
+    explain_outcome(alloc, policy.as_slice(), asked)
+}
+
 #[test]
-fn a_decision_by_its_call(rt: HostRuntime) -> Result<(), Fail> {
-    let policy = bytes_of(rt.alloc(), "{strangers}")?;
-    let outcome = explain_outcome(rt.alloc(), policy.as_slice(), &question_of_a_stranger())?;
+fn a_decision_by_its_call(rt: HostRuntime) -> Result<(), AllocError> {
+    let outcome = outcome_of(rt.alloc(), "{strangers}", &question_of_a_stranger())?;
     assert!(rt; is_done(&outcome, "allow rule 2\n"));
     Ok(())
 }
@@ -211,8 +216,7 @@ static DAYS: [(&str, &str, &str); 7] = [
 /// is missing.
 fn is_answered_on(alloc: Global, row: &(&str, &str, &str)) -> Result<bool, AllocError> {
     let (policy, day, line) = *row;
-    let policy = bytes_of(alloc, policy)?;
-    let outcome = explain_outcome(alloc, policy.as_slice(), &question_on(day))?;
+    let outcome = outcome_of(alloc, policy, &question_on(day))?;
     if line.is_empty() {
         let is_told = told(&outcome) == text_of(alloc, "{no-day}")?.as_str();
         return Ok(is_told && outcome.text.is_empty() && outcome.ending == Ending::Misused);

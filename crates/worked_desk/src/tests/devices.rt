@@ -1,57 +1,50 @@
-//! The calls of `desk_devices`: heads, what follows them, and writes, at devices that fail.
+//! The calls of `desk_devices` and of `desk_heads` on a device: heads, what follows them, and writes, at devices that fail.
 
-use desk_devices::{
-    Counted, FailAt, FillFault, HeadFault, HeadPlace, Portion, WriteFailed, fill, place_of_head,
-    read_head, write_whole,
-};
-use std::alloc::Global;
+use crate::tests::rows::holds;
+use desk_devices::{Counted, FailAt, FillFault, Portion, WriteFailed, fill, write_whole};
+use desk_heads::{HeadFault, HeadPlace, place_of_head, read_head};
+use std::alloc::{AllocError, Global};
 use std::io::{Error, ErrorKind, Read, Write};
 use std::test::*;
 
-static PLACES: [(&str, HeadPlace); 12] = [
-    (
-        "GET / HTTP/1.1\r\nDepot-Caller: anna\r\n\r\n",
-        HeadPlace::Found(38),
-    ),
-    ("GET / HTTP/1.1\n\nbody", HeadPlace::Found(16)),
-    ("\n\n", HeadPlace::Found(2)),
-    ("\r\n\r\n", HeadPlace::Found(4)),
-    ("a\n\r\nb\n\n", HeadPlace::Found(4)),
-    ("a\r\n\n", HeadPlace::Found(4)),
-    ("", HeadPlace::Short),
-    ("\n", HeadPlace::Short),
-    ("a\r\n\r", HeadPlace::Short),
-    ("a\n\r\r\n", HeadPlace::Short),
-    ("a\n \n", HeadPlace::Short),
-    ("\r\r\r", HeadPlace::Short),
+/// Bytes that have a head, and where it ends.
+static HEADS: [(&str, usize); 6] = [
+    ("GET / HTTP/1.1\r\nDepot-Caller: anna\r\n\r\n", 38),
+    ("GET / HTTP/1.1\n\nbody", 16),
+    ("\n\n", 2),
+    ("\r\n\r\n", 4),
+    ("a\n\r\nb\n\n", 4),
+    ("a\r\n\n", 4),
 ];
+
+/// Bytes that have none yet.
+static SHORT: [&str; 6] = ["", "\n", "a\r\n\r", "a\n\r\r\n", "a\n \n", "\r\r\r"];
 
 #[test]
 fn places_of_heads(rt: HostRuntime) {
-    for (text, place) in &PLACES {
-        assert_eq!(rt; place_of_head(text.as_bytes()), *place, "of {text:?}");
+    for (text, end) in &HEADS {
+        let place = place_of_head(text.as_bytes());
+        holds(&rt, place == HeadPlace::Found(*end), text);
+    }
+    for text in &SHORT {
+        holds(
+            &rt,
+            place_of_head(text.as_bytes()) == HeadPlace::Short,
+            text,
+        );
     }
 }
 
-/// So many letters, and then two line feeds and a letter.
-fn long_head(alloc: Global, letters: usize) -> Result<Vec<u8>, Fail> {
-    let mut bytes = vec![in alloc; b'a'; letters]?;
-    bytes.extend_from_slice(b"\n\nb")?;
-    Ok(bytes)
-}
-
-#[test]
-fn letters_without_a_head(rt: HostRuntime) -> Result<(), Fail> {
-    for (letters, place) in [
-        (8_191, HeadPlace::Short),
-        (8_192, HeadPlace::TooLarge),
-        (8_193, HeadPlace::TooLarge),
-    ] {
-        let bytes = vec![in rt.alloc(); b'a'; letters]?;
-        assert_eq!(rt; place_of_head(&bytes), place, "of {letters}");
-    }
-    Ok(())
-}
+/// So many letters `a`, what follows them, and where the head of these bytes ends.
+static LONG: [(usize, &str, HeadPlace); 7] = [
+    (8_191, "", HeadPlace::Short),
+    (8_192, "", HeadPlace::TooLarge),
+    (8_193, "", HeadPlace::TooLarge),
+    (8_189, "\n\nb", HeadPlace::Found(8_191)),
+    (8_190, "\n\nb", HeadPlace::Found(8_192)),
+    (8_191, "\n\nb", HeadPlace::TooLarge),
+    (8_192, "\n\nb", HeadPlace::TooLarge),
+];
 
 /// Where the head ends that is read of the bytes.
 fn read_place(alloc: Global, bytes: &[u8]) -> HeadPlace {
@@ -63,17 +56,24 @@ fn read_place(alloc: Global, bytes: &[u8]) -> HeadPlace {
     }
 }
 
+/// Whether the head of the letters and their end has that place, and where it is read, too.
+fn is_placed(
+    alloc: Global,
+    letters: usize,
+    end: &str,
+    place: HeadPlace,
+) -> Result<bool, AllocError> {
+    let mut text = "a".repeat(alloc, letters)?;
+    text.push_str(end)?;
+    let bytes = text.as_bytes();
+    Ok(place_of_head(bytes) == place && read_place(alloc, bytes) == place)
+}
+
 #[test]
-fn heads_of_8192_bytes(rt: HostRuntime) -> Result<(), Fail> {
-    for (letters, place) in [
-        (8_189, HeadPlace::Found(8_191)),
-        (8_190, HeadPlace::Found(8_192)),
-        (8_191, HeadPlace::TooLarge),
-        (8_192, HeadPlace::TooLarge),
-    ] {
-        let bytes = long_head(rt.alloc(), letters)?;
-        assert_eq!(rt; place_of_head(&bytes), place, "of {letters}");
-        assert_eq!(rt; read_place(rt.alloc(), &bytes), place, "read of {letters}");
+fn heads_of_8192_bytes(rt: HostRuntime) -> Result<(), AllocError> {
+    for (letters, end, place) in &LONG {
+        let is_so = is_placed(rt.alloc(), *letters, end, *place)?;
+        assert!(rt; is_so, "{letters} letters");
     }
     Ok(())
 }
@@ -128,17 +128,20 @@ fn fill_at(
     Ok((result, bytes, reader.failures()))
 }
 
+/// How a device gives bytes, for how many calls it works and how many bytes are wanted; and then the
+/// answer, the bytes, and how many calls failed.
+static FILLED: [(Portion, u64, usize, Result<(), FillFault>, &str, u64); 6] = [
+    (Portion::OneByte, 0, 2, Ok(()), "a\n", 0),
+    (Portion::OneByte, 3, 5, Ok(()), "a\nbod", 0),
+    (Portion::OneByte, 2, 5, Err(FillFault::Read), "a\nbo", 1),
+    (Portion::All, 1, 5, Ok(()), "a\nbody", 0),
+    (Portion::All, 1, 7, Err(FillFault::Read), "a\nbody", 1),
+    (Portion::All, 2, 7, Err(FillFault::Truncated), "a\nbody", 0),
+];
+
 #[test]
 fn bytes_behind_a_head(rt: HostRuntime) -> Result<(), Fail> {
-    let rows = [
-        (Portion::OneByte, 0, 2, Ok(()), "a\n", 0),
-        (Portion::OneByte, 3, 5, Ok(()), "a\nbod", 0),
-        (Portion::OneByte, 2, 5, Err(FillFault::Read), "a\nbo", 1),
-        (Portion::All, 1, 5, Ok(()), "a\nbody", 0),
-        (Portion::All, 1, 7, Err(FillFault::Read), "a\nbody", 1),
-        (Portion::All, 2, 7, Err(FillFault::Truncated), "a\nbody", 0),
-    ];
-    for (portion, calls, want, answer, text, failures) in &rows {
+    for (portion, calls, want, answer, text, failures) in &FILLED {
         let (result, bytes, failed) = fill_at(rt.alloc(), *portion, *calls, *want)?;
         assert!(rt; result == *answer);
         assert!(rt; bytes.as_slice() == text.as_bytes());
@@ -147,22 +150,30 @@ fn bytes_behind_a_head(rt: HostRuntime) -> Result<(), Fail> {
     Ok(())
 }
 
+/// How a device takes bytes, and for how many calls it works; and then the answer to a write of `body`,
+/// the bytes that are written, and how many calls failed.
+static WRITTEN: [(Portion, u64, Result<(), WriteFailed>, &str, u64); 4] = [
+    (Portion::OneByte, 4, Ok(()), "body", 0),
+    (Portion::OneByte, 3, Err(WriteFailed), "bod", 1),
+    (Portion::All, 1, Ok(()), "body", 0),
+    (Portion::All, 0, Err(WriteFailed), "", 1),
+];
+
+/// Whether that comes of a write of `body` to such a device.
+fn is_written(alloc: Global, row: &(Portion, u64, Result<(), WriteFailed>, &str, u64)) -> bool {
+    let (portion, calls, answer, text, failures) = *row;
+    let memory: Vec<u8> = Vec::new(alloc);
+    let mut writer = Counted::new(FailAt::new(memory, portion, calls));
+    write_whole(&mut writer, b"body") == answer
+        && writer.device().memory.as_slice() == text.as_bytes()
+        && writer.failures() == failures
+}
+
 #[test]
-fn bytes_written_whole(rt: HostRuntime) -> Result<(), Fail> {
-    let rows = [
-        (Portion::OneByte, 4, Ok(()), "body", 0),
-        (Portion::OneByte, 3, Err(WriteFailed), "bod", 1),
-        (Portion::All, 1, Ok(()), "body", 0),
-        (Portion::All, 0, Err(WriteFailed), "", 1),
-    ];
-    for (portion, calls, answer, text, failures) in &rows {
-        let memory: Vec<u8> = Vec::new(rt.alloc());
-        let mut writer = Counted::new(FailAt::new(memory, *portion, *calls));
-        assert!(rt; write_whole(&mut writer, b"body") == *answer);
-        assert!(rt; writer.device().memory.as_slice() == text.as_bytes());
-        assert!(rt; writer.failures() == *failures);
+fn bytes_written_whole(rt: HostRuntime) {
+    for row in &WRITTEN {
+        holds(&rt, is_written(rt.alloc(), row), row.3);
     }
-    Ok(())
 }
 
 /// The kind of an error, where there is one.
