@@ -10,7 +10,7 @@ use Rattle.std.proofs.lemmas.List.Sums.{prefix_len-le-length}
 use Rattle.std.proofs.lemmas.Option.{same_Some}
 use Rattle.bag_text.specs.Text.{is_blank, AreBlanks}
 use Rattle.bag_check.specs.Validity.{number_from, IsNumber, NamesCounts}
-use Rattle.bag_check.specs.OxumReading.{digit_len, digits_in, behind_digits, number_of, behind_stop, last_number, with_files, with_rest, with_bytes, counts_of}
+use Rattle.bag_check.specs.OxumReading.{digit_len, digits_in, behind_digits, number_spelled, behind_stop, last_number, with_files, with_rest, with_bytes, counts_of}
 use Rattle.bag_check.proofs.OxumLemmas.{Stops, same_run, blanks_stop}
 
 -- ---- the digits at the front
@@ -52,7 +52,7 @@ abbrev is_short : List ℕ → Bool
 is_short digits = nat_le 1 (length digits) && nat_le (length digits) 20
 
 -- digits that are read spell that number
-number_is : (digits : List ℕ) (n : ℕ) → list_all is_ascii_digit digits ≡ true → number_of digits ≡ Some n → IsNumber digits n
+number_is : (digits : List ℕ) (n : ℕ) → list_all is_ascii_digit digits ≡ true → number_spelled digits ≡ Some n → IsNumber digits n
 number_is digits n all e = by_test (is_short digits) refl e
   where
     by_test : (x : Bool) → is_short digits ≡ x → cond x (Some (number_from 0 digits)) None ≡ Some n → IsNumber digits n
@@ -62,7 +62,7 @@ number_is digits n all e = by_test (is_short digits) refl e
     by_test false is e = absurd cc
 
 -- digits that spell a number are read so
-number_again : (digits : List ℕ) (n : ℕ) → IsNumber digits n → number_of digits ≡ Some n
+number_again : (digits : List ℕ) (n : ℕ) → IsNumber digits n → number_spelled digits ≡ Some n
 number_again digits n is =
     let one : 1 ≤ length digits = is.some in
     let most : length digits ≤ 20 = is.few in
@@ -82,10 +82,10 @@ stop_is (b ∷ t) rest e = by_test (eqb b 46) refl e
     by_test false is e = absurd cc
 
 -- a number at the end has only blanks after it
-last_is : (t : List ℕ) (n : ℕ) → last_number t ≡ Some n → AreBlanks (behind_digits t) × (number_of (digits_in t) ≡ Some n)
+last_is : (t : List ℕ) (n : ℕ) → last_number t ≡ Some n → AreBlanks (behind_digits t) × (number_spelled (digits_in t) ≡ Some n)
 last_is t n e = by_test (list_all is_blank (behind_digits t)) refl e
   where
-    by_test : (x : Bool) → list_all is_blank (behind_digits t) ≡ x → cond x (number_of (digits_in t)) None ≡ Some n → AreBlanks (behind_digits t) × (number_of (digits_in t) ≡ Some n)
+    by_test : (x : Bool) → list_all is_blank (behind_digits t) ≡ x → cond x (number_spelled (digits_in t)) None ≡ Some n → AreBlanks (behind_digits t) × (number_spelled (digits_in t) ≡ Some n)
     by_test true is e = (is, e)
     by_test false is e = absurd cc
 
@@ -98,9 +98,9 @@ with_files_is bytes b f (Some files) e =
 
 -- a value of which counts are read names them
 pub counts_is : (value : List ℕ) (b f : ℕ) → counts_of value ≡ Some (b, f) → NamesCounts value b f
-counts_is value b f e = by_bytes (number_of (digits_in value)) refl e
+counts_is value b f e = by_bytes (number_spelled (digits_in value)) refl e
   where
-    by_rest : (bytes : ℕ) → number_of (digits_in value) ≡ Some bytes → (o : Option (List ℕ)) → behind_stop (behind_digits value) ≡ o → with_rest bytes o ≡ Some (b, f) → NamesCounts value b f
+    by_rest : (bytes : ℕ) → number_spelled (digits_in value) ≡ Some bytes → (o : Option (List ℕ)) → behind_stop (behind_digits value) ≡ o → with_rest bytes o ≡ Some (b, f) → NamesCounts value b f
     by_rest bytes first None stop e = absurd cc
     by_rest bytes first (Some rest) stop e =
         let both = with_files_is bytes b f (last_number rest) e in
@@ -115,7 +115,7 @@ counts_is value b f e = by_bytes (number_of (digits_in value)) refl e
           number_is (digits_in rest) f (digits_all rest) last.1,
         )
 
-    by_bytes : (o : Option ℕ) → number_of (digits_in value) ≡ o → with_bytes o (behind_stop (behind_digits value)) ≡ Some (b, f) → NamesCounts value b f
+    by_bytes : (o : Option ℕ) → number_spelled (digits_in value) ≡ o → with_bytes o (behind_stop (behind_digits value)) ≡ Some (b, f) → NamesCounts value b f
     by_bytes None first e = absurd cc
     by_bytes (Some bytes) first e = by_rest bytes first (behind_stop (behind_digits value)) refl e
 
@@ -125,8 +125,8 @@ counts_again value b f (first, second, after, is, blanks, bytes, files) =
     let whole : value ≡ first ++ (46 ∷ (second ++ after)) = is ∙ append_assoc first (46 ∷ second) after in
     let one = run_found value first (46 ∷ (second ++ after)) whole bytes.all refl in
     let two = run_found (second ++ after) second after refl files.all (blanks_stop after blanks) in
-    let number : number_of (digits_in value) ≡ Some b = ap number_of one.0 ∙ number_again first b bytes in
+    let number : number_spelled (digits_in value) ≡ Some b = ap number_spelled one.0 ∙ number_again first b bytes in
     let rest : behind_stop (behind_digits value) ≡ Some (second ++ after) = ap behind_stop one.1 in
     let only : list_all is_blank (behind_digits (second ++ after)) ≡ true = ap (list_all is_blank) two.1 ∙ blanks in
-    let last : last_number (second ++ after) ≡ Some f = ap (λ (x : Bool). cond x (number_of (digits_in (second ++ after))) None) only ∙ ap number_of two.0 ∙ number_again second f files in
+    let last : last_number (second ++ after) ≡ Some f = ap (λ (x : Bool). cond x (number_spelled (digits_in (second ++ after))) None) only ∙ ap number_spelled two.0 ∙ number_again second f files in
     ap (λ (o : Option ℕ). with_bytes o (behind_stop (behind_digits value))) number ∙ ap (with_rest b) rest ∙ ap (with_files b) last

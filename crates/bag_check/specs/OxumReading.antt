@@ -16,8 +16,8 @@ abbrev pub behind_digits : List ℕ → List ℕ
 behind_digits t = drop (digit_len t) t
 
 -- the number that 1 to 20 digits spell
-abbrev pub number_of : List ℕ → Option ℕ
-number_of digits = if nat_le 1 (length digits) && nat_le (length digits) 20 then Some (number_from 0 digits) else None
+abbrev pub number_spelled : List ℕ → Option ℕ
+number_spelled digits = if nat_le 1 (length digits) && nat_le (length digits) 20 then Some (number_from 0 digits) else None
 
 -- what stands after a full stop
 abbrev pub behind_stop : List ℕ → Option (List ℕ)
@@ -26,7 +26,7 @@ behind_stop (b ∷ t) = if b == 46 then Some t else None
 
 -- a number with nothing but blanks after it
 abbrev pub last_number : List ℕ → Option ℕ
-last_number t = if list_all is_blank (behind_digits t) then number_of (digits_in t) else None
+last_number t = if list_all is_blank (behind_digits t) then number_spelled (digits_in t) else None
 
 abbrev pub with_files : ℕ → Option ℕ → Option (ℕ × ℕ)
 with_files bytes None = None
@@ -42,4 +42,4 @@ with_bytes (Some bytes) rest = with_rest bytes rest
 
 -- the bytes and the files that a value names
 abbrev pub counts_of : List ℕ → Option (ℕ × ℕ)
-counts_of value = with_bytes (number_of (digits_in value)) (behind_stop (behind_digits value))
+counts_of value = with_bytes (number_spelled (digits_in value)) (behind_stop (behind_digits value))

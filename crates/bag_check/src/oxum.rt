@@ -6,7 +6,7 @@ ghost use Rattle.std.specs.List.{list_all};
 ghost use Rattle.std.specs.Char.{is_ascii_digit};
 ghost use Rattle.bag_text.specs.Text.{is_blank};
 ghost use Rattle.bag_check.specs.Validity.{number_from};
-ghost use Rattle.bag_check.specs.OxumReading.{digit_len, digits_in, behind_digits, number_of, behind_stop, last_number, counts_of};
+ghost use Rattle.bag_check.specs.OxumReading.{digit_len, digits_in, behind_digits, number_spelled, behind_stop, last_number, counts_of};
 ghost use Rattle.bag_check.specs.Answers.{counts_seen};
 
 /// The most digits of a number.
@@ -53,7 +53,7 @@ fn number(digits: &[u8]) -> u128
 /// The number that 1 to 20 digits spell.
 fn read_number(digits: &[u8]) -> Option<u128>
     requires { list_all is_ascii_digit digits.now ≡ true }
-    ensures { result ≡ number_of digits.now }
+    ensures { result ≡ number_spelled digits.now }
 {
     if digits.is_empty() || digits.len() > MAX_DIGITS {
         return None;
@@ -63,7 +63,7 @@ fn read_number(digits: &[u8]) -> Option<u128>
 
 /// The number at the front, and what stands after its digits.
 fn split_number(text: &[u8]) -> (Option<u128>, &[u8])
-    ensures number { result.0 ≡ number_of (digits_in text.now) }
+    ensures number { result.0 ≡ number_spelled (digits_in text.now) }
     ensures rest { result.1.now ≡ behind_digits text.now }
 {
     let (digits, rest) = split_digits(text);

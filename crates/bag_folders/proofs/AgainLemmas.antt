@@ -12,7 +12,7 @@ use Rattle.bag_text.specs.Paths.{comes_before}
 use Rattle.bag_text.specs.TransferForm.{Ascends, File, IsBag}
 use Rattle.bag_text.proofs.OrderLemmas.{after, before_chain, less, path_cmp}
 use Rattle.bag_folders.specs.declared.listed.Listed.{Listed}
-use Rattle.bag_folders.specs.Packing.{AreFilesOf, AreInOrder}
+use Rattle.bag_folders.specs.Packing.{AreFilesOf, AreInPathOrder}
 use Rattle.bag_folders.specs.Unpacking.{AreFoundAgain, file_outline, listed_outline}
 use Rattle.bag_folders.proofs.OrderLemmas.{by_path}
 
@@ -198,7 +198,7 @@ files_from (l ∷ ls) (f ∷ fs) e =
     let head : file_outline f ≡ listed_outline l = ap (λ (xs : List Outline). get_or xs 0 (file_outline f)) e in
     (ap (λ (z : Outline). z.0) head, ap (λ (z : Outline). z.1) head, files_from ls fs (ap (drop 1) e))
 
-pub found_again : (files : List File) (found listed : List Listed) → IsBag files → AreFoundAgain files found → AreInOrder found listed → AreFilesOf listed files
+pub found_again : (files : List File) (found listed : List Listed) → IsBag files → AreFoundAgain files found → AreInPathOrder found listed → AreFilesOf listed files
 found_again files found listed bag again put =
     let moved = IsPermutation-trans (map file_outline files) (map listed_outline found) (map listed_outline listed) again (IsPermutation-map listed_outline found listed put.same) in
     let strict = (strict_files [] files bag.ascending).1 in

@@ -7,12 +7,12 @@ use Rattle.std.specs.List.{cons_option, list_any}
 use Rattle.std.specs.Borrow.{Bor}
 use Rattle.bag_check.specs.Contents.{declaration_path, is_payload}
 use Rattle.bag_text.specs.TransferReading.{files_of}
-use Rattle.bag_folders.specs.Packing.{paths_of}
+use Rattle.bag_folders.specs.Packing.{paths_found}
 use Rattle.bag_folders.specs.Unpacking.{folder_of, folders_of, needs_data}
 
 -- a test of the paths of files that are lent
 pub any_path : (test : List ℕ → Bool) (files : List (Bor (List ℕ) × Bor (List ℕ)))
-    → list_any test (paths_of (files_of files)) ≡ list_any (λ (file : Bor (List ℕ) × Bor (List ℕ)). test file.0.now) files
+    → list_any test (paths_found (files_of files)) ≡ list_any (λ (file : Bor (List ℕ) × Bor (List ℕ)). test file.0.now) files
 any_path test [] = refl
 any_path test (file ∷ files) = ap (λ (b : Bool). test file.0.now || b) (any_path test files)
 
@@ -47,7 +47,7 @@ folder_found text (Some x) found =
 
 -- the folders in which they stand
 pub folders_seen : (files : List (Bor (List ℕ) × Bor (List ℕ)))
-    → filter_map (λ (file : Bor (List ℕ) × Bor (List ℕ)). folder_of file.0.now) files ≡ filter_map folder_of (paths_of (files_of files))
+    → filter_map (λ (file : Bor (List ℕ) × Bor (List ℕ)). folder_of file.0.now) files ≡ filter_map folder_of (paths_found (files_of files))
 folders_seen [] = refl
 folders_seen (file ∷ files) = ap (cons_option (folder_of file.0.now)) (folders_seen files)
 
@@ -55,19 +55,19 @@ folders_seen (file ∷ files) = ap (cons_option (folder_of file.0.now)) (folders
 pub needs_from : (files : List (Bor (List ℕ) × Bor (List ℕ))) (declared payload result : Bool)
     → declared ≡ list_any (λ (file : Bor (List ℕ) × Bor (List ℕ)). bytes_eq file.0.now declaration_path) files
     → payload ≡ list_any (λ (file : Bor (List ℕ) × Bor (List ℕ)). is_payload file.0.now) files
-    → result ≡ (declared && not payload) → result ≡ needs_data (paths_of (files_of files))
+    → result ≡ (declared && not payload) → result ≡ needs_data (paths_found (files_of files))
 needs_from files declared payload result is_declared has_payload is =
     is ∙ ap₂ (λ (a b : Bool). a && not b) (is_declared ∙ sym (any_path (λ path. bytes_eq path declaration_path) files)) (has_payload ∙ sym (any_path is_payload files))
 
 pub needs_none : (files : List (Bor (List ℕ) × Bor (List ℕ))) (declared : Bool) → declared ≡ list_any (λ (file : Bor (List ℕ) × Bor (List ℕ)). bytes_eq file.0.now declaration_path) files
-    → declared ≡ false → declared ≡ needs_data (paths_of (files_of files))
+    → declared ≡ false → declared ≡ needs_data (paths_found (files_of files))
 needs_none files declared is none =
     let payload : Bool = list_any (λ (file : Bor (List ℕ) × Bor (List ℕ)). is_payload file.0.now) files in
     needs_from files declared payload declared is refl (none ∙ sym (ap (λ (b : Bool). b && not payload) none))
 
 -- the folders that are needed, and `data`
-pub all_folders : (files : List (Bor (List ℕ) × Bor (List ℕ))) (needed all : List (List ℕ)) (needs : Bool) → needs ≡ needs_data (paths_of (files_of files))
+pub all_folders : (files : List (Bor (List ℕ) × Bor (List ℕ))) (needed all : List (List ℕ)) (needs : Bool) → needs ≡ needs_data (paths_found (files_of files))
     → needed ≡ filter_map (λ (file : Bor (List ℕ) × Bor (List ℕ)). folder_of file.0.now) files → all ≡ needed ++ cond needs (codes "data" ∷ []) []
-    → all ≡ folders_of (paths_of (files_of files))
+    → all ≡ folders_of (paths_found (files_of files))
 all_folders files needed all needs is_needed are is =
     is ∙ ap₂ (λ (fs : List (List ℕ)) (b : Bool). fs ++ cond b (codes "data" ∷ []) []) (are ∙ folders_seen files) is_needed

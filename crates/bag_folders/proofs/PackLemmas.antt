@@ -11,7 +11,7 @@ use Rattle.bag_folders.specs.declared.listed.Listed.{Listed}
 use Rattle.bag_folders.specs.declared.packing.Packed.{Packed}
 use Rattle.bag_folders.specs.declared.pack_fault.PackFault.{PackFault}
 use Rattle.bag_folders.specs.declared.pack_fault.PackFault.TheVariants.{Name, Set, Size, Device, Memory}
-use Rattle.bag_folders.specs.Packing.{AreFilesOf, AllFilesOf, AreInOrder, HasNoForm, HasNoFormOf, IsFoundUnder, IsPacked, IsPackedOf, IsRefused, IsRefusedOf, IsRefusedUnder, MayBeRefused, pack_failed}
+use Rattle.bag_folders.specs.Packing.{AreFilesOf, AllFilesOf, AreInPathOrder, HasNoForm, HasNoFormOf, IsFoundUnder, IsPacked, IsPackedOf, IsUnpackable, IsRefusedOf, IsRefusedUnder, MayBeRefused, pack_failed}
 use Rattle.bag_folders.proofs.LoadLemmas.{same_count}
 
 -- ---- files that could be the ones that are listed
@@ -26,7 +26,7 @@ some_files (l ∷ ls) = (refl, length-replicate l.size 0, some_files ls)
 
 -- ---- what is refused
 
-pub plan_refused : (found : Found) (listed : List Listed) (fault : PackFault) → found.odd ≡ None → AreInOrder found.files.items listed → AllFilesOf listed (λ files. HasNoForm files fault) → IsRefused found fault
+pub plan_refused : (found : Found) (listed : List Listed) (fault : PackFault) → found.odd ≡ None → AreInPathOrder found.files.items listed → AllFilesOf listed (λ files. HasNoForm files fault) → IsUnpackable found fault
 plan_refused found listed (Name path) odd order none = absurd (none (map filled listed) (some_files listed))
 plan_refused found listed (Set fault path) odd order none = (odd, (listed, order, none))
 plan_refused found listed Size odd order none = (odd, (listed, order, none))
@@ -59,16 +59,16 @@ refused_under lists found Size under h = (found, under, h)
 refused_under lists found (Device trouble) under h = tt
 refused_under lists found Memory under h = tt
 
-pub plan_under : (lists : List ℕ → List Entry → Type 0) (found : Found) (fault : PackFault) → IsFoundUnder lists found → IsRefused found fault → IsRefusedUnder lists fault
+pub plan_under : (lists : List ℕ → List Entry → Type 0) (found : Found) (fault : PackFault) → IsFoundUnder lists found → IsUnpackable found fault → IsRefusedUnder lists fault
 plan_under lists found fault under h = refused_under lists found fault under (inl h)
 
-pub form_under : (lists : List ℕ → List Entry → Type 0) (found : Found) (listed : List Listed) (fault : PackFault) → IsFoundUnder lists found → (found.odd ≡ None) × AreInOrder found.files.items listed → HasNoFormOf listed fault
+pub form_under : (lists : List ℕ → List Entry → Type 0) (found : Found) (listed : List Listed) (fault : PackFault) → IsFoundUnder lists found → (found.odd ≡ None) × AreInPathOrder found.files.items listed → HasNoFormOf listed fault
     → IsRefusedUnder lists fault
 form_under lists found listed fault under order h = refused_under lists found fault under (inr (listed, order.0, order.1, h))
 
 -- ---- what is packed
 
-pub is_packed_of : (found : Found) (packed : Packed) (listed : List Listed) (text : List ℕ) → (found.odd ≡ None) × AreInOrder found.files.items listed → packed.files ≡ length listed → packed.bytes ≡ length text
+pub is_packed_of : (found : Found) (packed : Packed) (listed : List Listed) (text : List ℕ) → (found.odd ≡ None) × AreInPathOrder found.files.items listed → packed.files ≡ length listed → packed.bytes ≡ length text
     → (files : List File) × AreFilesOf listed files × IsFormOf files text → IsPackedOf found packed
 is_packed_of found packed listed text order count bytes h = record {
   listed = listed;

@@ -17,7 +17,7 @@ use Rattle.bag_text.proofs.ListLemmas.{judged, list_fault_law, list_bag_law, som
 use Rattle.bag_folders.specs.declared.listed.Listed.{Listed}
 use Rattle.bag_folders.specs.declared.pack_fault.PackFault.{PackFault}
 use Rattle.bag_folders.specs.declared.pack_fault.PackFault.TheVariants as packing
-use Rattle.bag_folders.specs.Packing.{AreFilesOf, HasNoForm, IsNamedAs, listed_paths, path_at_fault, paths_of}
+use Rattle.bag_folders.specs.Packing.{AreFilesOf, HasNoForm, IsNamedAs, listed_paths, path_at_fault, paths_found}
 use Rattle.bag_folders.specs.Sizes.{IsFaultFound, emptied, is_too_long, with_long}
 
 -- ---- one file
@@ -228,20 +228,20 @@ judged_fault X files TrailingBytes j out = (list_fault_law files TrailingBytes).
 
 -- the list's fault, as it is named, is why there is no form
 pub no_form : (files : List File) (fault : SetFault) (path : Option (List ℕ)) (named : PackFault) → (fault ≢ Memory → ListFault files fault)
-    → path ≡ path_at_fault fault (paths_of files) → IsNamedAs fault path named → HasNoForm files named
+    → path ≡ path_at_fault fault (paths_found files) → IsNamedAs fault path named → HasNoForm files named
 no_form files fault path (packing.Name other) stands at is = absurd is
 no_form files fault path (packing.Set found own) stands at is =
-    (subst (λ (f : SetFault). ListFault files f) (sym is.0) (stands is.1), is.2 ∙ at ∙ ap (λ (f : SetFault). path_at_fault f (paths_of files)) (sym is.0))
+    (subst (λ (f : SetFault). ListFault files f) (sym is.0) (stands is.1), is.2 ∙ at ∙ ap (λ (f : SetFault). path_at_fault f (paths_found files)) (sym is.0))
 no_form files fault path packing.Size stands at is = absurd is
 no_form files fault path (packing.Device trouble) stands at is = absurd is
 no_form files fault path packing.Memory stands at is = tt
 
 -- the paths of files that are lent
-pub lent_paths : (files : List (Bor (List ℕ) × Bor (List ℕ))) → map (λ (file : Bor (List ℕ) × Bor (List ℕ)). file.0.now) files ≡ paths_of (files_of files)
+pub lent_paths : (files : List (Bor (List ℕ) × Bor (List ℕ))) → map (λ (file : Bor (List ℕ) × Bor (List ℕ)). file.0.now) files ≡ paths_found (files_of files)
 lent_paths [] = refl
 lent_paths (file ∷ files) = ap (λ (ps : List (List ℕ)). file.0.now ∷ ps) (lent_paths files)
 
-same_paths : (ls : List Listed) (fs : List File) → AreFilesOf ls fs → listed_paths ls ≡ paths_of fs
+same_paths : (ls : List Listed) (fs : List File) → AreFilesOf ls fs → listed_paths ls ≡ paths_found fs
 same_paths [] [] h = refl
 same_paths [] (f ∷ fs) h = absurd h
 same_paths (l ∷ ls) [] h = absurd h

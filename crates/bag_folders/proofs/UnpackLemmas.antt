@@ -8,7 +8,7 @@ use Rattle.bag_folders.specs.declared.failed.Failed.TheVariants as failures
 use Rattle.bag_folders.specs.declared.unpacking.Unpacked.{Unpacked}
 use Rattle.bag_folders.specs.declared.unpack_fault.UnpackFault.{UnpackFault}
 use Rattle.bag_folders.specs.declared.unpack_fault.UnpackFault.TheVariants.{Set, Size, Exists, Device, Memory}
-use Rattle.bag_folders.specs.Unpacking.{CanStop, IsMade, IsOfForm, IsUnpacked, IsUnpackedFrom, IsUnpackedFromFile, IsUnreadable, MayBeUnreadable, judged_part, unpack_failed}
+use Rattle.bag_folders.specs.Unpacking.{CanStop, MakesFiles, IsOfForm, IsUnpacked, IsUnpackedFrom, IsUnpackedFromFile, IsUnreadable, MayBeUnreadable, judged_part, unpack_failed}
 
 pub failed_stops : (failed : Failed) → CanStop (unpack_failed failed)
 failed_stops (failures.Device trouble) = tt
@@ -18,7 +18,7 @@ pub failed_from : (text : List ℕ) (failed : Failed) → IsUnpackedFrom text (E
 failed_from text (failures.Device trouble) = tt
 failed_from text failures.Memory = tt
 
-made_of : (text : List ℕ) (files : List File) (result : Result Unpacked UnpackFault) → IsFormOf files text → IsMade files result → IsUnpackedFrom text result
+made_of : (text : List ℕ) (files : List File) (result : Result Unpacked UnpackFault) → IsFormOf files text → MakesFiles files result → IsUnpackedFrom text result
 made_of text files (Ok unpacked) form made = (files, form, made)
 made_of text files (Err (Set fault other)) form made = absurd made
 made_of text files (Err Size) form made = absurd made
@@ -35,7 +35,7 @@ unread_from text Memory h = tt
 
 -- a bag that was read is made, and what is none is refused
 pub made_from : (unmade : Type 0) (text : List ℕ) (read : Result (List File) UnpackFault) (result : Result Unpacked UnpackFault) → IfOk read (λ bag. IsFormOf bag text) → IfErr read (IsUnreadable text)
-    → IfErr read (λ fault. (result ≡ Err fault) × unmade) → IfOk read (λ bag. IsMade bag result) → IsUnpackedFrom text result
+    → IfErr read (λ fault. (result ≡ Err fault) × unmade) → IfOk read (λ bag. MakesFiles bag result) → IsUnpackedFrom text result
 made_from unmade text (Ok files) result form refused unread made = made_of text files result form made
 made_from unmade text (Err fault) result form refused unread made = subst (λ (r : Result Unpacked UnpackFault). IsUnpackedFrom text r) (sym unread.0) (unread_from text fault refused)
 
@@ -73,7 +73,7 @@ stops Exists stop form = form
 stops (Device trouble) stop form = form
 stops Memory stop form = form
 
-pub unmade_from : (unmade : Type 0) (read : Result (List File) UnpackFault) (result : Result Unpacked UnpackFault) → IfErr read (λ fault. (result ≡ Err fault) × unmade) → IfOk read (λ bag. IsMade bag result)
+pub unmade_from : (unmade : Type 0) (read : Result (List File) UnpackFault) (result : Result Unpacked UnpackFault) → IfErr read (λ fault. (result ≡ Err fault) × unmade) → IfOk read (λ bag. MakesFiles bag result)
     → IfErr result (λ fault. IsOfForm fault → unmade)
 unmade_from unmade read (Ok unpacked) unread made = tt
 unmade_from unmade (Ok files) (Err fault) unread made = λ form. absurd (stops fault made form)

@@ -58,12 +58,12 @@ CanFail fails failed = (failed ≡ Memory) ⊎ ((folder : List ℕ) × fails fol
 -- ---- what is found
 
 -- the file that an entry is
-abbrev pub file_of : String Global → Kind → Option Listed
-file_of path (File size) = Some (record { path = path; size = size })
-file_of path kind = None
+abbrev pub entry_file : String Global → Kind → Option Listed
+entry_file path (File size) = Some (record { path = path; size = size })
+entry_file path kind = None
 
 abbrev pub file_in : Entry → Option Listed
-file_in entry = file_of entry.path entry.kind
+file_in entry = entry_file entry.path entry.kind
 
 -- the path of an entry that has no place in a form
 abbrev pub odd_of : String Global → Kind → Option (String Global)

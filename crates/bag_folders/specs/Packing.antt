@@ -26,7 +26,7 @@ AreFilesOf (l ∷ ls) (f ∷ fs) = (f.path ≡ string_bytes l.path) × (length f
 AreFilesOf ls fs = ⊥
 
 -- these are the files that were found, in the order of their paths
-pub record AreInOrder (found listed : List Listed) : Type 0 where
+pub record AreInPathOrder (found listed : List Listed) : Type 0 where
   pub same : IsPermutation found listed
   pub order : IsSortedBy (λ a b. comes_before (string_bytes a.path) (string_bytes b.path)) listed
 
@@ -44,8 +44,8 @@ abbrev pub path_at_fault : SetFault → List (List ℕ) → Option (List ℕ)
 path_at_fault fault paths = option_and_then (slice_get paths) (place_of fault)
 
 -- the paths of the files, and of files that are listed
-abbrev pub paths_of : List File → List (List ℕ)
-paths_of = map (λ f. f.path)
+abbrev pub paths_found : List File → List (List ℕ)
+paths_found = map (λ f. f.path)
 
 abbrev pub listed_paths : List Listed → List (List ℕ)
 listed_paths = map (λ l. string_bytes l.path)
@@ -54,7 +54,7 @@ listed_paths = map (λ l. string_bytes l.path)
 
 -- why there is no form of these files in this order: the first fault of the list, with the path of the file at fault, or else its length
 abbrev pub HasNoForm : List File → PackFault → Type 0
-HasNoForm files (Set fault path) = ListFault files fault × (option_map string_bytes path ≡ path_at_fault fault (paths_of files))
+HasNoForm files (Set fault path) = ListFault files fault × (option_map string_bytes path ≡ path_at_fault fault (paths_found files))
 HasNoForm files Size = IsBag files × (max_form < length (set_text files))
 HasNoForm files Memory = Unit {0}
 HasNoForm files fault = ⊥
@@ -65,12 +65,12 @@ AllFilesOf listed P = (files : List File) → AreFilesOf listed files → P file
 
 -- why a folder in which this was found isn't packed, as far as the paths and sizes tell: an odd entry comes
 -- first, by its path
-abbrev pub IsRefused : Found → PackFault → Type 0
-IsRefused found (Name path) = found.odd ≡ Some path
-IsRefused found Memory = Unit {0}
-IsRefused found (Device trouble) = ⊥
-IsRefused found fault =
-    (found.odd ≡ None) × ((listed : List Listed) × AreInOrder found.files.items listed × AllFilesOf listed (λ files. HasNoForm files fault))
+abbrev pub IsUnpackable : Found → PackFault → Type 0
+IsUnpackable found (Name path) = found.odd ≡ Some path
+IsUnpackable found Memory = Unit {0}
+IsUnpackable found (Device trouble) = ⊥
+IsUnpackable found fault =
+    (found.odd ≡ None) × ((listed : List Listed) × AreInPathOrder found.files.items listed × AllFilesOf listed (λ files. HasNoForm files fault))
 
 -- ---- what comes of folders that may be listed so
 
@@ -84,7 +84,7 @@ pub record IsPackedOf (found : Found) (packed : Packed) : Type 0 where
   pub files : List File
   pub text : List ℕ
   pub odd : found.odd ≡ None
-  pub order : AreInOrder found.files.items listed
+  pub order : AreInPathOrder found.files.items listed
   pub are : AreFilesOf listed files
   pub form : IsFormOf files text
   pub count : packed.files ≡ length files
@@ -99,8 +99,8 @@ HasNoFormOf listed fault = (files : List File) × AreFilesOf listed files × Has
 -- what was found is refused, as far as paths and sizes tell, or what was read of it has no form
 abbrev pub IsRefusedOf : Found → PackFault → Type 0
 IsRefusedOf found fault =
-    IsRefused found fault
-    ⊎ ((listed : List Listed) × (found.odd ≡ None) × AreInOrder found.files.items listed × HasNoFormOf listed fault)
+    IsUnpackable found fault
+    ⊎ ((listed : List Listed) × (found.odd ≡ None) × AreInPathOrder found.files.items listed × HasNoFormOf listed fault)
 
 -- so of what is found under the first of the folders; a device may fail
 abbrev pub IsRefusedUnder : (List ℕ → List Entry → Type 0) → PackFault → Type 0
@@ -118,7 +118,7 @@ IsPacked packed = (files : List File) × (text : List ℕ) × IsFormOf files tex
 -- device may fail
 abbrev pub MayBeRefused : PackFault → Type 0
 MayBeRefused (Device trouble) = Unit {0}
-MayBeRefused fault = ((found : Found) × IsRefused found fault) ⊎ ((files : List File) × HasNoForm files fault)
+MayBeRefused fault = ((found : Found) × IsUnpackable found fault) ⊎ ((files : List File) × HasNoForm files fault)
 
 -- ---- faults of what lies below
 

@@ -26,8 +26,8 @@ unpackable_text fault = codes "unpackable " ++ fault ++ 10 ∷ []
 abbrev pub unpacked_text : Unpacked → List ℕ
 unpacked_text unpacked = codes "unpacked " ++ decimal unpacked.files ++ (codes " files" ++ 10 ∷ [])
 
-abbrev pub unreadable_text : List ℕ → List ℕ
-unreadable_text fault = codes "unreadable " ++ fault ++ 10 ∷ []
+abbrev pub unread_form_text : List ℕ → List ℕ
+unread_form_text fault = codes "unreadable " ++ fault ++ 10 ∷ []
 
 abbrev pub exists_text : List ℕ
 exists_text = codes "exists" ++ 10 ∷ []
@@ -67,8 +67,8 @@ SaysOfPack (Err fault) said = ⊥
 -- that something stands where the folder is to be made needs no other words
 abbrev pub SaysOfUnpack : Result Unpacked UnpackFault → Said → Type 0
 SaysOfUnpack (Ok unpacked) said = SaysDone (unpacked_text unpacked) said
-SaysOfUnpack (Err (unpacking.Set fault other)) said = SaysWhy (unreadable_text (set_fault_text fault)) (form_lines fault other) said
-SaysOfUnpack (Err unpacking.Size) said = SaysWhy (unreadable_text (codes "SIZE")) (line_of too_long_words) said
+SaysOfUnpack (Err (unpacking.Set fault other)) said = SaysWhy (unread_form_text (set_fault_text fault)) (form_lines fault other) said
+SaysOfUnpack (Err unpacking.Size) said = SaysWhy (unread_form_text (codes "SIZE")) (line_of too_long_words) said
 SaysOfUnpack (Err unpacking.Exists) said = (string_bytes said.text ≡ exists_text) × (said.reason ≡ None) × (said.is_done ≡ false)
 SaysOfUnpack (Err fault) said = ⊥
 

@@ -52,9 +52,9 @@ CanStop Memory = Unit {0}
 CanStop fault = ⊥
 
 -- the files of the bag are made, unless something stops it
-abbrev pub IsMade : List File → Result Unpacked UnpackFault → Type 0
-IsMade files (Ok unpacked) = unpacked.files ≡ length files
-IsMade files (Err fault) = CanStop fault
+abbrev pub MakesFiles : List File → Result Unpacked UnpackFault → Type 0
+MakesFiles files (Ok unpacked) = unpacked.files ≡ length files
+MakesFiles files (Err fault) = CanStop fault
 
 -- ---- what comes of a text
 

@@ -2,7 +2,7 @@
 
 ghost use Rattle.std.specs.Prelude.{List};
 ghost use Rattle.bag_text.specs.TransferForm.{File, IsBag};
-ghost use Rattle.bag_folders.specs.Packing.{AreFilesOf, AreInOrder};
+ghost use Rattle.bag_folders.specs.Packing.{AreFilesOf, AreInPathOrder};
 ghost use Rattle.bag_folders.specs.Unpacking.{AreFoundAgain};
 ghost use Rattle.bag_folders.specs.declared.listed.Listed.{Listed};
 
@@ -10,5 +10,5 @@ ghost use Rattle.bag_folders.specs.declared.listed.Listed.{Listed};
 /// the order that the bag has: what was unpacked is packed into the same form.
 pub fn found_again()
     ensures { (files : List File) (found listed : List Listed) → IsBag files
-        → AreFoundAgain files found → AreInOrder found listed → AreFilesOf listed files }
+        → AreFoundAgain files found → AreInPathOrder found listed → AreFilesOf listed files }
 {}

@@ -4,8 +4,8 @@ ghost use Rattle.std.specs.Prelude.{◌≡◌, ◌++◌, [], Err, IfErr, IfOk, O
 ghost use Rattle.std.specs.List.{cons_option, list_any};
 ghost use Rattle.bag_check.specs.Contents.{declaration_path, is_payload};
 ghost use Rattle.bag_text.specs.TransferReading.{files_of};
-ghost use Rattle.bag_folders.specs.Packing.{paths_of};
-ghost use Rattle.bag_folders.specs.Unpacking.{CanStop, IsMade, folder_of, folders_of, needs_data};
+ghost use Rattle.bag_folders.specs.Packing.{paths_found};
+ghost use Rattle.bag_folders.specs.Unpacking.{CanStop, MakesFiles, folder_of, folders_of, needs_data};
 
 use crate::failed::{Failed, Tried, failed_at};
 use crate::folders::path_under;
@@ -43,7 +43,7 @@ fn has_payload(files: &[(&str, &[u8])]) -> bool
 /// Whether these are the files of a bag without a payload. It has a folder `data` all the same (RFC 8493,
 /// 2.1), which no path needs: other programs refuse a bag that has none.
 fn needs_data(files: &[(&str, &[u8])]) -> bool
-    ensures { result ≡ needs_data (paths_of (files_of files.now)) }
+    ensures { result ≡ needs_data (paths_found (files_of files.now)) }
 {
     has_declaration(files) && !has_payload(files)
 }
@@ -94,7 +94,7 @@ pub fn folders_of<'a>(
 ) -> Result<Vec<&'a str>, AllocError>
     // They are those in which the files stand, and `data` where the bag has no payload.
     ensures { IfOk result (λ folders.
-        map (λ folder. folder.now) folders.items ≡ folders_of (paths_of (files_of files.now))) }
+        map (λ folder. folder.now) folders.items ≡ folders_of (paths_found (files_of files.now))) }
 {
     let mut folders = needed_folders(alloc, files)?;
     if needs_data(files) {
@@ -185,7 +185,7 @@ fn make_all<M: Maker>(
     maker: &mut M,
     files: &[(&str, &[u8])],
 ) -> Result<Unpacked, UnpackFault>
-    ensures { IsMade (files_of files.now) result }
+    ensures { MakesFiles (files_of files.now) result }
 {
     maker.make_first()?;
     let folders = folders_of(alloc, files)?;
@@ -203,7 +203,7 @@ pub fn make_bag<M: Maker>(
     // Where none was, that is said, whatever stands under the folder's name, and nothing is made.
     ensures unread { IfErr read.entry (λ fault. (result ≡ Err fault) × (maker.new ≡ maker.old)) }
     // Else the files are counted, or something stands there or fails.
-    ensures made { IfOk read.entry (λ bag. IsMade bag result) }
+    ensures made { IfOk read.entry (λ bag. MakesFiles bag result) }
 {
     match read {
         Ok(bag) => make_all(alloc, maker, bag.files()),

@@ -2,7 +2,7 @@
 
 ghost use Rattle.std.specs.Prelude.{◌≡◌, None, IfOk, IfErr};
 ghost use Rattle.bag_text.specs.TransferForm.{IsBag};
-ghost use Rattle.bag_folders.specs.Packing.{AllFilesOf, AreInOrder, IsRefused};
+ghost use Rattle.bag_folders.specs.Packing.{AllFilesOf, AreInPathOrder, IsUnpackable};
 
 use crate::listed::{Found, Listed};
 use crate::order::in_order;
@@ -15,11 +15,11 @@ use std::alloc::Global;
 pub fn plan(alloc: Global, found: Found) -> Result<Vec<Listed>, PackFault>
     // All entries are files, and these are they, in order.
     ensures order { IfOk result (λ files.
-        (found.odd ≡ None) × AreInOrder found.files.items files.items) }
+        (found.odd ≡ None) × AreInPathOrder found.files.items files.items) }
     // Whatever bytes they have, they are a bag.
     ensures bag { IfOk result (λ files. AllFilesOf files.items IsBag) }
     // What is refused has the fault that is named.
-    ensures refused { IfErr result (IsRefused found) }
+    ensures refused { IfErr result (IsUnpackable found) }
 {
     let Found { files, odd } = found;
     match odd {

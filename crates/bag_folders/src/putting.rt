@@ -43,7 +43,7 @@ fn check_place<R: Files + AllocGlobal>(rt: &R, file: &str) -> Result<(), Failed>
 }
 
 /// Writes all of the bytes, as far as the device.
-fn fill<F: Write + OpenFile>(file: &mut F, bytes: &[u8]) -> io::Result<()>
+fn write_to_device<F: Write + OpenFile>(file: &mut F, bytes: &[u8]) -> io::Result<()>
     // What was written is the bytes, and nothing else.
     ensures whole { OnOk result (Appends (F.contents file.old) (F.contents file.new) bytes.now) }
     // Whatever comes of it, a beginning of them was.
@@ -55,7 +55,7 @@ fn fill<F: Write + OpenFile>(file: &mut F, bytes: &[u8]) -> io::Result<()>
 
 /// Writes the bytes to the file beside, and gives it the name that it is to have. Where either fails,
 /// the file beside is removed.
-fn fill_and_rename<R: Files + AllocGlobal>(
+fn write_and_rename<R: Files + AllocGlobal>(
     rt: &R,
     opened: R::File,
     beside: &str,
@@ -63,7 +63,7 @@ fn fill_and_rename<R: Files + AllocGlobal>(
     bytes: &[u8],
 ) -> Result<(), Failed> {
     let mut opened = opened;
-    if let Err(error) = fill(&mut opened, bytes) {
+    if let Err(error) = write_to_device(&mut opened, bytes) {
         let _ = fs::remove_file(rt, beside);
         return Err(failed_at(rt.alloc(), Tried::Write, file, error));
     }
@@ -87,7 +87,7 @@ pub(crate) fn put<R: Files + AllocGlobal>(rt: &R, file: &str, bytes: &[u8]) -> R
             .create_new(true)
             .open(rt, beside.as_str());
         match opened {
-            Ok(opened) => return fill_and_rename(rt, opened, beside.as_str(), file, bytes),
+            Ok(opened) => return write_and_rename(rt, opened, beside.as_str(), file, bytes),
             Err(error) => {
                 if error.kind() != ErrorKind::AlreadyExists {
                     return Err(failed_at(rt.alloc(), Tried::Make, file, error));

@@ -12,7 +12,7 @@ use Rattle.bag_text.specs.Text.{is_blank, has_mark, trim_blanks, skip_blanks, dr
 use Rattle.bag_text.specs.Lines.{lines}
 use Rattle.bag_text.specs.Declaration.{version_text, version_label, encoding_label, IsLabelled, Declares, after_label, is_version, is_supported, is_utf8_name, declaration_fault}
 use Rattle.bag_text.specs.Answers.{◌>>=◌}
-use Rattle.bag_text.specs.DeclarationReading.{version_of, encoding_fault, exactly_two, two_lines_of, declaration_of}
+use Rattle.bag_text.specs.DeclarationReading.{version_declared, encoding_fault, exactly_two, two_lines_of, declaration_of}
 use Rattle.bag_text.specs.declared.declaration.Version.{Version}
 use Rattle.bag_text.specs.declared.declaration.Version.TheVariants.{V1_0, V0_97}
 use Rattle.bag_text.specs.declared.declaration.DeclFault.{DeclFault}
@@ -142,11 +142,11 @@ encoding_again (b ∷ value) e =
 
 -- the version that two lines declare, or their fault
 abbrev of_two : List ℕ → List ℕ → Result Version DeclFault
-of_two first second = version_of first >>= λ version. encoding_fault second >>= λ _. Ok version
+of_two first second = version_declared first >>= λ version. encoding_fault second >>= λ _. Ok version
 
 -- each of the two lines says its part
-both_say : (first second : List ℕ) (v : Version) → of_two first second ≡ Ok v → (version_of first ≡ Ok v) × (encoding_fault second ≡ sound)
-both_say first second v e = by_version (version_of first) (encoding_fault second) e
+both_say : (first second : List ℕ) (v : Version) → of_two first second ≡ Ok v → (version_declared first ≡ Ok v) × (encoding_fault second ≡ sound)
+both_say first second v e = by_version (version_declared first) (encoding_fault second) e
   where
     by_encoding : (w : Version) (r : Result (Unit {0}) DeclFault) → (r >>= λ _. Ok w) ≡ Ok v → (w ≡ v) × (r ≡ sound)
     by_encoding w (Ok tt) e = let now : w ≡ v = cc in (now, refl)
@@ -190,7 +190,7 @@ is_declared text v e = by_utf8 (is_utf8 text) refl e
 -- A version that is declared is read.
 pub declared_again : (text : List ℕ) (v : Version) → Declares text v → declaration_of text ≡ Ok v
 declared_again text v is =
-    let version : version_of is.first ≡ Ok v = ap version_by (label_again version_label (version_text v) is.first is.version ∙ ap (λ (x : List ℕ). Some x) (version_trimmed v)) ∙ version_again v in
+    let version : version_declared is.first ≡ Ok v = ap version_by (label_again version_label (version_text v) is.first is.version ∙ ap (λ (x : List ℕ). Some x) (version_trimmed v)) ∙ version_again v in
     let encoding : encoding_fault is.second ≡ sound = ap encoding_by (label_again encoding_label is.encoding is.second is.encoded) ∙ encoding_again (trim_blanks is.encoding) (encoding_trimmed is.encoding is.is_utf8_in_any_case) in
     rw (is.utf8, is.unmarked, is.two) (ap (λ (r : Result Version DeclFault). r >>= λ version. encoding_fault is.second >>= λ _. Ok version) version ∙ ap (λ (r : Result (Unit {0}) DeclFault). r >>= λ _. Ok v) encoding)
 

@@ -20,7 +20,7 @@ use Rattle.bag_text.specs.declared.bag_info.InfoFault.TheVariants.{NoColon, Empt
 use Rattle.bag_text.specs.BagInfo.{Pair, is_colon, begins_blank}
 use Rattle.bag_text.specs.Answers.{◌>>=◌, FailsAs}
 use Rattle.bag_text.proofs.ResultLemmas.{fails_on}
-use Rattle.bag_text.specs.InfoReading.{label_of, value_of, colon_cut, pair_of, extend_last, add_info_line, pairs_from, named_info_fault, Kept, pair_in, pairs_of, has_line_feed, IsMarked, AreMarked}
+use Rattle.bag_text.specs.InfoReading.{label_of, value_of, colon_cut, pair_of, extend_last, add_info_line, pairs_from, named_info_fault, Kept, pair_in, pairs_of, has_line_feed, IsOwnedIfContinued, AreMarked}
 use Rattle.bag_text.proofs.BlankLemmas.{dropped}
 use Rattle.bag_text.proofs.LineLemmas.{no_lines, are_lines}
 use Rattle.bag_text.proofs.InfoLemmas.{cut_again, has_colon, extended, some_pairs, unfolded_lines, no_lines_left}
@@ -226,20 +226,20 @@ pub none_marked : (now : List Kept) → now ≡ [] → AreMarked now
 none_marked now is other in_now = let place = (subst (λ (x : List Kept). Contains x other) is in_now).1 in absurd (omega (arith, place))
 
 -- pairs of which the last is another
-pub marked_last : (old init now : List Kept) (last : Option Kept) (kept next : Kept) → old ≡ init ++ option_to_list last → last ≡ Some kept → now ≡ init ++ next ∷ [] → IsMarked next → AreMarked old → AreMarked now
+pub marked_last : (old init now : List Kept) (last : Option Kept) (kept next : Kept) → old ≡ init ++ option_to_list last → last ≡ Some kept → now ≡ init ++ next ∷ [] → IsOwnedIfContinued next → AreMarked old → AreMarked now
 marked_last old init now last kept next is some now-is marked all other in_now = by_place (Contains-push_cases init next other (subst (λ (x : List Kept). Contains x other) now-is in_now))
   where
-    by_place : Contains init other ⊎ (next ≡ other) → IsMarked other
+    by_place : Contains init other ⊎ (next ≡ other) → IsOwnedIfContinued other
     by_place (inl before) = all other (subst (λ (x : List Kept). Contains x other) (sym (last_is old init last kept is some)) (Contains-append_left init (kept ∷ []) other before))
-    by_place (inr same) = subst IsMarked same marked
+    by_place (inr same) = subst IsOwnedIfContinued same marked
 
 -- pairs and one more
-pub marked_more : (old now : List Kept) (next : Kept) → now ≡ old ++ next ∷ [] → IsMarked next → AreMarked old → AreMarked now
+pub marked_more : (old now : List Kept) (next : Kept) → now ≡ old ++ next ∷ [] → IsOwnedIfContinued next → AreMarked old → AreMarked now
 marked_more old now next now-is marked all other in_now = by_place (Contains-push_cases old next other (subst (λ (x : List Kept). Contains x other) now-is in_now))
   where
-    by_place : Contains old other ⊎ (next ≡ other) → IsMarked other
+    by_place : Contains old other ⊎ (next ≡ other) → IsOwnedIfContinued other
     by_place (inl before) = all other before
-    by_place (inr same) = subst IsMarked same marked
+    by_place (inr same) = subst IsOwnedIfContinued same marked
 
 -- a value of one line has no LF
 no_feed : (t : List ℕ) → list_any is_end t ≡ false → has_line_feed t ≡ false

@@ -10,8 +10,8 @@ use Rattle.bag_text.specs.declared.declaration.Version.TheVariants.{V1_0, V0_97}
 use Rattle.bag_text.specs.declared.declaration.DeclFault.{DeclFault}
 use Rattle.bag_text.specs.declared.declaration.DeclFault.TheVariants.{NotUtf8, ByteOrderMark, NotTwoLines, BadVersionLine, UnsupportedVersion, BadEncodingLine, UnsupportedEncoding}
 
-abbrev pub version_of : List ℕ → Result Version DeclFault
-version_of line = do
+abbrev pub version_declared : List ℕ → Result Version DeclFault
+version_declared line = do
   value ← ok_or (after_label version_label line) BadVersionLine
   if bytes_eq value (codes "1.0") then Ok V1_0
       else if bytes_eq value (codes "0.97") then Ok V0_97
@@ -37,4 +37,4 @@ abbrev pub declaration_of : List ℕ → Result Version DeclFault
 declaration_of text =
     if not (is_utf8 text) then Err NotUtf8
     else if has_mark text then Err ByteOrderMark
-    else two_lines_of text >>= λ pair. version_of pair.0 >>= λ version. encoding_fault pair.1 >>= λ _. Ok version
+    else two_lines_of text >>= λ pair. version_declared pair.0 >>= λ version. encoding_fault pair.1 >>= λ _. Ok version

@@ -82,8 +82,8 @@ abbrev pub has_line_feed : List ℕ → Bool
 has_line_feed text = list_any (λ b. b == 10) text
 
 -- a value is owned exactly where it has several lines
-abbrev pub IsMarked : Kept → Type 0
-IsMarked kept = is_owned kept.1 ≡ has_line_feed (cow_str_bytes kept.1)
+abbrev pub IsOwnedIfContinued : Kept → Type 0
+IsOwnedIfContinued kept = is_owned kept.1 ≡ has_line_feed (cow_str_bytes kept.1)
 
 abbrev pub AreMarked : List Kept → Type 0
-AreMarked all = (kept : Kept) → Contains all kept → IsMarked kept
+AreMarked all = (kept : Kept) → Contains all kept → IsOwnedIfContinued kept

@@ -124,9 +124,9 @@ files_of pairs = map file_of pairs
 abbrev pub head_of : Header → Head
 head_of h = record { path_len = h.path_len; content_len = h.content_len; rest = h.rest.now }
 
-abbrev pub place_of : EntryPlace → Place
-place_of (places.End rest) = End rest.now
-place_of (places.Entry h) = Entry (head_of h)
+abbrev pub place_read : EntryPlace → Place
+place_read (places.End rest) = End rest.now
+place_read (places.Entry h) = Entry (head_of h)
 
 -- the files before this place come before the path, and the others don't
 abbrev pub IsPlaceOf : List ℕ → List (Bor (List ℕ) × Bor (List ℕ)) → ℕ → Type 0

@@ -5,7 +5,7 @@ ghost use Rattle.std.specs.List.{position_or_len};
 ghost use Rattle.bag_text.specs.Declaration.{after_label, are_digits, is_version, Declares, declaration_fault};
 ghost use Rattle.bag_text.specs.declared.declaration.Version.{Version};
 ghost use Rattle.bag_text.specs.declared.declaration.DeclFault.{DeclFault};
-ghost use Rattle.bag_text.specs.DeclarationReading.{declaration_of, version_of, encoding_fault, two_lines_of};
+ghost use Rattle.bag_text.specs.DeclarationReading.{declaration_of, version_declared, encoding_fault, two_lines_of};
 
 use crate::lines::split_line;
 use crate::text::{has_byte_order_mark, has_digits_alone, is_text, trim_blanks};
@@ -68,7 +68,7 @@ fn has_version_form(value: &[u8]) -> bool
 }
 
 fn version_line(line: &[u8]) -> Result<Version, DeclFault>
-    ensures { result ≡ version_of line.now }
+    ensures { result ≡ version_declared line.now }
 {
     let value = value_of(line, b"BagIt-Version:").ok_or(DeclFault::BadVersionLine)?;
     if value == b"1.0".as_slice() {

@@ -3,7 +3,7 @@
 ghost use Rattle.std.specs.Prelude.{◌≡◌, ◌<◌, ◌≤◌, ◌^◌, List, [], length, map, ℕ, Option, option_map, codes, None, Some, Ok, Err, IfOk, IfSome, MatchResult};
 ghost use Rattle.bag_text.specs.Answers.{Gives};
 ghost use Rattle.bag_text.specs.TransferForm.{File, opening, ending, max_content, max_files};
-ghost use Rattle.bag_text.specs.TransferReading.{literal_at, digits_at, number_at, header_at, place_at, file_at, files_at, set_of, named_set_fault, file_of, files_of, Head, head_of, place_of, after_opening, flaw_at, result_at, entry_at};
+ghost use Rattle.bag_text.specs.TransferReading.{literal_at, digits_at, number_at, header_at, place_at, file_at, files_at, set_of, named_set_fault, file_of, files_of, Head, head_of, place_read, after_opening, flaw_at, result_at, entry_at};
 
 use crate::clash::do_clash;
 use crate::header::{EntryPlace, Flaw, Header};
@@ -122,7 +122,7 @@ fn read_header<'a>(text: &'a [u8]) -> Result<Header<'a>, Flaw>
 
 #[tactic(auto, unfolding(crate::specs::TransferReading::place_at))]
 fn read_place<'a>(text: &'a [u8]) -> Result<EntryPlace<'a>, Flaw>
-    ensures { MatchResult result (λ p. place_at text.now ≡ Ok (place_of p))
+    ensures { MatchResult result (λ p. place_at text.now ≡ Ok (place_read p))
         (λ flaw. place_at text.now ≡ Err flaw) }
 {
     match text {
@@ -174,7 +174,7 @@ fn fault_at(offset: usize, flaw: Flaw) -> SetFault
 }
 
 fn place_or_fault<'a>(offset: usize, text: &'a [u8]) -> Result<EntryPlace<'a>, SetFault>
-    ensures { MatchResult result (λ p. result_at offset (place_at text.now) ≡ Ok (place_of p))
+    ensures { MatchResult result (λ p. result_at offset (place_at text.now) ≡ Ok (place_read p))
         (λ fault. result_at offset (place_at text.now) ≡ Err fault) }
 {
     match read_place(text) {

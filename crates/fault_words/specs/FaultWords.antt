@@ -26,7 +26,7 @@ form_words forms.Truncated = codes "the form ends too early: it stops before the
 form_words (forms.OutOfOrder offset) = codes "the entry at byte " ++ decimal offset ++ codes " is out of order: its path does not come after the one before it, byte for byte (S4)"
 form_words (forms.BadPath offset) = codes "the entry at byte " ++ decimal offset ++ codes " has no good path: it is not UTF-8, has a NUL, or has a segment that is empty, . or .. (S5)"
 form_words forms.TooManyFiles = codes "the form has more files than the 2,000 that a bag may have (S6)"
-form_words forms.TrailingBytes = codes "the form goes on behind its line END (S7)"
+form_words forms.TrailingBytes = codes "the form goes on after its line END (S7)"
 form_words forms.PathClash = codes "a path of the form is data, or names both a file and a folder (S8)"
 form_words forms.Memory = codes "memory ran out (S9)"
 
@@ -69,7 +69,7 @@ abbrev pub manifest_words : List ℕ → LineFault → List ℕ
 manifest_words name manifests.NotUtf8 = printed_text name ++ codes " is not UTF-8 text (B6 L1)"
 manifest_words name manifests.ByteOrderMark = printed_text name ++ codes " begins with a byte order mark, and must not (B6 L2)"
 manifest_words name (manifests.BadChecksum line) = codes "line " ++ decimal line ++ codes " of " ++ printed_text name ++ codes " does not begin with a checksum of the right number of hex digits (B6 L3)"
-manifest_words name (manifests.NoPath line) = codes "line " ++ decimal line ++ codes " of " ++ printed_text name ++ codes " has no path behind its checksum (B6 L4)"
+manifest_words name (manifests.NoPath line) = codes "line " ++ decimal line ++ codes " of " ++ printed_text name ++ codes " has no path after its checksum (B6 L4)"
 manifest_words name (manifests.BadPath line) = codes "line " ++ decimal line ++ codes " of " ++ printed_text name ++ codes " has no good path: it begins with *, has more than 1,024 bytes or a NUL, or has a segment that is empty, . or .. (B6 L5)"
 manifest_words name (manifests.ListedTwice line) = codes "line " ++ decimal line ++ codes " of " ++ printed_text name ++ codes " lists a path that an earlier line lists (B6 L6)"
 manifest_words name manifests.Memory = codes "memory ran out (B6 L7)"

@@ -123,10 +123,10 @@ place_in fault tree = []
 -- ---- what is told
 
 -- where the fault stands, as far as it is known
-abbrev pub IsPlace : List ℕ → PolicyFault → List ℕ → Type 0
-IsPlace bytes NotToml place = IsLinePlace bytes place
-IsPlace bytes fault place = place ≡ option_map_or (place_in fault) (tree_in bytes) []
+abbrev pub IsFaultPlace : List ℕ → PolicyFault → List ℕ → Type 0
+IsFaultPlace bytes NotToml place = IsLinePlace bytes place
+IsFaultPlace bytes fault place = place ≡ option_map_or (place_in fault) (tree_in bytes) []
 
 -- the fault's sentence and the place, a line with its end
 abbrev pub IsPolicyReason : List ℕ → PolicyFault → List ℕ → Type 0
-IsPolicyReason bytes fault text = (place : List ℕ) × IsPlace bytes fault place × (text ≡ policy_words fault ++ place ++ 10 ∷ [])
+IsPolicyReason bytes fault text = (place : List ℕ) × IsFaultPlace bytes fault place × (text ≡ policy_words fault ++ place ++ 10 ∷ [])

@@ -44,7 +44,7 @@ impl<'a> fmt::Display for InWords<'a, SetFault> {
             SetFault::TooManyFiles => f.write_str(
                 "the form has more files than the 2,000 that a bag may have (S6)",
             ),
-            SetFault::TrailingBytes => f.write_str("the form goes on behind its line END (S7)"),
+            SetFault::TrailingBytes => f.write_str("the form goes on after its line END (S7)"),
             SetFault::PathClash => f.write_str(
                 "a path of the form is data, or names both a file and a folder (S8)",
             ),

@@ -52,7 +52,7 @@ pub fn write_manifest<W: fmt::Write>(
         ),
         LineFault::NoPath(line) => write!(
             f,
-            "line {line} of {manifest} has no path behind its checksum (B6 L4)"
+            "line {line} of {manifest} has no path after its checksum (B6 L4)"
         ),
         LineFault::BadPath(line) => write!(
             f,

@@ -31,5 +31,5 @@ among_either name (other ∷ names) = λ i. bytes_eq-sym other name i || among_e
 pub collection_there : (h : History) (name : List ℕ) → rows.has_collection name (picture this_version h) ≡ has_collection h name
 collection_there h name = among_either name (collection_rows h) ∙ among_first_places name (filter_map collection_in h.changes)
 
-pub collection_told : (h : History) (db : Database) → Pictures h db → (name : List ℕ) → rows.has_collection name (tables_of db) ≡ has_collection h name
-collection_told h db pictured name = in_picture h db pictured (rows.has_collection name) ∙ collection_there h name
+pub collection_told : {h : History} {db : Database} → Pictures h db → (name : List ℕ) → rows.has_collection name (tables_of db) ≡ has_collection h name
+collection_told {h = h} {db = db} pictured name = in_picture pictured (rows.has_collection name) ∙ collection_there h name

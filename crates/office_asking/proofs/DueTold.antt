@@ -34,14 +34,14 @@ pub class_there : (h : History) (class : List ℕ) (found : Option ℤ) → opti
 class_there h class None e = ap is_some e
 class_there h class (Some y) e = ap is_some e
 
-module _ (h : History) (db : Database) (pictured : Pictures h db) (class : List ℕ) where
+module _ {h : History} {db : Database} (pictured : Pictures h db) (class : List ℕ) where
   mapped : (o : Option ClassRow) → option_map years_back (option_map (λ (c : ClassRow). c.years) o) ≡ option_map (λ (c : ClassRow). years_back c.years) o
   mapped None = refl
   mapped (Some c) = refl
 
   pub years_read_back : (found : Option ℤ) → found ≡ option_map (λ (c : ClassRow). c.years) (class_named class (tables_of db).classes) → option_map years_back found ≡ years_of h class
   years_read_back found e =
-      ap (option_map years_back) (e ∙ in_picture h db pictured (λ t. option_map (λ (c : ClassRow). c.years) (class_named class t.classes)))
+      ap (option_map years_back) (e ∙ in_picture pictured (λ t. option_map (λ (c : ClassRow). c.years) (class_named class t.classes)))
       ∙ mapped (class_named class (class_rows h)) ∙ years_of_row h class
 
   pub due_told : (closed : Date) (found : Option ℤ) (due_day : Due) → found ≡ option_map (λ (c : ClassRow). c.years) (class_named class (tables_of db).classes) → due_day ≡ option_map_or (due_of closed) (option_map years_back found) Never

@@ -25,8 +25,8 @@ pub due_told : (h : History) (n : ℕ) → due_numbered (pos n) (due_rows h) ≡
 due_told h n = ap (due_numbered (pos n)) (due_rows_are h) ∙ found_at (due_row h) (λ d. d.number) (λ m x. refl) (deposits h) n
 
 -- what is read of a deposit that is there
-pub kept_read : (h : History) (db : Database) → Pictures h db → (n : ℕ) (found : Date × Deposit) → deposit_numbered h n ≡ Some found → (kept : DueRow) → Some kept ≡ due_numbered (pos n) (tables_of db).dues → kept ≡ due_row h n found
-kept_read h db pictured n found there kept e = same_Some _ _ (e ∙ in_picture h db pictured (λ t. due_numbered (pos n) t.dues) ∙ due_told h n ∙ ap (option_map (due_row h n)) there)
+pub kept_read : {h : History} {db : Database} → Pictures h db → (n : ℕ) (found : Date × Deposit) → deposit_numbered h n ≡ Some found → (kept : DueRow) → Some kept ≡ due_numbered (pos n) (tables_of db).dues → kept ≡ due_row h n found
+kept_read {h = h} {db = db} pictured n found there kept e = same_Some _ _ (e ∙ in_picture pictured (λ t. due_numbered (pos n) t.dues) ∙ due_told h n ∙ ap (option_map (due_row h n)) there)
 
 -- no live hold covers it where the count is 0
 pub unheld : (h : History) (n : ℕ) (d : Deposit) → pos (length (live_holds h n d)) ≡ pos 0 → least_hold h n d ≡ None

@@ -74,17 +74,17 @@ live_told h n deposit version =
         reach_same x.1.target n deposit ∙ ap (λ o. option_map_or (λ (hold : Date × Hold). reaches hold.1.target n deposit) o false) (sym e) ∙ ap (λ k. covers h k n deposit) (sym one)
 
 -- the numbers of the live holds over a deposit that are read
-pub live_read : (h : History) (db : Database) → Pictures h db → (n : ℕ) (collection class : List ℕ) (numbers : List ℕ) → map pos numbers ≡ rows.live_holds (pos n) collection class (tables_of db)
+pub live_read : {h : History} {db : Database} → Pictures h db → (n : ℕ) (collection class : List ℕ) (numbers : List ℕ) → map pos numbers ≡ rows.live_holds (pos n) collection class (tables_of db)
     → (deposit : Deposit) → deposit.collection ≡ collection → deposit.class ≡ class → numbers ≡ histories.live_holds h n deposit
-live_read h db pictured n collection class numbers e deposit within of =
+live_read {h = h} {db = db} pictured n collection class numbers e deposit within of =
     map_back pos same_count numbers (histories.live_holds h n deposit)
-    (e ∙ in_picture h db pictured (rows.live_holds (pos n) collection class) ∙ (λ i. rows.live_holds (pos n) (sym within i) (sym of i) (picture this_version h)) ∙ live_told h n deposit this_version)
+    (e ∙ in_picture pictured (rows.live_holds (pos n) collection class) ∙ (λ i. rows.live_holds (pos n) (sym within i) (sym of i) (picture this_version h)) ∙ live_told h n deposit this_version)
 
 -- ---- a hold by its row
 
-pub hold_read : (h : History) (db : Database) → Pictures h db → (k : ℕ) (found : Option HoldRow) → found ≡ rows.hold_numbered (pos k) (tables_of db).holds → found ≡ option_map (hold_row h k) (histories.hold_numbered h k)
-hold_read h db pictured k found e =
-    e ∙ in_picture h db pictured (λ t. rows.hold_numbered (pos k) t.holds) ∙ ap (rows.hold_numbered (pos k)) (hold_rows_are h) ∙ found_at (hold_row h) (λ r. r.number) (λ m x. refl) (holds h) k
+pub hold_read : {h : History} {db : Database} → Pictures h db → (k : ℕ) (found : Option HoldRow) → found ≡ rows.hold_numbered (pos k) (tables_of db).holds → found ≡ option_map (hold_row h k) (histories.hold_numbered h k)
+hold_read {h = h} {db = db} pictured k found e =
+    e ∙ in_picture pictured (λ t. rows.hold_numbered (pos k) t.holds) ∙ ap (rows.hold_numbered (pos k)) (hold_rows_are h) ∙ found_at (hold_row h) (λ r. r.number) (λ m x. refl) (holds h) k
 
 scope_told : (target : Target) → scope_in (held_deposit target) (held_collection target) (held_class target) ≡ Some (scope_of target)
 scope_told (OnDeposit n) = refl
@@ -99,9 +99,9 @@ hold_is h k found row is told e = λ i. record {
   placed = same_day told.placed found.0 (e.placed ∙ ap (λ (r : HoldRow). r.placed) is) i;
 }
 
-pub hold_told : (h : History) (db : Database) → Pictures h db → (k : ℕ) (found : Option HoldRow) → found ≡ rows.hold_numbered (pos k) (tables_of db).holds
+pub hold_told : {h : History} {db : Database} → Pictures h db → (k : ℕ) (found : Option HoldRow) → found ≡ rows.hold_numbered (pos k) (tables_of db).holds
     → (row : HoldRow) → found ≡ Some row → (told : LiveHold) → IsHoldOf row told → Some told ≡ told_hold h k
-hold_told h db pictured k found e row is told says = by (histories.hold_numbered h k) (sym is ∙ hold_read h db pictured k found e)
+hold_told {h = h} {db = db} pictured k found e row is told says = by (histories.hold_numbered h k) (sym is ∙ hold_read pictured k found e)
   where
     by : (o : Option (Date × Hold)) → Some row ≡ option_map (hold_row h k) o → Some told ≡ option_map_or (λ found. Some (live_hold k found)) o None
     by None e = absurd cc

@@ -3,7 +3,7 @@ use Rattle.std.proofs.Common.{◌≡◌, refl, sym, subst, ◌∙◌, inl, arith
 use Rattle.std.specs.Prelude.{Result, Ok, Err, IfOk, OnOk}
 use Rattle.std.proofs.lemmas.Result.{on_ok_weaker}
 use Rattle.sqlite.specs.State.{State, HasCleanDisk}
-use Rattle.sql_meaning.specs.Inside.{Stays, GoesOn, Stands}
+use Rattle.sql_meaning.specs.Inside.{Stays, GoesOn, GoesOnIfAny}
 use Rattle.sql_meaning.proofs.Inside.{goes_then, stays_then}
 use Rattle.office_tables.specs.Tables.{IsOffice}
 
@@ -27,7 +27,7 @@ module _ (a b c : State) (stays : Stays b c) where
       second clean (subst IsOffice (sym same) office) ∙ same
 
 -- a call, and calls in turn after it
-pub goes_still : (a b c : State) → GoesOn a b → Stands b c → GoesOn a c
+pub goes_still : (a b c : State) → GoesOn a b → GoesOnIfAny b c → GoesOn a c
 goes_still a b c p q = record { was_open = p.was_open; is_open = q.is_open p.is_open; inside = λ inside. q.inside (p.inside inside) }
 
 -- three calls
@@ -35,7 +35,7 @@ pub stays_thrice : (a b c d : State) → Stays a b → (HasCleanDisk b → GoesO
 stays_thrice a b c d first goes second goes_on third = stays_then a c d (stays_then a b c first goes second) (goes_twice a b c second goes goes_on) third
 
 -- where no call was made
-pub stands_still : (a : State) → Stands a a
+pub stands_still : (a : State) → GoesOnIfAny a a
 stands_still a = record { is_open = λ is_open. is_open; inside = λ inside. inside }
 
 pub stays_still : (a : State) → Stays a a

@@ -10,11 +10,11 @@ use Rattle.office_asking.specs.Limits.{IsNumberAfter}
 use Rattle.office_asking.specs.Pictures.{Pictures}
 use Rattle.office_asking.proofs.Readings.{in_picture}
 
-pub limits_told : (h : History) (db : Database) → Pictures h db → (deposits_at holds_at : ℕ)
+pub limits_told : {h : History} {db : Database} → Pictures h db → (deposits_at holds_at : ℕ)
     → limits_of (tables_of db) ≡ Some (record { max_deposits = pos deposits_at; max_holds = pos holds_at })
     → (deposits_at ≡ h.max_deposits) × (holds_at ≡ h.max_holds)
-limits_told h db pictured deposits_at holds_at e =
-    let same : ◌≡◌ {A = Option Limits} (Some (record { max_deposits = pos h.max_deposits; max_holds = pos h.max_holds })) (Some (record { max_deposits = pos deposits_at; max_holds = pos holds_at })) = sym (in_picture h db pictured limits_of) ∙ e in
+limits_told {h = h} {db = db} pictured deposits_at holds_at e =
+    let same : ◌≡◌ {A = Option Limits} (Some (record { max_deposits = pos h.max_deposits; max_holds = pos h.max_holds })) (Some (record { max_deposits = pos deposits_at; max_holds = pos holds_at })) = sym (in_picture pictured limits_of) ∙ e in
     let deposits : pos h.max_deposits ≡ pos deposits_at = ap (λ (l : Limits). l.max_deposits) (same_Some _ _ same) in
     let holds : pos h.max_holds ≡ pos holds_at = ap (λ (l : Limits). l.max_holds) (same_Some _ _ same) in
     let deposits_are : h.max_deposits ≡ deposits_at = cc in

@@ -22,22 +22,22 @@ use Rattle.office_asking.specs.declared.asker.Asker.{Asker}
 use Rattle.office_asking.proofs.PolicyTold.{role_told}
 use Rattle.office_asking.proofs.MatchTold.{none_decides, row_decides}
 
-module _ (h : History) (old : Database) (pictured : Pictures h old) where
+module _ {h : History} {old : Database} (pictured : Pictures h old) where
   -- what the tables were pictures the history still
-  pub pictured_still : (new : Database) → new ≡ old → Pictures h new
-  pictured_still new same = subst (Pictures h) (sym same) pictured
+  pub pictured_still : {new : Database} → new ≡ old → Pictures h new
+  pictured_still same = subst (Pictures h) (sym same) pictured
 
   -- what is said of the rows is said of the picture's
   pub in_picture : {A : Type 0} (ask : Tables → A) → ask (tables_of old) ≡ ask (picture this_version h)
   in_picture ask = ap ask pictured.are
 
 -- the caller's role is read
-pub role_read : (h : History) (old : Database) → Pictures h old → (caller : List ℕ) (role : Option (List ℕ)) → role ≡ option_map (λ (c : CallerRow). c.role) (caller_named caller (tables_of old).callers)
+pub role_read : {h : History} {old : Database} → Pictures h old → (caller : List ℕ) (role : Option (List ℕ)) → role ≡ option_map (λ (c : CallerRow). c.role) (caller_named caller (tables_of old).callers)
     → or_stranger role ≡ role_of (policy h) caller
-role_read h old pictured caller role found = ap or_stranger (found ∙ in_picture h old pictured (λ t. option_map (λ (c : CallerRow). c.role) (caller_named caller t.callers))) ∙ role_told caller (policy h).callers
+role_read {h = h} {old = old} pictured caller role found = ap or_stranger (found ∙ in_picture pictured (λ t. option_map (λ (c : CallerRow). c.role) (caller_named caller t.callers))) ∙ role_told caller (policy h).callers
 
 -- the rule that is found for a caller's role on the asker's day is the one that decides
-module _ (h : History) (old : Database) (legal : IsLegal h) (pictured : Pictures h old) (day : Date) (caller : List ℕ) (asker : Asker) (is : IsAsker h day caller asker) (action : Action) (collection class : Option (List ℕ)) where
+module _ {h : History} {old : Database} (legal : IsLegal h) (pictured : Pictures h old) (day : Date) (caller : List ℕ) (asker : Asker) (is : IsAsker h day caller asker) (action : Action) (collection class : Option (List ℕ)) where
   abbrev asked : List ℕ → Question
   asked role = record { role = role; action = action; collection = collection; class = class; day = day }
 
@@ -50,7 +50,7 @@ module _ (h : History) (old : Database) (legal : IsLegal h) (pictured : Pictures
   pictured_rule : found_for (or_stranger (option_map string_bytes asker.role)) ≡ matching_rule (role_of (policy h) caller) (action_text action) (or_empty collection) (or_empty class) (epoch_day day) (rule_rows 1 (policy h).rules)
   pictured_rule =
       (λ i. found_on (is.on i) (is.role i))
-      ∙ in_picture h old pictured (λ t. matching_rule (role_of (policy h) caller) (action_text action) (or_empty collection) (or_empty class) (epoch_day day) t.rules)
+      ∙ in_picture pictured (λ t. matching_rule (role_of (policy h) caller) (action_text action) (or_empty collection) (or_empty class) (epoch_day day) t.rules)
 
   pub none_found : None ≡ found_for (or_stranger (option_map string_bytes asker.role)) → None ≡ deciding_rule h day caller action collection class
   none_found none = none_decides (policy h) (asked (role_of (policy h) caller)) (legal_policy h legal) (none ∙ pictured_rule)

@@ -25,7 +25,7 @@ use Rattle.office_asking.specs.ByRows.{IsAskedIn, IsAskerIn, IsDecisionBy, IsDen
 use Rattle.office_asking.specs.declared.asker.Asker.{Asker}
 
 -- a call that changes no row leaves an office, and what is told of the rows after it is told of those before it
-module _ (old mid : Database) (same : mid ≡ old) where
+module _ {old mid : Database} (same : mid ≡ old) where
   pub office_still : IsOffice old → IsOffice mid
   office_still = subst IsOffice (sym same)
 

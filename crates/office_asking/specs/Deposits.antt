@@ -16,6 +16,6 @@ pub record IsFoundRow (h : History) (n : ℕ) (these : Deposit → List (Option 
   pub free : first_some (these found.1) ≡ None
 
 -- the deposit's row, or the first refusal that stands
-abbrev pub IsAsked : History → ℕ → (Deposit → List (Option Refusal)) → Result DepositRow Refusal → Type 0
-IsAsked h n these (Ok row) = IsFoundRow h n these row
-IsAsked h n these (Err why) = Some why ≡ first_some (of_deposit (deposit_numbered h n) these)
+abbrev pub IsDepositAsked : History → ℕ → (Deposit → List (Option Refusal)) → Result DepositRow Refusal → Type 0
+IsDepositAsked h n these (Ok row) = IsFoundRow h n these row
+IsDepositAsked h n these (Err why) = Some why ≡ first_some (of_deposit (deposit_numbered h n) these)

@@ -10,7 +10,7 @@ ghost use Rattle.office_history.specs.Pictures as pictures;
 ghost use Rattle.office_history.specs.Refusals as refusals;
 ghost use Rattle.office_history.specs.Refusals.{kept_refusals};
 ghost use Rattle.office_asking.specs.Serving.{Finds};
-ghost use Rattle.office_asking.specs.Deposits.{IsAsked};
+ghost use Rattle.office_asking.specs.Deposits.{IsDepositAsked};
 ghost use Rattle.office_asking.specs.ByRows.{AreDaysOf, IsAskedIn, IsFirst};
 
 use crate::asker::denial;
@@ -64,7 +64,7 @@ fn unless_refused(
         → Some deposit ≡ option_map (pictures.deposit_row h n) (deposit_numbered h n)
         → denied
         ≡ refusals.denial h day caller action (Some deposit.collection) (Some deposit.class)
-        → IsAsked h n (kept_refusals h day caller action n) asked) }
+        → IsDepositAsked h n (kept_refusals h day caller action n) asked) }
     ensures kept { IfOk result (λ asked.
         IfOk asked (λ row. (row ≡ deposit) × IsFirst denied deposit None)) }
     ensures refused { IfOk result (λ asked.
@@ -95,7 +95,7 @@ pub fn kept_deposit<S: Alter>(
     ensures inside { GoesOnInside S.Store tx.old.conn tx.new.conn result }
     ensures same { Keeps S.Store tx.old.conn.now tx.new.conn.now result }
     ensures asked { Finds S.Store tx.old.conn.now tx.new.conn.now result (λ h asked.
-        IsAsked h number (kept_refusals h day caller.now action number) asked) }
+        IsDepositAsked h number (kept_refusals h day caller.now action number) asked) }
     ensures rows { Tells S.Store tx.old.conn.now tx.new.conn.now result (λ tables asked.
         IsAskedIn tables day caller.now action number asked) }
 {

@@ -14,7 +14,7 @@ use Rattle.jiff.specs.Words.{epoch_day, IsYear, IsDate, is_leap_year, days_in_mo
 use Rattle.std.proofs.lemmas.Option.{same_Some}
 use Rattle.office_core.proofs.OptionLemmas.{some_if, some_and_then}
 use Rattle.office_core.specs.Days.{first_year, last_year, first_day, last_day, first_day_number, last_day_number, IsDay, IsDayNumber, day_text, digits, is_missing}
-use Rattle.office_core.specs.DayReading.{number_of, parts_of}
+use Rattle.office_core.specs.DayReading.{number_of, day_parts}
 
 -- a date is its year, month and day
 pub same_date : (a b : Date) → a.year ≡ b.year → a.month ≡ b.month → a.day ≡ b.day → a ≡ b
@@ -89,7 +89,7 @@ assembled : (a b c d x e f y g h k l m n : ℕ) → x ≡ 45 → y ≡ 45 → (a
 assembled a b c d x e f y g h k l m n p q s t u v = rw (p, q, s.0, s.1, t.0, t.1, u.0, u.1, v.0, v.1)
 
 -- what is read is what the text writes
-pub text_of_parts : (t : List ℕ) (p : ℕ × ℕ × ℕ × ℕ) → parts_of t ≡ Some p → t ≡ parts_text p
+pub text_of_parts : (t : List ℕ) (p : ℕ × ℕ × ℕ × ℕ) → day_parts t ≡ Some p → t ≡ parts_text p
 text_of_parts (a ∷ b ∷ c ∷ d ∷ x ∷ e ∷ f ∷ y ∷ g ∷ h ∷ []) p is =
     let whole = some_if ((x == 45) && (y == 45)) _ p is in
     let century = some_and_then (number_of a b) _ p whole.1 in
@@ -111,7 +111,7 @@ pub four_digits : (d : Date) → IsDay d → unsigned_abs d.year < 10000
 four_digits d h = omega (arith, signed_arith, year_pos d.year h.0, h.1)
 
 -- a day's text is read as its parts
-pub parts_of-day : (d : Date) → IsDay d → parts_of (day_text d) ≡ Some (unsigned_abs d.year / 100, unsigned_abs d.year % 100, d.month, d.day)
+pub parts_of-day : (d : Date) → IsDay d → day_parts (day_text d) ≡ Some (unsigned_abs d.year / 100, unsigned_abs d.year % 100, d.month, d.day)
 parts_of-day d h =
     let y = unsigned_abs d.year in
     let long = days_in_month_bounds d.year d.month in
@@ -119,7 +119,7 @@ parts_of-day d h =
     rw (number-digits (y / 100) (omega (arith, below)), number-digits (y % 100) (omega arith), number-digits d.month (omega (arith, d.month_in)), number-digits d.day (omega (arith, d.day_in, long)))
 
 -- and they are its year, month and day
-pub parts_are : (d : Date) (p : ℕ × ℕ × ℕ × ℕ) → IsDay d → Some p ≡ parts_of (day_text d) → (d.year ≡ pos (p.0 * 100 + p.1)) × (d.month ≡ p.2) × (d.day ≡ p.3)
+pub parts_are : (d : Date) (p : ℕ × ℕ × ℕ × ℕ) → IsDay d → Some p ≡ day_parts (day_text d) → (d.year ≡ pos (p.0 * 100 + p.1)) × (d.month ≡ p.2) × (d.day ≡ p.3)
 parts_are d p h e =
     let q = same_Some _ _ (e ∙ parts_of-day d h) in
     (omega (arith, signed_arith, year_pos d.year h.0, ap (λ x. x.0) q, ap (λ x. x.1) q), sym (ap (λ x. x.2) q), sym (ap (λ x. x.3) q))
@@ -128,7 +128,7 @@ parts_are d p h e =
 pub day_text-injective : (a b : Date) → IsDay a → IsDay b → day_text a ≡ day_text b → a ≡ b
 day_text-injective a b in_a in_b e =
     let of_a = parts_are a _ in_a (sym (parts_of-day a in_a)) in
-    let of_b = parts_are b _ in_b (sym (parts_of-day a in_a) ∙ ap parts_of e) in
+    let of_b = parts_are b _ in_b (sym (parts_of-day a in_a) ∙ ap day_parts e) in
     same_date a b (of_a.0 ∙ sym of_b.0) (of_a.1 ∙ sym of_b.1) (of_a.2 ∙ sym of_b.2)
 
 -- a date with those parts has that text

@@ -8,7 +8,7 @@ use Rattle.jiff.specs.Types.{Date}
 use Rattle.jiff.specs.Words.{days_in_month}
 use Rattle.office_core.specs.FirstOf.{◌>>=◌}
 use Rattle.office_core.specs.Days.{first_year, last_year, IsDay, day_text}
-use Rattle.office_core.specs.DayReading.{number_of, parts_of, where_so, date_of, day_of_date, day_of}
+use Rattle.office_core.specs.DayReading.{number_of, day_parts, where_so, date_of, day_of_date, day_of}
 use Rattle.office_core.proofs.OptionLemmas.{some_if, some_and_then}
 use Rattle.office_core.proofs.DayLemmas.{year_pos, parts_of-day, text_of_parts, text_are}
 use Rattle.office_core.proofs.DueLemmas.{date_of_parts}
@@ -54,7 +54,7 @@ number_below : (a b n : ℕ) → number_of a b ≡ Some n → n < 100
 unfolding number_of
 number_below a b n e = grind (arith, rules, e)
 
-parts_below : (t : List ℕ) (p : ℕ × ℕ × ℕ × ℕ) → parts_of t ≡ Some p → p.1 < 100
+parts_below : (t : List ℕ) (p : ℕ × ℕ × ℕ × ℕ) → day_parts t ≡ Some p → p.1 < 100
 parts_below (a ∷ b ∷ c ∷ d ∷ x ∷ e ∷ f ∷ y ∷ g ∷ h ∷ []) p is =
     let whole = some_if ((x == 45) && (y == 45)) _ p is in
     let century = some_and_then (number_of a b) _ p whole.1 in
@@ -75,7 +75,7 @@ day_in_office date day e =
 
 pub written_day : (text : List ℕ) (day : Date) → day_of text ≡ Some day → IsDay day × (text ≡ day_text day)
 written_day text day e =
-    let (p, of_text, made) = some_and_then (parts_of text) _ day e in
+    let (p, of_text, made) = some_and_then (day_parts text) _ day e in
     let (date, of_parts, ends) = some_and_then (date_of (pos (p.0 * 100 + p.1)) p.2 p.3) day_of_date day made in
     let (is, same) = day_in_office date day ends in
     let are = parts_of_date (pos (p.0 * 100 + p.1)) p.2 p.3 date of_parts in

@@ -4,7 +4,7 @@ use Rattle.std.proofs.lemmas.Bool.{or_parts}
 use Rattle.std.specs.List.{list_any, filter_map, AllByRecursion}
 use Rattle.toml.specs.Data.{Data, Members, as_table}
 use Rattle.office_core.specs.FirstOf.{first_some, answer_if}
-use Rattle.office_core.specs.Policies.{caller_in, caller_entries, callers_among, callers_of, is_bad_among, rule_in, rule_values, rules_among, rules_of, first_bad, bad_rule_among, bad_rule, has_days, has_bad_version, has_unknown_key, has_bad_caller, faults, rule_of, rule_table, GivesEach, SpellsRules, SpellsCallers}
+use Rattle.office_core.specs.Policies.{caller_in, caller_entries, callers_among, callers_of, is_bad_among, rule_in, rule_values, rules_among, rules_of, first_bad, bad_rule_among, bad_rule, has_days, has_bad_version, has_unknown_key, has_bad_caller, faults, rule_of, rule_at, GivesEach, SpellsRules, SpellsCallers}
 use Rattle.office_core.specs.declared.rule.Rule.{Rule}
 use Rattle.office_core.specs.declared.policy_fault.PolicyFault.TheVariants.{BadVersion, UnknownKey, BadCaller, BadRule}
 use Rattle.office_core.proofs.OptionLemmas.{some_and_then, none_of, answer_if_none, option_map_none}
@@ -69,7 +69,7 @@ some_then f (Some x) y e = (x, refl, e)
 
 -- the rule in a place is the one that the table in that place spells
 pub rule_in_place : (tree : Members) (rules : List Rule) → SpellsRules tree rules → (place : ℕ) (rule : Rule) → slice_get rules place ≡ Some rule
-    → (ms : Members) × (rule_table tree place ≡ Some ms) × (rule_of (has_days tree) ms ≡ Some rule)
+    → (ms : Members) × (rule_at tree place ≡ Some ms) × (rule_of (has_days tree) ms ≡ Some rule)
 rule_in_place tree rules (values, are, gives) place rule at =
     let (value, there, read) = some_then (rule_in (has_days tree)) (slice_get values place) rule (sym (gives.each place) ∙ at) in
     let (ms, table, spells) = some_and_then (as_table value) (rule_of (has_days tree)) rule read in

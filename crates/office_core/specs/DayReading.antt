@@ -13,15 +13,15 @@ unfoldable pub number_of : ℕ → ℕ → Option ℕ
 number_of tens ones = if is_ascii_digit tens && is_ascii_digit ones then Some ((tens - 48) * 10 + (ones - 48)) else None
 
 -- the century, the year in it, the month and the day
-abbrev pub parts_of : List ℕ → Option (ℕ × ℕ × ℕ × ℕ)
-parts_of (a ∷ b ∷ c ∷ d ∷ p ∷ e ∷ f ∷ q ∷ g ∷ h ∷ []) =
+abbrev pub day_parts : List ℕ → Option (ℕ × ℕ × ℕ × ℕ)
+day_parts (a ∷ b ∷ c ∷ d ∷ p ∷ e ∷ f ∷ q ∷ g ∷ h ∷ []) =
     if (p == 45) && (q == 45) then (do
       century ← number_of a b
       year ← number_of c d
       month ← number_of e f
       day ← number_of g h
       Some (century, year, month, day)) else None
-parts_of _ = None
+day_parts _ = None
 
 -- what follows from the test where it passes, else none
 abbrev pub where_so : {A : Type 0} (test : Bool) → (T test → Option A) → Option A
@@ -50,6 +50,6 @@ day_of_date date = answer_if (int_le first_year date.year && int_le date.year la
 -- the day that a text writes
 abbrev pub day_of : List ℕ → Option Date
 day_of text = do
-  (century, year, month, day) ← parts_of text
+  (century, year, month, day) ← day_parts text
   date ← date_of (pos (century * 100 + year)) month day
   day_of_date date

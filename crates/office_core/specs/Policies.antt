@@ -249,8 +249,8 @@ abbrev pub SpellsRules : Members → List Rule → Type 0
 SpellsRules tree rules = (values : List Data) × (rule_values tree ≡ Some values) × GivesEach (rule_in (has_days tree)) values rules
 
 -- the table at that place, from 0, of the array `rule`
-abbrev pub rule_table : Members → ℕ → Option Members
-rule_table tree place = option_and_then as_table (option_and_then (λ values. slice_get values place) (rule_values tree))
+abbrev pub rule_at : Members → ℕ → Option Members
+rule_at tree place = option_and_then as_table (option_and_then (λ values. slice_get values place) (rule_values tree))
 
 -- the key has the text of the day, or isn't there, and the day is the one that is given
 abbrev pub IsBound : List ℕ → Date → Members → Date → Type 0

@@ -4,7 +4,7 @@ ghost use Rattle.std.specs.Prelude.{◌≡◌, ◌↔◌, ◌+◌, ◌*◌, ◌<
 ghost use Rattle.jiff.specs.Types.{Date};
 ghost use Rattle.jiff.specs.Words.{epoch_day, IsDate, IsYmd};
 ghost use Rattle.office_core.specs.Days.{first_day, last_day, IsDay, IsDayNumber, day_text};
-ghost use Rattle.office_core.specs.DayReading.{number_of, parts_of, day_of};
+ghost use Rattle.office_core.specs.DayReading.{number_of, day_parts, day_of};
 
 use crate::date::Date;
 use jiff_core::civil;
@@ -70,7 +70,7 @@ fn number(tens: u8, ones: u8) -> Option<u8>
 /// The century, the year in it, the month and the day that a text writes.
 fn parts(text: &[u8]) -> Option<(u8, u8, u8, u8)>
     ensures bound { IfSome result (λ p. (p.0 < 100) × (p.1 < 100) × (p.2 < 100) × (p.3 < 100)) }
-    ensures value { result ≡ parts_of text.now }
+    ensures value { result ≡ day_parts text.now }
 {
     match text {
         [a, b, c, d, b'-', e, f, b'-', g, h] => {

@@ -20,7 +20,7 @@ use Rattle.office_history.proofs.Accepted.{grown_by_none}
 use Rattle.office_asking.specs.Pictures.{Pictures}
 use Rattle.office_asking.specs.Serving.{Decides, Finds, IsServed}
 use Rattle.office_engine.specs.ByRows.{RowsTell}
-use Rattle.office_engine.specs.Keeping.{CommitsTo, IsKeptBy, IsLeftOf, IsReached, IsToldByRows, IsTurn, KeepsTables, LeavesAlso, LeavesEither, StaysShut, after_item, is_accepted}
+use Rattle.office_engine.specs.Keeping.{CommitsTo, IsKeptBy, IsLeftOf, IsLegalAndKept, IsToldByRows, IsTurn, KeepsTables, LeavesAlso, LeavesEither, StaysShut, after_item, is_accepted}
 use Rattle.office_engine.proofs.Accepted.{no_change}
 
 -- while the store is open, a crash leaves what is committed
@@ -106,7 +106,7 @@ module _ {S T : Type 0} (g : Ghosts S) (first last end : Held S) (is_so : Histor
     (stays : CommitsNothing g (record first { in_transaction = true }) last) where
   pub found_kept : (found : Result T TableFault) → Continues g (record first { in_transaction = true }) last found → Finds g (record first { in_transaction = true }) last found is_so
       → HasCleanDisk (state g last) → IsRolledBack (state g last) (state g end)
-      → IfOk found (λ x. (h : History) → IsLegal h → IsKeptBy h (state g first) → IsReached h (state g end) × is_so h x)
+      → IfOk found (λ x. (h : History) → IsLegal h → IsKeptBy h (state g first) → IsLegalAndKept h (state g end) × is_so h x)
   found_kept (Err e) goes finds clean back = tt
   found_kept (Ok x) goes finds clean back = λ h legal keeps.
       let ok : Result T TableFault = Ok x in

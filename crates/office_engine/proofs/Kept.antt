@@ -10,7 +10,7 @@ use Rattle.office_history.specs.Histories.{History}
 use Rattle.office_history.specs.Pictures.{picture}
 use Rattle.office_history.specs.Runs.{IsLegal, new_history}
 use Rattle.office_history.proofs.RangeLemmas.{limits_hold}
-use Rattle.office_recovery.specs.Found.{GoesOnAs, Shows}
+use Rattle.office_tables.specs.Found.{GoesOnAs, ShowsCommitted}
 use Rattle.office_asking.specs.Pictures.{Pictures}
 use Rattle.office_engine.specs.Keeping.{IsKeptBy, IsLeftOf}
 
@@ -18,7 +18,7 @@ pub rows_left : (h : History) (left : Trees) → IsLeftOf h left → IsLeft (pic
 rows_left h left it = (it.0, record { office = it.1.office; are = it.1.are }, it.2)
 
 -- what shows a database that pictures a history keeps that history
-pub shown_kept : (h : History) (db : Database) (s : State) → Pictures h db → Shows db s → IsKeptBy h s
+pub shown_kept : (h : History) (db : Database) (s : State) → Pictures h db → ShowsCommitted db s → IsKeptBy h s
 shown_kept h db s pictured shows is_open = let it = shows is_open in (subst (Pictures h) (sym it.0) pictured, it.1)
 
 -- what was left goes on as the history that it pictures

@@ -8,7 +8,7 @@ use Rattle.sqlite.specs.State.{State}
 use Rattle.office_core.specs.declared.answer.Answer.{Answer}
 use Rattle.office_history.specs.Histories.{History}
 use Rattle.office_history.specs.Runs.{Item}
-use Rattle.office_recovery.specs.Found.{HoldsWhere, PicksUp}
+use Rattle.office_tables.specs.Found.{HoldsWhere, PicksUp}
 use Rattle.office_engine.specs.Keeping.{IsKeptBy, IsKeptOfRun, IsLeftOf, IsLeftOfEither, IsLeftOfRun}
 use Rattle.office_engine.proofs.Kept.{shown_kept}
 

@@ -42,7 +42,7 @@ tells_no_other version h db told is = one_told (office_row (version_number versi
     ]
 
 -- the tables of a legal history tell their version
-tells : (version : TableVersion) (h : History) (db : Database) → IsLegal h → rows.Tells version (rows_of version h db)
+tells : (version : TableVersion) (h : History) (db : Database) → IsLegal h → rows.TellsVersion version (rows_of version h db)
 tells version h db legal = let within = limits_hold h legal in rw (within.deposits_limit, within.holds_limit) refl
 
 becomes : (version : TableVersion) (h : History) (db : Database) → PicturesAt version h db → BecomesAt version db (rows_of version h db)
@@ -125,7 +125,7 @@ pub opens_older : (old new : State) → rows.OpensOlder old new → OpensOlder o
 opens_older old new opens version h older legal was_open left = opens version (rows_of version h left.0) older (tells version h left.0 legal) was_open (left_rows version h old.now.trees left)
 
 -- of an office of a known version, and of what was left of one, nothing but a failure is said
-pub left_fails : (stopped : TableFault) (old : State) → ((version : TableVersion) (all : AllRows) → rows.Tells version all → rows.IsLeftAt version all old.now.trees → IsFailure stopped)
+pub left_fails : (stopped : TableFault) (old : State) → ((version : TableVersion) (all : AllRows) → rows.TellsVersion version all → rows.IsLeftAt version all old.now.trees → IsFailure stopped)
     → (version : TableVersion) (h : History) → IsLegal h → IsLeftAt version h old.now.trees → IsFailure stopped
 left_fails stopped old fails version h legal left = fails version (rows_of version h left.0) (tells version h left.0 legal) (left_rows version h old.now.trees left)
 

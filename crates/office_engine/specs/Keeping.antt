@@ -63,13 +63,13 @@ abbrev pub after_item : Item → History → History
 after_item item h = after h item.0 item.1.now item.2
 
 -- the history that a step or a run leads to: it is legal, and kept
-pub record IsReached (next : History) (new : State) : Type 0 where
+pub record IsLegalAndKept (next : History) (new : State) : Type 0 where
   pub legal : IsLegal next
   pub kept : IsKeptBy next new
 
 -- whichever legal history was kept, this is a step from it, and the history that it leads to is kept
 abbrev pub Serves : State → State → Item → Answer → Type 0
-Serves old new item given = (h : History) → IsLegal h → IsKeptBy h old → (next : History) × Step h item given next × IsReached next new
+Serves old new item given = (h : History) → IsLegal h → IsKeptBy h old → (next : History) × Step h item given next × IsLegalAndKept next new
 
 -- after an answer that accepts a change, a crash leaves the tables of the history with the change, and nothing else
 abbrev pub Lasts : State → State → Item → Answer → Type 0
@@ -137,7 +137,7 @@ AllStayShut old new given = old.is_open ≡ false → All IsFailure given × (ne
 
 -- whichever legal history was kept, the answers are those of a run from it, and the history that it leads to is kept
 abbrev pub Runs : State → State → List Item → List Answer → Type 0
-Runs old new items given = (h : History) → IsLegal h → IsKeptBy h old → (next : History) × Run h items given next × IsReached next new
+Runs old new items given = (h : History) → IsLegal h → IsKeptBy h old → (next : History) × Run h items given next × IsLegalAndKept next new
 
 -- ---- what is left of a run
 
@@ -180,7 +180,7 @@ after_policy policy h = with_changes h (Installed policy ∷ [])
 
 -- whichever legal history was kept, it is kept with the policy
 abbrev pub Installs : State → State → PolicyValue → Type 0
-Installs old new policy = (h : History) → IsLegal h → IsKeptBy h old → IsReached (after_policy policy h) new
+Installs old new policy = (h : History) → IsLegal h → IsKeptBy h old → IsLegalAndKept (after_policy policy h) new
 
 -- and a crash leaves that, and nothing else
 abbrev pub InstallLasts : State → State → PolicyValue → Type 0
@@ -190,7 +190,7 @@ InstallLasts old new policy = (h : History) → IsLegal h → IsKeptBy h old →
 
 -- whichever legal history was kept, it still is, and these are the deposits that the caller may destroy on that day
 abbrev pub ListsDue : State → State → Date → List ℕ → List ℕ → Type 0
-ListsDue old new day caller numbers = (h : History) → IsLegal h → IsKeptBy h old → IsReached h new × (numbers ≡ due_list h day caller)
+ListsDue old new day caller numbers = (h : History) → IsLegal h → IsKeptBy h old → IsLegalAndKept h new × (numbers ≡ due_list h day caller)
 
 -- whatever rows the tables of an office held, these are the numbers that they told
 abbrev pub AreToldDue : State → Date → List ℕ → List ℕ → Type 0
@@ -200,7 +200,7 @@ AreToldDue old day caller numbers = IsOffice old.now → AreDueIn (tables_of old
 
 -- whichever legal history was kept, it still is, and this is its stock
 abbrev pub CountsStock : State → State → Stock → Type 0
-CountsStock old new found = (h : History) → IsLegal h → IsKeptBy h old → IsReached h new × (found ≡ stock h)
+CountsStock old new found = (h : History) → IsLegal h → IsKeptBy h old → IsLegalAndKept h new × (found ≡ stock h)
 
 -- whatever contents the tables of an office held, it is the count of them
 abbrev pub IsToldStock : State → Stock → Type 0

@@ -19,12 +19,12 @@ ghost use Rattle.office_rows.specs.Rows.{this_version, version_of};
 ghost use Rattle.office_history.specs.Histories.{History};
 ghost use Rattle.office_history.specs.Answers.{after};
 ghost use Rattle.office_history.specs.Runs.{IsLegal, Item, new_history};
-ghost use Rattle.office_recovery.specs.Found.{HoldsWhere, PicksUp};
+ghost use Rattle.office_tables.specs.Found.{HoldsWhere, PicksUp};
 ghost use Rattle.office_tables.specs.Versions.{IsOfficeAt, tables_at, version_number};
 ghost use Rattle.office_tables.specs.Moving.{AllRows, BecomesAt};
 ghost use Rattle.office_tables.specs.declared.version.TableVersion.{TableVersion};
 ghost use Rattle.office_upgrade.specs.Upgrading as rows;
-ghost use Rattle.office_upgrade.specs.Upgrading.{HasUnknownVersion, IsOlder, IsUpgrade, NewestSurvives, Tells, TellsKnown, TellsUnknown};
+ghost use Rattle.office_upgrade.specs.Upgrading.{HasUnknownVersion, IsOlder, IsUpgrade, NewestSurvives, TellsVersion, TellsKnown, TellsUnknown};
 ghost use Rattle.office_engine.specs.Upgrading.{GoesBackAt, IsUpgradeOf, LeavesAt, OpensOlder, StaysAt, TakesUp, UpgradeLasts, Upgrades};
 ghost use Rattle.office_engine.specs.Keeping.{AllStayShut, AreToldDue, CommitsRun, CommitsTo, CountsStock, InTurn, InstallLasts, Installs, IsKeptBy, IsKeptOfRun, IsLeftAt, IsLeftOf, IsLeftOfEither, IsLeftOfRun, IsToldByRows, IsToldStock, Lasts, LeavesEither, LeavesInstalled, LeavesKept, LeavesMade, LeavesRun, ListsDue, Runs, Serves, StaysShut, after_item, is_accepted, after_policy};
 
@@ -32,9 +32,8 @@ use crate::installing::install;
 use crate::listing::{due_list, stock};
 use crate::serving::serve;
 use office_core::{Answer, Day, Limits, Policy, Request};
-use office_recovery::{reopen_files, stop};
 use office_serving::Stock;
-use office_tables::TableFault;
+use office_tables::{TableFault, adopt, reopen_files, stop};
 use sqlite::{Alter, Connection, FileStore, Files, Options};
 use sqlite_disk::Disk;
 use std::alloc::{AllocError, Global};
@@ -160,7 +159,7 @@ impl<S: Alter> Office<S> {
             → IsOfficeAt version (state S.Store conn).now → e.1 ≡ OtherVersion
             → IsKnownAsOther (tables_at version (state S.Store conn).now) this_version) }
     {
-        match office_recovery::adopt(conn) {
+        match adopt(conn) {
             Ok(conn) => Ok(Office { conn }),
             Err(refused) => Err(refused),
         }
@@ -271,11 +270,11 @@ impl<S: Alter> Office<S> {
             → IsLeftAt version h (state S.Store conn).now.trees → faults.IsFailure e.1) }
         ensures failure { IfErr result (λ e.
             HasCleanDisk (state S.Store e.0) → (version : TableVersion) (all : AllRows)
-            → BecomesAt version (state S.Store conn).now all → Tells version all
+            → BecomesAt version (state S.Store conn).now all → TellsVersion version all
             → faults.IsFailure e.1) }
         ensures left_failure { IfErr result (λ e.
             HasCleanDisk (state S.Store e.0) → IsTrue (state S.Store conn).is_open
-            → (version : TableVersion) (all : AllRows) → Tells version all
+            → (version : TableVersion) (all : AllRows) → TellsVersion version all
             → rows.IsLeftAt version all (state S.Store conn).now.trees → faults.IsFailure e.1) }
     {
         match office_upgrade::upgrade_office(conn) {

@@ -13,7 +13,7 @@ ghost use Rattle.office_engine.specs.Keeping.{CommitsTo, IsTurn, after_item, is_
 use office_core::{Answer, Day, Refusal, Request};
 use office_defining::{define_class, define_collection};
 use office_holding::{hold_class, hold_collection, hold_deposit, release};
-use office_keeping::{deposit, dispose};
+use office_keeping::{DepositAsked, deposit, dispose};
 use office_serving::{audit, download_bag, download_file, due_list, holds, list, record};
 use office_tables::TableFault;
 use sqlite::{Alter, Connection, Transaction};
@@ -69,9 +69,17 @@ fn decide<S: Alter>(
             accession,
             closed,
             bag,
-        } => deposit(
-            alloc, tx, day, caller, collection, class, accession, *closed, bag,
-        ),
+        } => {
+            let asked = DepositAsked {
+                day,
+                caller,
+                collection,
+                class,
+                accession,
+                closed: *closed,
+            };
+            deposit(alloc, tx, &asked, bag)
+        }
         Request::HoldDeposit { deposit, matter } => {
             hold_deposit(tx, day, caller, *deposit, matter)
         }

@@ -6,7 +6,7 @@ use Rattle.std.proofs.lemmas.List.{map-append, take_more}
 use Rattle.std.proofs.lemmas.List.Elements.{filter-append}
 use Rattle.std.proofs.lemmas.Slice.Eq.{bytes_eq-Decides}
 use Rattle.office_rows.specs.Told.{PlaceRow}
-use Rattle.office_serving.specs.Allowances.{Pair, same_pair}
+use Rattle.office_serving.specs.Allowances.{CollectionAndClass, same_pair}
 
 both : (a b : Bool) → (a && b) ≡ true → (a ≡ true) × (b ≡ true)
 both true b e = (refl, e)
@@ -14,15 +14,15 @@ both false b e = absurd cc
 
 -- whichever thing is known of a pair by its texts
 module _ (IsSo : List ℕ → List ℕ → Bool → Type 0) {S : Type 0} where
-  abbrev pub AreRight : HashMap Pair Bool S → Type 0
-  AreRight known = (pair : Pair) → IfSome (get same_pair known pair) (IsSo pair.0.now pair.1.now)
+  abbrev pub AreRight : HashMap CollectionAndClass Bool S → Type 0
+  AreRight known = (pair : CollectionAndClass) → IfSome (get same_pair known pair) (IsSo pair.0.now pair.1.now)
 
   -- of a pair that is known
-  pub known_right : (known : HashMap Pair Bool S) → AreRight known → (pair : Pair) (is : Bool) → Some is ≡ get same_pair known pair → IsSo pair.0.now pair.1.now is
+  pub known_right : (known : HashMap CollectionAndClass Bool S) → AreRight known → (pair : CollectionAndClass) (is : Bool) → Some is ≡ get same_pair known pair → IsSo pair.0.now pair.1.now is
   known_right known right pair is e = subst (λ o. IfSome o (IsSo pair.0.now pair.1.now)) (sym e) (right pair)
 
   -- one pair more
-  pub more_right : (known more : HashMap Pair Bool S) → AreRight known → (pair : Pair) (is : Bool) → Updates same_pair known more pair (Some is) → IsSo pair.0.now pair.1.now is → AreRight more
+  pub more_right : (known more : HashMap CollectionAndClass Bool S) → AreRight known → (pair : CollectionAndClass) (is : Bool) → Updates same_pair known more pair (Some is) → IsSo pair.0.now pair.1.now is → AreRight more
   more_right known more right pair is updates answer q = subst (λ o. IfSome o (IsSo q.0.now q.1.now)) (sym (updates.0 q)) (by (same_pair pair q) refl)
     where
       by : (b : Bool) → same_pair pair q ≡ b → IfSome (cond b (Some is) (get same_pair known q)) (IsSo q.0.now q.1.now)

@@ -17,7 +17,7 @@ use Rattle.office_core.specs.declared.retention.Due.{Due}
 use Rattle.office_core.specs.declared.retention.Due.TheVariants.{On, Never}
 use Rattle.office_rows.proofs.Order.{map_back}
 use Rattle.office_rows.specs.Rows.{DepositRow, DueRow, Tables, beside, least_number, is_by, is_disposable, this_version}
-use Rattle.office_rows.specs.Told.{PlaceRow, place_of, due_places}
+use Rattle.office_rows.specs.Told.{PlaceRow, place_row, due_places}
 use Rattle.office_history.specs.Lists.{numbers}
 use Rattle.office_history.specs.Histories.{History, Deposit, deposits, deposit_numbered, destruction_day, due, live_holds, least_hold}
 use Rattle.office_history.specs.Pictures.{due_number, picture}
@@ -83,7 +83,7 @@ twice false a c d = refl
 
 module _ (h : History) (day : Date) (caller : List ℕ) where
   abbrev passes : DepositRow × DueRow → Bool
-  passes p = is_disposable (epoch_day day) p && may_destroy h day caller (place_of p)
+  passes p = is_disposable (epoch_day day) p && may_destroy h day caller (place_row p)
 
   disposable_is : (n : ℕ) (x : Date × Deposit) → is_disposable (epoch_day day) (both h n x)
       ≡ (is_none (destruction_day h n) && (is_none (least_hold h n x.1) && is_none (not_due_refusal h day x.1)))
@@ -99,20 +99,20 @@ module _ (h : History) (day : Date) (caller : List ℕ) where
 
   passing_is : (n : ℕ) (x : Date × Deposit) → deposit_numbered h n ≡ Some x → passes (both h n x) ≡ is_due h day caller n
   passing_is n x there =
-      ap (λ b. b && may_destroy h day caller (place_of (both h n x))) (disposable_is n x)
+      ap (λ b. b && may_destroy h day caller (place_row (both h n x))) (disposable_is n x)
       ∙ sym (twice (is_none (destruction_day h n)) (is_none (denial_at h day caller acts.Dispose x.1)) (is_none (least_hold h n x.1)) (is_none (not_due_refusal h day x.1)))
       ∙ ap (λ b. is_none (destruction_day h n) && b) (sym (refused_is n x there))
 
   -- ---- all of them
 
-  filter_twice : (xs : List (DepositRow × DueRow)) → filter (λ p. may_destroy h day caller (place_of p)) (filter (is_disposable (epoch_day day)) xs) ≡ filter passes xs
+  filter_twice : (xs : List (DepositRow × DueRow)) → filter (λ p. may_destroy h day caller (place_row p)) (filter (is_disposable (epoch_day day)) xs) ≡ filter passes xs
   filter_twice [] = refl
   filter_twice (x ∷ xs) = by (is_disposable (epoch_day day) x) (filter_twice xs)
     where
-      by : (b : Bool) → filter (λ p. may_destroy h day caller (place_of p)) (filter (is_disposable (epoch_day day)) xs) ≡ filter passes xs
-          → filter (λ p. may_destroy h day caller (place_of p)) (cond b (x ∷ filter (is_disposable (epoch_day day)) xs) (filter (is_disposable (epoch_day day)) xs))
-          ≡ cond (b && may_destroy h day caller (place_of x)) (x ∷ filter passes xs) (filter passes xs)
-      by true rest = ap (λ ps. cond (may_destroy h day caller (place_of x)) (x ∷ ps) ps) rest
+      by : (b : Bool) → filter (λ p. may_destroy h day caller (place_row p)) (filter (is_disposable (epoch_day day)) xs) ≡ filter passes xs
+          → filter (λ p. may_destroy h day caller (place_row p)) (cond b (x ∷ filter (is_disposable (epoch_day day)) xs) (filter (is_disposable (epoch_day day)) xs))
+          ≡ cond (b && may_destroy h day caller (place_row x)) (x ∷ filter passes xs) (filter passes xs)
+      by true rest = ap (λ ps. cond (may_destroy h day caller (place_row x)) (x ∷ ps) ps) rest
       by false rest = rest
 
   -- the numbers of the disposable rows that the rules allow
@@ -120,8 +120,8 @@ module _ (h : History) (day : Date) (caller : List ℕ) where
   due_told =
       let pairs = filter (is_disposable (epoch_day day)) (beside (picture this_version h).deposits (picture this_version h).dues) in
       let number : DepositRow × DueRow → ℤ = λ p. p.0.number in
-      let moved : map (λ (p : PlaceRow). p.number) (filter (may_destroy h day caller) (due_places (epoch_day day) (picture this_version h))) ≡ map number (filter (λ p. may_destroy h day caller (place_of p)) pairs) =
-      ap (map (λ (p : PlaceRow). p.number)) (filter-map (may_destroy h day caller) place_of pairs) ∙ map-map (λ (p : PlaceRow). p.number) place_of (filter (λ p. may_destroy h day caller (place_of p)) pairs) in
+      let moved : map (λ (p : PlaceRow). p.number) (filter (may_destroy h day caller) (due_places (epoch_day day) (picture this_version h))) ≡ map number (filter (λ p. may_destroy h day caller (place_row p)) pairs) =
+      ap (map (λ (p : PlaceRow). p.number)) (filter-map (may_destroy h day caller) place_row pairs) ∙ map-map (λ (p : PlaceRow). p.number) place_row (filter (λ p. may_destroy h day caller (place_row p)) pairs) in
       moved ∙ ap (map number) (filter_twice (beside (picture this_version h).deposits (picture this_version h).dues)) ∙ ap (λ ps. map number (filter passes ps)) (rows_beside h)
       ∙ numbers_passing (both h) number (λ m x. refl) passes (is_due h day caller) (deposits h) 1 (λ i x e.
       let one : suc i ≡ 1 + i = omega arith in passing_is (1 + i) x (subst (λ k. deposit_numbered h k ≡ Some x) one e))

@@ -87,11 +87,11 @@ files_back : (n : ℕ) (files : List File) → map file_in (map (file_row n) fil
 files_back n [] = refl
 files_back n (f ∷ files) = ap (λ (fs : List File). f ∷ fs) (files_back n files)
 
-pub bag_read : (h : History) (db : Database) → Pictures h db → (n : ℕ) (found : Date × Deposit) → deposit_numbered h n ≡ Some found → destruction_day h n ≡ None → IsBag found.1.bag
+pub bag_read : {h : History} {db : Database} → Pictures h db → (n : ℕ) (found : Date × Deposit) → deposit_numbered h n ≡ Some found → destruction_day h n ≡ None → IsBag found.1.bag
     → (rows : List FileRow) → rows ≡ files_by_path (pos n) (tables_of db) → map file_in rows ≡ found.1.bag
-bag_read h db pictured n found there kept is rows e =
+bag_read {h = h} {db = db} pictured n found there kept is rows e =
     let all : rows ≡ map (file_row n) found.1.bag =
-    e ∙ in_picture h db pictured (files_by_path (pos n)) ∙ ap (sort_by path_cmp) (files_at h n found there kept) ∙ in_path_order n [] found.1.bag is.ascending in
+    e ∙ in_picture pictured (files_by_path (pos n)) ∙ ap (sort_by path_cmp) (files_at h n found there kept) ∙ in_path_order n [] found.1.bag is.ascending in
     ap (map file_in) all ∙ files_back n found.1.bag
 
 -- ---- one file of it
@@ -114,9 +114,9 @@ content_of_row n path (f ∷ files) = by (bytes_eq f.path path) (content_of_row 
     by false rest = rest
 
 -- the content at a path of a kept bag, read from its row
-pub content_read : (h : History) (db : Database) → Pictures h db → (n : ℕ) (found : Date × Deposit) → deposit_numbered h n ≡ Some found → destruction_day h n ≡ None
+pub content_read : {h : History} {db : Database} → Pictures h db → (n : ℕ) (found : Date × Deposit) → deposit_numbered h n ≡ Some found → destruction_day h n ≡ None
     → (path : List ℕ) (content : Option (List ℕ)) → content ≡ option_map (λ (f : FileRow). f.content) (file_at (pos n) path (tables_of db).files) → content ≡ content_at found.1.bag path
-content_read h db pictured n found there kept path content e =
-    e ∙ in_picture h db pictured (λ t. option_map (λ (f : FileRow). f.content) (file_at (pos n) path t.files))
+content_read {h = h} {db = db} pictured n found there kept path content e =
+    e ∙ in_picture pictured (λ t. option_map (λ (f : FileRow). f.content) (file_at (pos n) path t.files))
     ∙ ap (option_map (λ (f : FileRow). f.content)) (first_of_both (is_file_of (pos n)) (λ f. bytes_eq f.path path) (file_rows h) ∙ ap (find (λ f. bytes_eq f.path path)) (files_at h n found there kept))
     ∙ content_of_row n path found.1.bag

@@ -10,10 +10,10 @@ use Rattle.office_asking.specs.Asking.{IsAsker}
 use Rattle.office_serving.specs.declared.allowances.Allowances.{Allowances}
 
 -- a collection and a class
-abbrev pub Pair : Type 0
-Pair = Bor (List ℕ) × Bor (List ℕ)
+abbrev pub CollectionAndClass : Type 0
+CollectionAndClass = Bor (List ℕ) × Bor (List ℕ)
 
-abbrev pub same_pair : Pair → Pair → Bool
+abbrev pub same_pair : CollectionAndClass → CollectionAndClass → Bool
 same_pair a b = bytes_eq a.0.now b.0.now && bytes_eq a.1.now b.1.now
 
 -- on this day the rules let the caller do that with the deposits of this collection and this class
@@ -24,4 +24,4 @@ is_allowed h day caller action collection class = is_none (denial h day caller a
 pub record AreOf (h : History) (day : Date) (caller : List ℕ) (action : Action) (these : Allowances) : Type 0 where
   pub asker : IsAsker h day caller these.asker.now
   pub action_is : these.action ≡ action
-  pub right : (pair : Pair) → IfSome (get same_pair these.known pair) (λ is. is ≡ is_allowed h day caller action pair.0.now pair.1.now)
+  pub right : (pair : CollectionAndClass) → IfSome (get same_pair these.known pair) (λ is. is ≡ is_allowed h day caller action pair.0.now pair.1.now)

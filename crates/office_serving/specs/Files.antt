@@ -5,7 +5,7 @@ use Rattle.office_core.specs.declared.refusal.Refusal.{Refusal}
 use Rattle.office_rows.specs.Rows.{DepositRow, FileRow, Tables}
 use Rattle.office_tables.specs.Deposits.{files_by_path}
 use Rattle.office_history.specs.Histories.{History, Deposit}
-use Rattle.office_asking.specs.Deposits.{IsAsked, IsFoundRow}
+use Rattle.office_asking.specs.Deposits.{IsDepositAsked, IsFoundRow}
 
 -- the file of a row
 abbrev pub file_in : FileRow → File
@@ -23,6 +23,6 @@ pub record AreThere (h : History) (n : ℕ) (these : Deposit → List (Option Re
   pub bag : IsBag it.found.1.bag
 
 -- the rows of the files of the deposit's bag, or the first refusal that stands
-abbrev pub AreAsked : {A : Type 0} → History → ℕ → (Deposit → List (Option Refusal)) → Result (Vec FileRow A) Refusal → Type 0
-AreAsked h n these (Ok rows) = AreThere h n these (map file_in rows.items)
-AreAsked h n these (Err why) = IsAsked h n these (Err why)
+abbrev pub AreFilesAsked : {A : Type 0} → History → ℕ → (Deposit → List (Option Refusal)) → Result (Vec FileRow A) Refusal → Type 0
+AreFilesAsked h n these (Ok rows) = AreThere h n these (map file_in rows.items)
+AreFilesAsked h n these (Err why) = IsDepositAsked h n these (Err why)

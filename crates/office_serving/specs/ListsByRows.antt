@@ -20,7 +20,7 @@ use Rattle.office_tables.specs.Tables.{contents_of}
 use Rattle.office_history.specs.Answers.{is_asked}
 use Rattle.office_history.specs.Stocks.{Stock}
 use Rattle.office_asking.specs.ByRows.{IsAskerIn, IsDenialIn}
-use Rattle.office_serving.specs.Allowances.{Pair, same_pair}
+use Rattle.office_serving.specs.Allowances.{CollectionAndClass, same_pair}
 use Rattle.office_serving.specs.FilesByRows.{IsAnswerIn}
 use Rattle.office_serving.specs.Told.{IsRecordOf}
 use Rattle.office_serving.specs.declared.allowances.Allowances.{Allowances}
@@ -37,7 +37,7 @@ pub record IsAllowedIn (t : Tables) (day : Date) (caller : List ℕ) (action : A
 pub record AreIn (t : Tables) (day : Date) (caller : List ℕ) (action : Action) (these : Allowances) : Type 0 where
   pub asker : IsAskerIn t day caller these.asker.now
   pub action_is : these.action ≡ action
-  pub right : (pair : Pair) → IfSome (get same_pair these.known pair) (IsAllowedIn t day caller action pair.0.now pair.1.now)
+  pub right : (pair : CollectionAndClass) → IfSome (get same_pair these.known pair) (IsAllowedIn t day caller action pair.0.now pair.1.now)
 
 -- ---- what is told of rows, one after another
 

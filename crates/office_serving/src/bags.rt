@@ -10,7 +10,7 @@ ghost use Rattle.office_tables.specs.Calls.{GoesOnInside, Keeps, Tells};
 ghost use Rattle.office_tables.specs.Deposits.{files_by_path};
 ghost use Rattle.office_history.specs.Refusals.{kept_refusals};
 ghost use Rattle.office_asking.specs.Serving.{Finds, Decides};
-ghost use Rattle.office_serving.specs.Files.{file_in, AreAsked};
+ghost use Rattle.office_serving.specs.Files.{file_in, AreFilesAsked};
 ghost use Rattle.office_serving.specs.FilesByRows.{AreAskedIn, IsBagIn};
 
 use bag_text::{BagSet, SetFault, write_bagset};
@@ -93,7 +93,7 @@ pub fn kept_files<S: Alter>(
 ) -> Result<Result<Vec<FileRow>, Refusal>, TableFault>
     ensures inside { GoesOnInside S.Store tx.old.conn tx.new.conn result }
     ensures asked { Finds S.Store tx.old.conn.now tx.new.conn.now result (λ h asked.
-        AreAsked h number (kept_refusals h day caller.now action number) asked) }
+        AreFilesAsked h number (kept_refusals h day caller.now action number) asked) }
     // Whatever the tables of the office hold, these are the rows that stand there.
     ensures stored { Tells S.Store tx.old.conn.now tx.new.conn.now result (λ tables asked.
         IfOk asked (λ rows. rows.items ≡ files_by_path (pos number) tables)) }

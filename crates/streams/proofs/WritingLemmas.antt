@@ -3,7 +3,7 @@ use Rattle.std.proofs.Common.{◌≡◌, ◌∙◌, ◌+◌, [], ℕ, List, Opti
 use Rattle.std.proofs.lemmas.List.{append-nil, drop-drop}
 use Rattle.std.proofs.KnownBytes.{Appends-trans, Appends-kept}
 use Rattle.std.specs.Io.KnownBytes.{Appends, Keeps}
-use Rattle.streams.specs.Writing.{BeginsWith}
+use Rattle.streams.specs.Writing.{GoesOnWith}
 
 -- a beginning of the text is taken, and the rest is left
 pub record HasTaken (text rest : List ℕ) (old new : Option (List ℕ)) : Type 0 where
@@ -25,5 +25,5 @@ no_more_taken text rest old mid new is kept =
     record { count = is.count; left = is.left; front = Appends-kept old mid new (take is.count text) is.front kept }
 
 -- a text that was taken whole, with nothing after it
-pub begins_with : (text : List ℕ) (old new : Option (List ℕ)) → Appends old new text → BeginsWith text old new
+pub begins_with : (text : List ℕ) (old new : Option (List ℕ)) → Appends old new text → GoesOnWith text old new
 begins_with text old new taken = ([], subst (Appends old new) (sym (append-nil text)) taken)

@@ -2,6 +2,7 @@ use Rattle.std.proofs.Common.{OnOk, pos, w64, rules}
 use Rattle.std.proofs.lemmas.Int.{to_z-of_z}
 use Rattle.std.proofs.lemmas.Result.{on_ok_weaker}
 use Rattle.jiff.specs.Words.{IsBetween}
+use Rattle.office_tables.proofs.InTurn.{inside_as, whatever}
 use Rattle.office_asking.proofs.due.check_count.Goals as goal
 
 pub returns-clause-rows : goal.returns-clause-rows
@@ -11,12 +12,7 @@ returns-clause-rows g c clean office =
     on_ok_weaker c.check_between.result (λ is. record { limits = record { max_deposits = pos most.max_deposits; max_holds = pos most.max_holds }; are = c.in_ok-limits.ensures.found clean office; is = is }) between
 
 pub returns-clause-same : goal.returns-clause-same
-returns-clause-same g c clean office = on_ok_weaker c.check_between.result (λ _. c.in_ok-limits.ensures.same clean office) c.check_between.ensures.between
+returns-clause-same g c clean office = whatever c.check_between.result (c.in_ok-limits.ensures.same clean office)
 
 pub returns-clause-inside : goal.returns-clause-inside
-returns-clause-inside g c = record {
-  same_reference = search rules;
-  stays = search rules;
-  goes_on = λ clean. on_ok_weaker c.check_between.result (λ _. c.in_ok-limits.ensures.inside.goes_on clean) c.check_between.ensures.between;
-  failure = search rules;
-}
+returns-clause-inside g c = inside_as c.in_ok-limits.ensures.inside _ (search rules)

@@ -1,16 +1,14 @@
 use Rattle.std.proofs.Common.{rules, ◌≡◌, sym, subst, ◌∙◌, pos, IfSome, Some, w64}
 use mir.Val.{SFits}
 use Rattle.std.proofs.lemmas.Int.{to_z-of_z}
-use Rattle.sqlite.specs.State.{HasCleanDisk}
 use Rattle.sqlite.specs.Held.{state}
-use Rattle.sql_meaning.proofs.Inside.{stands_then, stays_then}
 use Rattle.office_tables.specs.Tables.{tables_of}
 use Rattle.office_tables.specs.declared.fault.TableFault.TheVariants.{Store}
 use Rattle.office_asking.specs.ByRows.{IsLeastIn}
-use Rattle.office_asking.proofs.InTurn.{clean_before, goes_twice, stands_still, stays_still}
 use Rattle.office_asking.proofs.Readings.{pictured_still}
 use Rattle.office_asking.proofs.RowsTold.{office_still, there_is, told_before}
 use Rattle.office_asking.proofs.DuesTold.{unheld}
+use Rattle.office_tables.proofs.InTurn.{clean_first, in_turn, inside_after, inside_failed, none_called}
 use Rattle.office_asking.proofs.due.counted_hold.Goals as goal
 
 pub returns-then-count-eq0-clause-least : goal.returns-then-count-eq0-clause-least
@@ -23,50 +21,28 @@ returns-then-count-eq0-clause-rows g c clean office = search rules
 
 pub returns-clause-least : goal.returns-clause-least
 returns-clause-least g c clean h legal pictured =
-    let old = state g.S.Store c.args.tx.now.conn.now in
-    let mid = state g.S.Store c.check_count.new.tx.conn.now in
-    let early : HasCleanDisk mid = clean_before mid (state g.S.Store c.least_hold.new.tx.conn.now) c.least_hold.ensures.inside.stays clean in
-    let still = pictured_still h old.now pictured mid.now (c.in_ok-check_count.ensures.same early pictured.office) in
+    let early = clean_first c.least_hold.ensures.inside.stays clean in
+    let still = pictured_still pictured (c.in_ok-check_count.ensures.same early pictured.office) in
     let found = c.in_ok-found.ensures.least clean h legal still in
     let some : Some c.in_ok-hold.hold ≡ c.in_ok-found.found = there_is c.in_ok-found.found Store c.in_ok-hold.hold c.in_ok-hold.ensures in
     (found.0, λ deposit within of counted. some ∙ found.1 deposit within of)
 
 pub returns-clause-rows : goal.returns-clause-rows
 returns-clause-rows g c clean office =
-    let old = state g.S.Store c.args.tx.now.conn.now in
     let mid = state g.S.Store c.check_count.new.tx.conn.now in
-    let early : HasCleanDisk mid = clean_before mid (state g.S.Store c.least_hold.new.tx.conn.now) c.least_hold.ensures.inside.stays clean in
+    let early = clean_first c.least_hold.ensures.inside.stays clean in
     let same = c.in_ok-check_count.ensures.same early office in
     let some : Some c.in_ok-hold.hold ≡ c.in_ok-found.found = there_is c.in_ok-found.found Store c.in_ok-hold.hold c.in_ok-hold.ensures in
-    let least = c.in_ok-found.ensures.rows clean (office_still old.now mid.now same office) in
+    let least = c.in_ok-found.ensures.rows clean (office_still same office) in
     let is : IsLeastIn (tables_of mid.now) c.args.number c.args.collection.now c.args.class.now c.in_ok-hold.hold = subst (λ o. IfSome o (λ k. IsLeastIn (tables_of mid.now) c.args.number c.args.collection.now c.args.class.now k)) (sym some) least in
     let fits : SFits w64 c.args.count = search rules in
-    (rw (to_z-of_z w64 c.args.count fits) at c.in_ok-check_count.ensures.rows early office, told_before old.now mid.now same (λ t. IsLeastIn t c.args.number c.args.collection.now c.args.class.now c.in_ok-hold.hold) is)
+    (rw (to_z-of_z w64 c.args.count fits) at c.in_ok-check_count.ensures.rows early office, told_before same (λ t. IsLeastIn t c.args.number c.args.collection.now c.args.class.now c.in_ok-hold.hold) is)
 
 pub returns-then-count-eq0-clause-inside : goal.returns-then-count-eq0-clause-inside
-returns-then-count-eq0-clause-inside g c = record {
-  same_reference = search rules;
-  stays = stays_still (state g.S.Store c.args.tx.now.conn.now);
-  goes_on = λ clean. stands_still (state g.S.Store c.args.tx.now.conn.now);
-  failure = search rules;
-}
+returns-then-count-eq0-clause-inside g c = none_called _ (search rules)
 
 pub returns-clause-inside : goal.returns-clause-inside
-returns-clause-inside g c = record {
-  same_reference = search rules;
-  stays = stays_then (state g.S.Store c.args.tx.now.conn.now) (state g.S.Store c.check_count.new.tx.conn.now) (state g.S.Store c.least_hold.new.tx.conn.now) c.check_count.ensures.inside.stays c.in_ok-check_count.ensures.inside.goes_on c.least_hold.ensures.inside.stays;
-  goes_on = λ clean. (
-      let old = state g.S.Store c.args.tx.now.conn.now in
-      let mid = state g.S.Store c.check_count.new.tx.conn.now in
-      let new = state g.S.Store c.least_hold.new.tx.conn.now in
-      stands_then old old new (stands_still old) (goes_twice old mid new c.least_hold.ensures.inside.stays c.in_ok-check_count.ensures.inside.goes_on c.in_ok-found.ensures.inside.goes_on clean));
-  failure = search rules;
-}
+returns-clause-inside g c = in_turn (inside_after c.in_ok-check_count.ensures.inside c.in_ok-found.ensures.inside _ (search rules))
 
 pub returns-in_err-hold-clause-inside : goal.returns-in_err-hold-clause-inside
-returns-in_err-hold-clause-inside g c = record {
-  same_reference = search rules;
-  stays = stays_then (state g.S.Store c.args.tx.now.conn.now) (state g.S.Store c.check_count.new.tx.conn.now) (state g.S.Store c.least_hold.new.tx.conn.now) c.check_count.ensures.inside.stays c.in_ok-check_count.ensures.inside.goes_on c.least_hold.ensures.inside.stays;
-  goes_on = search rules;
-  failure = search rules;
-}
+returns-in_err-hold-clause-inside g c = in_turn (inside_failed c.in_ok-check_count.ensures.inside c.least_hold.ensures.inside _ (search rules) (search rules))

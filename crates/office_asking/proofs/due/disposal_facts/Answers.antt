@@ -1,7 +1,6 @@
 use Rattle.std.proofs.Common.{rules, ◌≡◌, ap, sym, ◌∙◌, pos, Some, option_map, w64}
 use mir.Val.{SFits, of_z, to_z}
 use Rattle.std.proofs.lemmas.Int.{to_z-of_z}
-use Rattle.sqlite.specs.State.{HasCleanDisk}
 use Rattle.sqlite.specs.Held.{state}
 use Rattle.jiff.specs.Words.{epoch_day}
 use Rattle.office_core.specs.declared.action.Action.TheVariants as acts
@@ -12,23 +11,20 @@ use Rattle.office_history.specs.Refusals.{deciding_rule}
 use Rattle.office_history.proofs.DisposalFacts.{same_facts}
 use Rattle.office_asking.proofs.NumberedRows.{same_count}
 use Rattle.office_asking.proofs.DuesTold.{due_back}
-use Rattle.office_asking.proofs.InTurn.{clean_before, goes_still, goes_twice, stays_still, stays_thrice}
-use Rattle.sql_meaning.proofs.Inside.{stays_then}
 use Rattle.std.proofs.Common.{refl, subst}
 use Rattle.office_tables.specs.Tables.{tables_of}
 use Rattle.office_rows.specs.Rows.{due_numbered}
 use Rattle.office_asking.specs.ByRows.{IsCountedIn}
 use Rattle.office_asking.proofs.InTurn.{same_twice}
 use Rattle.office_asking.proofs.RowsTold.{office_still, told_before}
+use Rattle.office_tables.proofs.InTurn.{clean_first, failed_before, failed_in_turn, inside_as, inside_failed, inside_then, then_in_turn}
 use Rattle.office_asking.proofs.due.disposal_facts.Goals as goal
 
 pub returns-clause-facts : goal.returns-clause-facts
 returns-clause-facts g c clean h legal pictured =
     let a = c.args in
-    let s1 = state g.S.Store c.decision.new.tx.conn.now in
-    let s2 = state g.S.Store c.kept_of.new.tx.conn.now in
-    let before_last : HasCleanDisk s2 = clean_before s2 (state g.S.Store c.counted_hold.new.tx.conn.now) c.counted_hold.ensures.inside.stays clean in
-    let early : HasCleanDisk s1 = clean_before s1 s2 c.kept_of.ensures.inside.stays before_last in
+    let before_last = clean_first c.counted_hold.ensures.inside.stays clean in
+    let early = clean_first c.kept_of.ensures.inside.stays before_last in
     let decided = c.in_ok-decision.ensures.decided early h legal pictured in
     let kept = c.in_ok-kept.ensures.kept before_last h legal decided.0 in
     let held = c.in_ok-hold.ensures.least clean h legal kept.0 in
@@ -59,10 +55,10 @@ returns-clause-rows g c clean office day caller is n numbered =
     let s0 = state g.S.Store a.tx.now.conn.now in
     let s1 = state g.S.Store c.decision.new.tx.conn.now in
     let s2 = state g.S.Store c.kept_of.new.tx.conn.now in
-    let before_last : HasCleanDisk s2 = clean_before s2 (state g.S.Store c.counted_hold.new.tx.conn.now) c.counted_hold.ensures.inside.stays clean in
-    let early : HasCleanDisk s1 = clean_before s1 s2 c.kept_of.ensures.inside.stays before_last in
+    let before_last = clean_first c.counted_hold.ensures.inside.stays clean in
+    let early = clean_first c.kept_of.ensures.inside.stays before_last in
     let same1 = c.in_ok-decision.ensures.same early office in
-    let office1 = office_still s0.now s1.now same1 office in
+    let office1 = office_still same1 office in
     let same2 = same_twice s0 s1 s2 c.kept_of.ensures.inside.stays c.in_ok-decision.ensures.same c.in_ok-kept.ensures.same before_last office in
     let row = a.row.now in
     let number : c.row.inside.number ≡ n = same_count c.row.inside.number n ((search rules) ∙ sym numbered) in
@@ -73,8 +69,8 @@ returns-clause-rows g c clean office day caller is n numbered =
     let fits : SFits w64 c.kept.inside.holds = search rules in
     let counts : c.kept.inside.holds ≡ c.in_ok-kept.kept.holds = search rules in
     let kept = c.in_ok-kept.kept in
-    let there = told_before s0.now s1.now same1 (λ t. Some kept ≡ due_numbered (pos c.row.inside.number) t.dues) (c.in_ok-kept.ensures.rows before_last office1) in
-    let held = told_before s0.now s2.now same2 (λ t. IsCountedIn t (to_z w64 (of_z w64 c.kept.inside.holds)) c.row.inside.number c.deref-3.result.now c.deref-4.result.now c.in_ok-hold.hold) (c.in_ok-hold.ensures.rows clean (office_still s0.now s2.now same2 office)) in
+    let there = told_before same1 (λ t. Some kept ≡ due_numbered (pos c.row.inside.number) t.dues) (c.in_ok-kept.ensures.rows before_last office1) in
+    let held = told_before same2 (λ t. IsCountedIn t (to_z w64 (of_z w64 c.kept.inside.holds)) c.row.inside.number c.deref-3.result.now c.deref-4.result.now c.in_ok-hold.hold) (c.in_ok-hold.ensures.rows clean (office_still same2 office)) in
     record {
       action = refl;
       decided = rw (collection, class) at (c.in_ok-decision.ensures.rows early office day caller is);
@@ -89,46 +85,16 @@ returns-clause-rows g c clean office day caller is n numbered =
     }
 
 pub returns-in_err-kept-clause-inside : goal.returns-in_err-kept-clause-inside
-returns-in_err-kept-clause-inside g c = record {
-  same_reference = search rules;
-  stays = stays_then (state g.S.Store c.args.tx.now.conn.now) (state g.S.Store c.decision.new.tx.conn.now) (state g.S.Store c.kept_of.new.tx.conn.now) c.decision.ensures.inside.stays c.in_ok-decision.ensures.inside.goes_on c.kept_of.ensures.inside.stays;
-  goes_on = search rules;
-  failure = search rules;
-}
+returns-in_err-kept-clause-inside g c = inside_failed c.in_ok-decision.ensures.inside c.kept_of.ensures.inside _ (search rules) (search rules)
 
 pub returns-in_err-due-clause-inside : goal.returns-in_err-due-clause-inside
-returns-in_err-due-clause-inside g c = record {
-  same_reference = search rules;
-  stays = stays_then (state g.S.Store c.args.tx.now.conn.now) (state g.S.Store c.decision.new.tx.conn.now) (state g.S.Store c.kept_of.new.tx.conn.now) c.decision.ensures.inside.stays c.in_ok-decision.ensures.inside.goes_on c.kept_of.ensures.inside.stays;
-  goes_on = search rules;
-  failure = search rules;
-}
+returns-in_err-due-clause-inside g c = inside_failed c.in_ok-decision.ensures.inside c.kept_of.ensures.inside _ (search rules) (search rules)
 
 pub returns-in_err-hold-clause-inside : goal.returns-in_err-hold-clause-inside
-returns-in_err-hold-clause-inside g c = record {
-  same_reference = search rules;
-  stays = stays_thrice (state g.S.Store c.args.tx.now.conn.now) (state g.S.Store c.decision.new.tx.conn.now) (state g.S.Store c.kept_of.new.tx.conn.now) (state g.S.Store c.counted_hold.new.tx.conn.now) c.decision.ensures.inside.stays c.in_ok-decision.ensures.inside.goes_on c.kept_of.ensures.inside.stays c.in_ok-kept.ensures.inside.goes_on c.counted_hold.ensures.inside.stays;
-  goes_on = search rules;
-  failure = search rules;
-}
+returns-in_err-hold-clause-inside g c = failed_in_turn (inside_then c.in_ok-decision.ensures.inside c.in_ok-kept.ensures.inside) c.counted_hold.ensures.inside _ (search rules) (search rules)
 
 pub returns-clause-inside : goal.returns-clause-inside
-returns-clause-inside g c = record {
-  same_reference = search rules;
-  stays = stays_thrice (state g.S.Store c.args.tx.now.conn.now) (state g.S.Store c.decision.new.tx.conn.now) (state g.S.Store c.kept_of.new.tx.conn.now) (state g.S.Store c.counted_hold.new.tx.conn.now) c.decision.ensures.inside.stays c.in_ok-decision.ensures.inside.goes_on c.kept_of.ensures.inside.stays c.in_ok-kept.ensures.inside.goes_on c.counted_hold.ensures.inside.stays;
-  goes_on = λ clean. (
-      let s0 = state g.S.Store c.args.tx.now.conn.now in
-      let s1 = state g.S.Store c.decision.new.tx.conn.now in
-      let s2 = state g.S.Store c.kept_of.new.tx.conn.now in
-      let s3 = state g.S.Store c.counted_hold.new.tx.conn.now in
-      goes_still s0 s2 s3 (goes_twice s0 s1 s2 c.kept_of.ensures.inside.stays c.in_ok-decision.ensures.inside.goes_on c.in_ok-kept.ensures.inside.goes_on (clean_before s2 s3 c.counted_hold.ensures.inside.stays clean)) (c.in_ok-hold.ensures.inside.goes_on clean));
-  failure = search rules;
-}
+returns-clause-inside g c = inside_as (then_in_turn (inside_then c.in_ok-decision.ensures.inside c.in_ok-kept.ensures.inside) c.in_ok-hold.ensures.inside) _ (search rules)
 
 pub returns-in_err-days-clause-inside : goal.returns-in_err-days-clause-inside
-returns-in_err-days-clause-inside g c = record {
-  same_reference = search rules;
-  stays = stays_still (state g.S.Store c.args.tx.now.conn.now);
-  goes_on = search rules;
-  failure = search rules;
-}
+returns-in_err-days-clause-inside g c = failed_before _ (search rules) (search rules)

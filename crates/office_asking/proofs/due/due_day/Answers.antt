@@ -16,12 +16,11 @@ pub returns-clause-due : goal.returns-clause-due
 returns-clause-due g c clean h legal pictured =
     let a = c.args in
     let old = state g.S.Store a.tx.now.conn.now in
-    let new = state g.S.Store c.class_of.new.tx.conn.now in
     let some : Some c.in_ok-years.years ≡ c.in_ok-found.found = there_is c.in_ok-found.found Store c.in_ok-years.years c.in_ok-years.ensures in
     let fits : SFits w64 c.in_ok-years.years = search rules in
     let back : c.in_ok-years_numbered.field-0 ≡ years_back c.in_ok-years.years = rw (to_z-of_z w64 c.in_ok-years.years fits) at c.in_ok-years_numbered.ensures.years in
     let is = c.due.ensures.exact ∙ ap (due_of a.closed) back ∙ ap (λ o. option_map_or (due_of a.closed) (option_map years_back o) Never) some in
-    (pictured_still h old.now pictured new.now (c.in_ok-found.ensures.same clean pictured.office), due_told h old.now pictured a.class.now a.closed c.in_ok-found.found c.due.result (c.in_ok-found.ensures.found clean pictured.office) is)
+    (pictured_still pictured (c.in_ok-found.ensures.same clean pictured.office), due_told pictured a.class.now a.closed c.in_ok-found.found c.due.result (c.in_ok-found.ensures.found clean pictured.office) is)
 
 pub returns-clause-rows : goal.returns-clause-rows
 returns-clause-rows g c clean office =

@@ -9,11 +9,9 @@ use Rattle.office_asking.proofs.due.kept_of.Goals as goal
 pub returns-clause-kept : goal.returns-clause-kept
 returns-clause-kept g c clean h legal pictured =
     let a = c.args in
-    let old = state g.S.Store a.tx.now.conn.now in
-    let new = state g.S.Store c.due_row.new.tx.conn.now in
     there_told c.in_ok-found.found Store c.there.result c.there.ensures (λ kept some. (
-      pictured_still h old.now pictured new.now (c.in_ok-found.ensures.same clean pictured.office),
-      λ found there. kept_read h old.now pictured a.number found there kept (some ∙ c.in_ok-found.ensures.found clean pictured.office),
+      pictured_still pictured (c.in_ok-found.ensures.same clean pictured.office),
+      λ found there. kept_read pictured a.number found there kept (some ∙ c.in_ok-found.ensures.found clean pictured.office),
     ))
 
 pub returns-clause-rows : goal.returns-clause-rows

@@ -1,10 +1,7 @@
 use Rattle.std.proofs.Common.{rules, ◌≡◌, ap, slice_get, Some, None, ◌∙◌}
-use Rattle.sqlite.specs.State.{HasCleanDisk}
-use Rattle.sqlite.specs.Held.{state}
-use Rattle.sql_meaning.proofs.Inside.{stays_then}
-use Rattle.office_asking.proofs.InTurn.{clean_before, goes_twice}
 use Rattle.office_asking.specs.ByRows.{IsHoldIn}
 use Rattle.office_asking.proofs.RowsTold.{first_of, office_still, told_before}
+use Rattle.office_tables.proofs.InTurn.{clean_first, inside_after, inside_failed}
 use Rattle.office_asking.proofs.due.least_hold.Goals as goal
 
 pub returns-in_default-clause-least : goal.returns-in_default-clause-least
@@ -15,8 +12,7 @@ returns-in_default-clause-least g c clean h legal pictured =
 
 pub returns-clause-least : goal.returns-clause-least
 returns-clause-least g c clean h legal pictured =
-    let mid = state g.S.Store c.holds_over.new.tx.conn.now in
-    let early : HasCleanDisk mid = clean_before mid (state g.S.Store c.told_hold.new.tx.conn.now) c.told_hold.ensures.inside.stays clean in
+    let early = clean_first c.told_hold.ensures.inside.stays clean in
     let live = c.in_ok-holds.ensures.live early h legal pictured in
     let told = c.in_ok-told_hold.ensures.told clean h legal live.0 in
     let first : Some c.in-Some.least ≡ slice_get c.in_ok-holds.holds.items 0 = search rules in
@@ -24,27 +20,15 @@ returns-clause-least g c clean h legal pictured =
 
 pub returns-clause-rows : goal.returns-clause-rows
 returns-clause-rows g c clean office =
-    let old = state g.S.Store c.args.tx.now.conn.now in
-    let mid = state g.S.Store c.holds_over.new.tx.conn.now in
-    let early : HasCleanDisk mid = clean_before mid (state g.S.Store c.told_hold.new.tx.conn.now) c.told_hold.ensures.inside.stays clean in
+    let early = clean_first c.told_hold.ensures.inside.stays clean in
     let same = c.in_ok-holds.ensures.same early office in
-    let told = c.in_ok-told_hold.ensures.rows clean (office_still old.now mid.now same office) in
+    let told = c.in_ok-told_hold.ensures.rows clean (office_still same office) in
     let over = c.in_ok-holds.ensures.rows early office in
     let first = first_of c.in-Some.least c.in_ok-holds.holds.items _ over.0 (search rules) in
-    record { released = over.1; others = first.0; live = first.1; told = c.in_ok-told_hold.field-0; is = told_before old.now mid.now same (λ t. IsHoldIn t c.in-Some.least c.in_ok-told_hold.field-0) told }
+    record { released = over.1; others = first.0; live = first.1; told = c.in_ok-told_hold.field-0; is = told_before same (λ t. IsHoldIn t c.in-Some.least c.in_ok-told_hold.field-0) told }
 
 pub returns-in_err-told_hold-clause-inside : goal.returns-in_err-told_hold-clause-inside
-returns-in_err-told_hold-clause-inside g c = record {
-  same_reference = search rules;
-  stays = stays_then (state g.S.Store c.args.tx.now.conn.now) (state g.S.Store c.holds_over.new.tx.conn.now) (state g.S.Store c.told_hold.new.tx.conn.now) c.holds_over.ensures.inside.stays c.in_ok-holds.ensures.inside.goes_on c.told_hold.ensures.inside.stays;
-  goes_on = search rules;
-  failure = search rules;
-}
+returns-in_err-told_hold-clause-inside g c = inside_failed c.in_ok-holds.ensures.inside c.told_hold.ensures.inside _ (search rules) (search rules)
 
 pub returns-clause-inside : goal.returns-clause-inside
-returns-clause-inside g c = record {
-  same_reference = search rules;
-  stays = stays_then (state g.S.Store c.args.tx.now.conn.now) (state g.S.Store c.holds_over.new.tx.conn.now) (state g.S.Store c.told_hold.new.tx.conn.now) c.holds_over.ensures.inside.stays c.in_ok-holds.ensures.inside.goes_on c.told_hold.ensures.inside.stays;
-  goes_on = goes_twice (state g.S.Store c.args.tx.now.conn.now) (state g.S.Store c.holds_over.new.tx.conn.now) (state g.S.Store c.told_hold.new.tx.conn.now) c.told_hold.ensures.inside.stays c.in_ok-holds.ensures.inside.goes_on c.in_ok-told_hold.ensures.inside.goes_on;
-  failure = search rules;
-}
+returns-clause-inside g c = inside_after c.in_ok-holds.ensures.inside c.in_ok-told_hold.ensures.inside _ (search rules)

@@ -1,7 +1,5 @@
 use Rattle.std.proofs.Common.{rules, ◌≡◌, ℕ, List, ap, sym, subst, ◌∙◌, Some, None, ◌∷◌, []}
-use Rattle.sqlite.specs.State.{HasCleanDisk}
 use Rattle.sqlite.specs.Held.{state}
-use Rattle.sql_meaning.proofs.Inside.{stays_then}
 use Rattle.office_core.specs.declared.action.Action.TheVariants as acts
 use Rattle.office_core.specs.declared.request.Request.TheVariants as requests
 use Rattle.office_core.specs.declared.answer.Answer.TheVariants as answers
@@ -12,10 +10,10 @@ use Rattle.office_tables.specs.Tables.{tables_of}
 use Rattle.office_asking.specs.ByRows.{IsDenialIn}
 use Rattle.office_asking.specs.Pictures.{Pictures}
 use Rattle.office_asking.proofs.Serving.{refused_serves, allowed_serves, one_refusal}
-use Rattle.office_asking.proofs.InTurn.{clean_before, goes_twice}
 use Rattle.office_asking.proofs.RowsTold.{office_still, told_before}
 use Rattle.office_defining.specs.ByRows.{AreClosedOnDays, IsClassDefinedIn}
 use Rattle.office_defining.proofs.DefinedByRows.{class_denied, class_allowed}
+use Rattle.office_tables.proofs.InTurn.{clean_first}
 use Rattle.office_defining.proofs.classes.define_class.Goals as goal
 
 pub returns-in-Some-clause-decides : goal.returns-in-Some-clause-decides
@@ -28,9 +26,8 @@ returns-in-Some-clause-decides g c clean h legal pictured =
 pub returns-clause-decides : goal.returns-clause-decides
 returns-clause-decides g c clean h legal pictured =
     let a = c.args in
-    let mid = state g.S.Store c.denial.new.tx.conn.now in
     let new = state g.S.Store c.put_years.new.tx.conn.now in
-    let early : HasCleanDisk mid = clean_before mid new c.put_years.ensures.inside.stays clean in
+    let early = clean_first c.put_years.ensures.inside.stays clean in
     let asked = c.in_ok-why.ensures.denied early h legal pictured in
     let said : None ≡ denial h a.day a.caller.now acts.Class None (Some a.name.now) = search (rules, asked.1) in
     let name = c.as_str-2.ensures.text in
@@ -49,12 +46,10 @@ pub returns-clause-rows : goal.returns-clause-rows
 returns-clause-rows g c clean office =
     let a = c.args in
     let old = state g.S.Store a.tx.now.conn.now in
-    let mid = state g.S.Store c.denial.new.tx.conn.now in
-    let new = state g.S.Store c.put_years.new.tx.conn.now in
-    let early : HasCleanDisk mid = clean_before mid new c.put_years.ensures.inside.stays clean in
-    let same : mid.now ≡ old.now = c.in_ok-why.ensures.same early office in
+    let early = clean_first c.put_years.ensures.inside.stays clean in
+    let same = c.in_ok-why.ensures.same early office in
     let none : c.in_ok-why.field-0 ≡ None = search rules in
     let denied = subst (λ (n : List ℕ). IsDenialIn (tables_of old.now) a.day a.caller.now acts.Class None (Some n) c.in_ok-why.field-0) c.as_str.ensures.text (c.in_ok-why.ensures.rows early office) in
-    let told = told_before old.now mid.now same (λ t. AreClosedOnDays (class_closings c.as_str-2.result.now t)) (c.in_ok-put_years.ensures.rows clean (office_still old.now mid.now same office)) in
+    let told = told_before same (λ t. AreClosedOnDays (class_closings c.as_str-2.result.now t)) (c.in_ok-put_years.ensures.rows clean (office_still same office)) in
     let closed = subst (λ (n : List ℕ). AreClosedOnDays (class_closings n (tables_of old.now))) c.as_str-2.ensures.text told in
     subst (λ (n : List ℕ). IsClassDefinedIn (tables_of old.now) a.day a.caller.now a.name.now a.years (answers.Class n a.years)) (sym c.in_ok-defined.ensures) (class_allowed (tables_of old.now) a.day a.caller.now a.name.now a.years c.in_ok-why.field-0 none denied closed)

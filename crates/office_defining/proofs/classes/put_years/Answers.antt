@@ -2,16 +2,14 @@ use Rattle.std.proofs.Common.{rules, w64, ◌≡◌}
 use mir.Val.{SFits}
 use Rattle.std.proofs.lemmas.Int.{to_z-of_z}
 use Rattle.std.proofs.lemmas.Result.{on_ok_weaker}
-use Rattle.sqlite.specs.State.{HasCleanDisk}
 use Rattle.sqlite.specs.Held.{state}
-use Rattle.sql_meaning.proofs.Inside.{stays_then, goes_then}
 use Rattle.office_rows.specs.Rows.{with_class}
 use Rattle.office_tables.specs.Tables.{Becomes, tables_of}
 use Rattle.office_tables.specs.Contents.{KeepsOnce}
 use Rattle.office_history.specs.Pictures.{years_number}
-use Rattle.office_asking.proofs.InTurn.{clean_before}
 use Rattle.office_defining.proofs.ClassTold.{those, closings_read, class_defined}
 use Rattle.office_defining.proofs.DefinedByRows.{closed_before}
+use Rattle.office_tables.proofs.InTurn.{clean_first}
 use Rattle.office_defining.proofs.classes.put_years.Goals as goal
 
 pub returns-clause-defined : goal.returns-clause-defined
@@ -20,7 +18,7 @@ returns-clause-defined g c day clean h legal pictured _ =
     let old = state g.S.Store a.tx.now.conn.now in
     let mid = state g.S.Store c.put_class.new.tx.conn.now in
     let new = state g.S.Store c.set_days_of_class.new.tx.conn.now in
-    let early : HasCleanDisk mid = clean_before mid new c.set_days_of_class.ensures.inside.stays clean in
+    let early = clean_first c.set_days_of_class.ensures.inside.stays clean in
     let years : c.years_number.result ≡ years_number a.years = search rules in
     let fits : SFits w64 c.years_number.result = search rules in
     let put : Becomes mid.now (with_class a.name.now (years_number a.years) (tables_of old.now)) = rw (to_z-of_z w64 c.years_number.result fits, years) at (c.in_ok-put_class.ensures.becomes early pictured.office) in
@@ -33,7 +31,6 @@ returns-clause-rows g c clean office =
     let a = c.args in
     let old = state g.S.Store a.tx.now.conn.now in
     let mid = state g.S.Store c.put_class.new.tx.conn.now in
-    let new = state g.S.Store c.set_days_of_class.new.tx.conn.now in
-    let early : HasCleanDisk mid = clean_before mid new c.set_days_of_class.ensures.inside.stays clean in
+    let early = clean_first c.set_days_of_class.ensures.inside.stays clean in
     let put = c.in_ok-put_class.ensures.becomes early office in
     on_ok_weaker c.set_days_of_class.result (closed_before a.name.now _ old.now mid.now put) (c.set_days_of_class.ensures.rows clean put.office)

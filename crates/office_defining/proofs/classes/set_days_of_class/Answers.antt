@@ -1,23 +1,20 @@
 use Rattle.std.proofs.Common.{rules, ◌≡◌, sym, subst, ◌∙◌}
 use Rattle.std.proofs.lemmas.Result.{on_ok_weaker}
-use Rattle.sqlite.specs.State.{HasCleanDisk}
 use Rattle.sqlite.specs.Held.{state}
-use Rattle.sql_meaning.proofs.Inside.{stays_then}
 use Rattle.office_rows.specs.Told.{class_closings}
 use Rattle.office_tables.specs.Tables.{IsOffice, tables_of}
-use Rattle.office_asking.proofs.InTurn.{clean_before, goes_still}
 use Rattle.office_defining.specs.ByRows.{AreClosedOnDays}
 use Rattle.office_defining.specs.Revising.{AreDueDaysSet}
+use Rattle.office_tables.proofs.InTurn.{clean_first}
 use Rattle.office_defining.proofs.classes.set_days_of_class.Goals as goal
 
 pub returns-clause-set : goal.returns-clause-set
 returns-clause-set g c deposits are clean office =
     let a = c.args in
     let old = state g.S.Store a.tx.now.conn.now in
-    let mid = state g.S.Store c.rows_of_class.new.tx.conn.now in
     let new = state g.S.Store c.set_due_days.new.tx.conn.now in
-    let early : HasCleanDisk mid = clean_before mid new c.set_due_days.ensures.inside.stays clean in
-    let same : mid.now ≡ old.now = c.in_ok-rows.ensures.same early office in
+    let early = clean_first c.set_due_days.ensures.inside.stays clean in
+    let same = c.in_ok-rows.ensures.same early office in
     let found : c.deref.result.now ≡ class_closings a.class.now (tables_of old.now) = search (rules, c.in_ok-rows.ensures.found early office) in
     on_ok_weaker c.set_due_days.result (subst (λ db. AreDueDaysSet a.years deposits db new.now) same)
     (c.set_due_days.ensures.set deposits (found ∙ are) clean (subst IsOffice (sym same) office))
@@ -26,8 +23,6 @@ pub returns-clause-rows : goal.returns-clause-rows
 returns-clause-rows g c clean office =
     let a = c.args in
     let old = state g.S.Store a.tx.now.conn.now in
-    let mid = state g.S.Store c.rows_of_class.new.tx.conn.now in
-    let new = state g.S.Store c.set_due_days.new.tx.conn.now in
-    let early : HasCleanDisk mid = clean_before mid new c.set_due_days.ensures.inside.stays clean in
+    let early = clean_first c.set_due_days.ensures.inside.stays clean in
     let found : c.deref.result.now ≡ class_closings a.class.now (tables_of old.now) = search (rules, c.in_ok-rows.ensures.found early office) in
     on_ok_weaker c.set_due_days.result (subst AreClosedOnDays found) c.set_due_days.ensures.closed

@@ -1,21 +1,18 @@
-use Rattle.std.proofs.Common.{rules, refl, sym, ap, subst, ◌∙◌, ◌≤◌, length, map}
+use Rattle.std.proofs.Common.{refl, sym, ap, subst, ◌∙◌, ◌≤◌, length, map}
 use Rattle.std.proofs.lemmas.List.{take_all}
 use Rattle.sqlite.specs.State.{HasCleanDisk}
 use Rattle.sqlite.specs.Held.{state}
-use Rattle.sql_meaning.proofs.Inside.{stays_on}
 use Rattle.office_tables.specs.Tables.{tables_of}
-use Rattle.office_asking.proofs.InTurn.{clean_before, stands_still, stays_still}
 use Rattle.office_defining.specs.Revising.{closing_row, with_due_days}
 use Rattle.office_defining.specs.ByRows.{AreClosedOnDays}
 use Rattle.office_defining.proofs.DefinedByRows.{closed_next}
 use Rattle.office_defining.proofs.DueDays.{sets_next, none_left}
+use Rattle.office_tables.proofs.InTurn.{clean_first, in_turn, none_called, turn_as, turn_then}
 use Rattle.office_defining.proofs.classes.set_due_days.Goals as goal
 
 pub loop-row-init : goal.loop-row-init
 loop-row-init g c = record {
-  same_reference = refl;
-  stays = stays_still (state g.S.Store c.args.tx.now.conn.now);
-  goes_on = λ _. stands_still (state g.S.Store c.args.tx.now.conn.now);
+  inside = none_called _ tt;
   set = λ deposits are clean office. (office, refl, λ kept. kept);
   closed = tt;
 }
@@ -26,11 +23,9 @@ loop-row-preserved g c =
     let now = state g.S.Store c.loop-row.tx.conn.now in
     let new = state g.S.Store c.set_due_day.new.tx.conn.now in
     let inv = c.loop-row.invariant in
-    let early = λ (clean : HasCleanDisk new). let e : HasCleanDisk now = clean_before now new c.set_due_day.ensures.inside.stays clean in e in
+    let early = λ (clean : HasCleanDisk new). clean_first c.set_due_day.ensures.inside.stays clean in
     record {
-      same_reference = search rules;
-      stays = stays_on old now new inv.stays inv.goes_on c.set_due_day.ensures.inside.stays;
-      goes_on = λ clean. let p = inv.goes_on (early clean) in let q = c.in_ok-set_due_day.ensures.inside.goes_on clean in record { is_open = λ _. q.is_open; inside = λ i. q.inside (p.inside i) };
+      inside = turn_as (turn_then inv.inside (in_turn c.in_ok-set_due_day.ensures.inside)) _ tt;
       set = λ deposits are clean office.
           let there = inv.set deposits are (early clean) office in
           let next = sets_next c.args.years c.args.rows.now deposits c.loop-row.row-index _ c.loop-row-test.true c.row-item.is are old.now now.now new.now
@@ -41,7 +36,6 @@ loop-row-preserved g c =
 
 pub returns-clause-set : goal.returns-clause-set
 returns-clause-set g c deposits are clean office =
-    let old = state g.S.Store c.args.tx.now.conn.now in
     let now = state g.S.Store c.loop-row.tx.conn.now in
     let there = c.loop-row.invariant.set deposits are clean office in
     let past : length (map closing_row deposits) ≤ c.loop-row.row-index = subst (λ rows. length rows ≤ c.loop-row.row-index) are c.loop-row-test.false in

@@ -1,8 +1,8 @@
-use Rattle.std.proofs.Common.{◌≡◌, ℤ, List, map, drop, take}
+use Rattle.std.proofs.Common.{Ok, ◌≡◌, ℤ, List, map, drop, take}
 use Rattle.jiff.specs.Types.{Date}
 use Rattle.sqlite.specs.State.{HasCleanDisk}
 use Rattle.sqlite.specs.Held.{state}
-use Rattle.sql_meaning.specs.Inside.{Stays, Stands}
+use Rattle.office_tables.specs.Calls.{GoesOnInTurn}
 use Rattle.office_tables.specs.Tables.{IsOffice, tables_of}
 use Rattle.office_tables.specs.Contents.{KeepsOnce}
 use Rattle.office_defining.specs.ByRows.{AreClosedOnDays}
@@ -14,9 +14,7 @@ invariant-loop-row g l =
     let old = state g.S.Store l.fn.tx.conn.now in
     let now = state g.S.Store l.tx.conn.now in
     record {
-      same_reference : l.tx.conn.ghost_name ≡ l.fn.tx.conn.ghost_name;
-      stays : Stays old now;
-      goes_on : HasCleanDisk now → Stands old now;
+      inside : GoesOnInTurn {T = Unit {0}} g.S.Store l.fn.tx.conn l.tx.conn (Ok tt);
       set : (deposits : List (ℤ × Date)) → l.rows ≡ map closing_row deposits → HasCleanDisk now → IsOffice old.now
           → IsOffice now.now × (with_due_days l.years (drop l.row-index deposits) (tables_of now.now) ≡ with_due_days l.years deposits (tables_of old.now)) × (KeepsOnce old.now → KeepsOnce now.now);
       closed : AreClosedOnDays (take l.row-index l.rows);

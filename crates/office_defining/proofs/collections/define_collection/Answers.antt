@@ -1,7 +1,5 @@
 use Rattle.std.proofs.Common.{rules, ◌≡◌, ℕ, List, ap, sym, subst, ◌∙◌, Some, None}
-use Rattle.sqlite.specs.State.{HasCleanDisk}
 use Rattle.sqlite.specs.Held.{state}
-use Rattle.sql_meaning.proofs.Inside.{stays_then}
 use Rattle.office_core.specs.declared.action.Action.TheVariants as acts
 use Rattle.office_core.specs.declared.request.Request.TheVariants as requests
 use Rattle.office_core.specs.declared.answer.Answer.TheVariants as answers
@@ -12,10 +10,10 @@ use Rattle.office_history.specs.Answers.{allowed_change}
 use Rattle.office_history.specs.Refusals.{denial}
 use Rattle.office_defining.proofs.CollectionTold.{collection_told}
 use Rattle.office_asking.proofs.Serving.{refused_serves, allowed_serves, one_refusal, pictures_grown}
-use Rattle.office_asking.proofs.InTurn.{clean_before, goes_twice}
 use Rattle.office_asking.specs.ByRows.{IsDenialIn}
 use Rattle.office_defining.specs.ByRows.{IsCollectionDefinedIn}
 use Rattle.office_defining.proofs.DefinedByRows.{collection_denied, collection_allowed}
+use Rattle.office_tables.proofs.InTurn.{clean_first}
 use Rattle.office_defining.proofs.collections.define_collection.Goals as goal
 
 pub returns-in-Some-clause-decides : goal.returns-in-Some-clause-decides
@@ -30,7 +28,7 @@ returns-clause-decides g c clean h legal pictured =
     let a = c.args in
     let mid = state g.S.Store c.denial.new.tx.conn.now in
     let new = state g.S.Store c.put_collection.new.tx.conn.now in
-    let early : HasCleanDisk mid = clean_before mid new c.put_collection.ensures.inside.stays clean in
+    let early = clean_first c.put_collection.ensures.inside.stays clean in
     let asked = c.in_ok-why.ensures.denied early h legal pictured in
     let said : None ≡ denial h a.day a.caller.now acts.Collection (Some a.name.now) None = search (rules, asked.1) in
     let name = c.as_str-2.ensures.text in
@@ -49,8 +47,7 @@ pub returns-clause-rows : goal.returns-clause-rows
 returns-clause-rows g c clean office =
     let a = c.args in
     let old = state g.S.Store a.tx.now.conn.now in
-    let mid = state g.S.Store c.denial.new.tx.conn.now in
-    let early : HasCleanDisk mid = clean_before mid (state g.S.Store c.put_collection.new.tx.conn.now) c.put_collection.ensures.inside.stays clean in
+    let early = clean_first c.put_collection.ensures.inside.stays clean in
     let none : c.in_ok-why.field-0 ≡ None = search rules in
     let denied = subst (λ (n : List ℕ). IsDenialIn (tables_of old.now) a.day a.caller.now acts.Collection (Some n) None c.in_ok-why.field-0) c.as_str.ensures.text (c.in_ok-why.ensures.rows early office) in
     subst (λ (n : List ℕ). IsCollectionDefinedIn (tables_of old.now) a.day a.caller.now a.name.now (answers.Collection n)) (sym c.in_ok-defined.ensures) (collection_allowed (tables_of old.now) a.day a.caller.now a.name.now c.in_ok-why.field-0 none denied)

@@ -2,26 +2,24 @@ use Rattle.std.proofs.Common.{ap, subst, ◌∙◌, sym, pos}
 use Rattle.sqlite.specs.Held.{state}
 use Rattle.office_tables.specs.Tables.{IsOffice, tables_of}
 use Rattle.office_tables.specs.Deposits.{files_by_path}
-use Rattle.office_asking.proofs.InTurn.{clean_before, same_twice}
 use Rattle.office_asking.proofs.Readings.{pictured_still}
 use Rattle.office_serving.proofs.FilesTold.{bag_read}
 use Rattle.office_serving.proofs.Told.{is_kept}
+use Rattle.office_tables.proofs.InTurn.{clean_first, same_then}
 use Rattle.office_serving.proofs.bags.kept_files.Goals as goal
 
 pub returns-in-Ok-clause-asked : goal.returns-in-Ok-clause-asked
 returns-in-Ok-clause-asked g c clean h legal pictured =
     let a = c.args in
-    let mid = state g.S.Store c.kept_deposit.new.tx.conn.now in
-    let new = state g.S.Store c.files_of.new.tx.conn.now in
-    let asked = rw c.in-Ok.is at c.in_ok-kept_deposit.ensures.asked (clean_before mid new c.files_of.ensures.inside.stays clean) h legal pictured in
+    let asked = rw c.in-Ok.is at c.in_ok-kept_deposit.ensures.asked (clean_first c.files_of.ensures.inside.stays clean) h legal pictured in
     let it = asked.1 in
     let read = c.in_ok-files_of-in-Ok.ensures in
     let bag = (c.sound_bags.ensures h legal a.number it.found it.there).bag in (
-      pictured_still h mid.now asked.0 new.now (read.same clean asked.0.office),
+      pictured_still asked.0 (read.same clean asked.0.office),
       record {
         row = _;
         it = it;
-        are = bag_read h mid.now asked.0 a.number it.found it.there (is_kept a.day a.caller.now a.action it) bag _ (read.found clean asked.0.office);
+        are = bag_read asked.0 a.number it.found it.there (is_kept a.day a.caller.now a.action it) bag _ (read.found clean asked.0.office);
         bag = bag;
       },
     )
@@ -31,19 +29,16 @@ returns-clause-asked g c clean h legal pictured = rw c.in-Err.is at c.in_ok-kept
 
 pub returns-in-Ok-clause-stored : goal.returns-in-Ok-clause-stored
 returns-in-Ok-clause-stored g c clean office =
-    let mid = state g.S.Store c.kept_deposit.new.tx.conn.now in
-    let new = state g.S.Store c.files_of.new.tx.conn.now in
-    let same = c.in_ok-kept_deposit.ensures.same (clean_before mid new c.files_of.ensures.inside.stays clean) office in
+    let same = c.in_ok-kept_deposit.ensures.same (clean_first c.files_of.ensures.inside.stays clean) office in
     c.in_ok-files_of-in-Ok.ensures.found clean (subst IsOffice (sym same) office) ∙ ap (λ db. files_by_path (pos c.args.number) (tables_of db)) same
 
 pub returns-in-Ok-clause-rows : goal.returns-in-Ok-clause-rows
 returns-in-Ok-clause-rows g c clean office =
-    let early = clean_before (state g.S.Store c.kept_deposit.new.tx.conn.now) (state g.S.Store c.files_of.new.tx.conn.now) c.files_of.ensures.inside.stays clean in
+    let early = clean_first c.files_of.ensures.inside.stays clean in
     (_, rw c.in-Ok.is at c.in_ok-kept_deposit.ensures.rows early office)
 
 pub returns-clause-rows : goal.returns-clause-rows
 returns-clause-rows g c clean office = rw c.in-Err.is at c.in_ok-kept_deposit.ensures.rows clean office
 
 pub returns-in-Ok-clause-same : goal.returns-in-Ok-clause-same
-returns-in-Ok-clause-same g c =
-    same_twice (state g.S.Store c.args.tx.now.conn.now) (state g.S.Store c.kept_deposit.new.tx.conn.now) (state g.S.Store c.files_of.new.tx.conn.now) c.files_of.ensures.inside.stays c.in_ok-kept_deposit.ensures.same c.in_ok-files_of-in-Ok.ensures.same
+returns-in-Ok-clause-same g c = same_then c.in_ok-kept_deposit.ensures.inside c.in_ok-files_of-in-Ok.ensures.inside c.in_ok-kept_deposit.ensures.same c.in_ok-files_of-in-Ok.ensures.same

@@ -3,7 +3,6 @@ use Rattle.std.specs.Prelude.{IfSome}
 use Rattle.std.proofs.lemmas.List.{take_all}
 use Rattle.sqlite.specs.State.{HasCleanDisk}
 use Rattle.sqlite.specs.Held.{state}
-use Rattle.sql_meaning.proofs.Inside.{stays_on}
 use Rattle.office_core.specs.declared.action.Action.TheVariants as acts
 use Rattle.office_core.specs.Retention.{IsDueNumber, due_number}
 use Rattle.office_rows.specs.Told.{PlaceRow}
@@ -12,17 +11,15 @@ use Rattle.office_asking.proofs.RowsTold.{office_still, told_before}
 use Rattle.office_serving.specs.Listing.{may_destroy}
 use Rattle.office_serving.specs.ListsByRows.{AreIn, IsAllowedIn, IsPlaceToldIn, TellsIf}
 use Rattle.office_serving.proofs.ByRows.{tells_next, tells_all}
-use Rattle.office_asking.proofs.InTurn.{clean_before, stays_still}
-use Rattle.office_serving.proofs.InTurn.{stands_still, stands_on}
 use Rattle.office_serving.proofs.AllowedTold.{next_passes, next_fails}
 use Rattle.office_serving.proofs.due_lists.allowed_among.Goals.{then-allowed+in_ok-push, else-allowed}
+use Rattle.office_tables.proofs.InTurn.{clean_first, none_called, turn_as, turn_then}
 use Rattle.office_serving.proofs.due_lists.allowed_among.Goals as goal
 
 pub loop-place-preserved : goal.loop-place-preserved
 loop-place-preserved g c =
     let a = c.args in
     let old = state g.S.Store a.tx.now.conn.now in
-    let now = state g.S.Store c.loop-place.tx.conn.now in
     let new = state g.S.Store c.allows.new.tx.conn.now in
     let inv = c.loop-place.invariant in
     let i = c.loop-place.place-index in
@@ -31,11 +28,9 @@ loop-place-preserved g c =
     let number : pos c.place.inside.number ≡ item.number = search rules in
     let collection : c.deref.result.now ≡ item.collection = search rules in
     let class : c.deref-in-loop-place.result.now ≡ item.class = search rules in
-    let early = λ (clean : HasCleanDisk new). let e : HasCleanDisk now = clean_before now new c.allows.ensures.inside.stays clean in e in
+    let early = λ (clean : HasCleanDisk new). clean_first c.allows.ensures.inside.stays clean in
     record {
-      same_reference = search rules;
-      stays = stays_on old now new inv.stays inv.goes_on c.allows.ensures.inside.stays;
-      goes_on = λ clean. stands_on old now new (inv.goes_on (early clean)) (c.in_ok-allowed.ensures.inside.goes_on clean);
+      inside = turn_as (turn_then inv.inside c.in_ok-allowed.ensures.inside) _ tt;
       told = λ clean h legal pictured.
           let there = inv.told (early clean) h legal pictured in
           let found = c.in_ok-allowed.ensures.allowed clean h legal there.0 in (
@@ -55,12 +50,12 @@ loop-place-preserved g c =
           );
       same = λ clean office.
           let before = inv.same (early clean) office in
-          c.in_ok-allowed.ensures.same clean (office_still old.now now.now before office) ∙ before;
+          c.in_ok-allowed.ensures.same clean (office_still before office) ∙ before;
       by_rows = λ clean office day caller is.
           let before = inv.same (early clean) office in
           let known = inv.by_rows (early clean) office day caller is in
-          let said = told_before old.now now.now before (λ t. AreIn t day caller acts.Dispose c.loop-place.allowances → AreIn t day caller acts.Dispose c.allows.new.self × IsAllowedIn t day caller acts.Dispose c.deref.result.now c.deref-in-loop-place.result.now c.in_ok-allowed.allowed)
-          (c.in_ok-allowed.ensures.rows clean (office_still old.now now.now before office) day caller acts.Dispose) known.0 in
+          let said = told_before before (λ t. AreIn t day caller acts.Dispose c.loop-place.allowances → AreIn t day caller acts.Dispose c.allows.new.self × IsAllowedIn t day caller acts.Dispose c.deref.result.now c.deref-in-loop-place.result.now c.in_ok-allowed.allowed)
+          (c.in_ok-allowed.ensures.rows clean (office_still before office) day caller acts.Dispose) known.0 in
           let t = tables_of old.now in
           let falls : due_number c.in_ok-due_numbered.field-0 ≡ item.due = search rules in
           let ranged : IfSome item.due IsDueNumber = search rules in
@@ -95,9 +90,7 @@ returns-clause-rows g c clean office day caller is =
 
 pub loop-place-init : goal.loop-place-init
 loop-place-init g c = record {
-  same_reference = refl;
-  stays = stays_still (state g.S.Store c.args.tx.now.conn.now);
-  goes_on = λ _. stands_still (state g.S.Store c.args.tx.now.conn.now);
+  inside = none_called _ tt;
   told = λ clean h legal pictured. (pictured, λ day caller is. (c.new-allowances.ensures.those h day caller is, ap (map pos) c.new-numbers.ensures.items));
   same = λ clean office. refl;
   by_rows = λ clean office day caller is. (c.new-allowances.ensures.rows (tables_of (state g.S.Store c.args.tx.now.conn.now).now) day caller is, c.new-numbers.ensures.items);

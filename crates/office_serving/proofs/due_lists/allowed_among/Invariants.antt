@@ -1,10 +1,10 @@
-use Rattle.std.proofs.Common.{◌≡◌, List, ℕ, pos, map, filter, take}
+use Rattle.std.proofs.Common.{Ok, ◌≡◌, List, ℕ, pos, map, filter, take}
 use Rattle.jiff.specs.Types.{Date}
 use Rattle.sqlite.specs.State.{HasCleanDisk}
 use Rattle.sqlite.specs.Held.{state}
-use Rattle.sql_meaning.specs.Inside.{Stays, Stands}
 use Rattle.office_core.specs.declared.action.Action.TheVariants as acts
 use Rattle.office_rows.specs.Told.{PlaceRow}
+use Rattle.office_tables.specs.Calls.{GoesOnInTurn}
 use Rattle.office_tables.specs.Tables.{IsOffice, tables_of}
 use Rattle.office_history.specs.Histories.{History}
 use Rattle.office_history.specs.Runs.{IsLegal}
@@ -21,9 +21,7 @@ invariant-loop-place g l =
     let old = state g.S.Store l.fn.tx.conn.now in
     let now = state g.S.Store l.tx.conn.now in
     record {
-      same_reference : l.tx.conn.ghost_name ≡ l.fn.tx.conn.ghost_name;
-      stays : Stays old now;
-      goes_on : HasCleanDisk now → Stands old now;
+      inside : GoesOnInTurn {T = Unit {0}} g.S.Store l.fn.tx.conn l.tx.conn (Ok tt);
       told : HasCleanDisk now → (h : History) → IsLegal h → Pictures h old.now → Pictures h now.now
           × ((day : Date) (caller : List ℕ) → IsAsker h day caller l.asker → AreOf h day caller acts.Dispose l.allowances
           × (map pos l.numbers.items ≡ map (λ (p : PlaceRow). p.number) (filter (may_destroy h day caller) (take l.place-index l.places))));

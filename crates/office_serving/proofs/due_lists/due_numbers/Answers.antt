@@ -1,33 +1,29 @@
 use Rattle.std.proofs.Common.{◌≡◌, List, ℕ, ap, subst, ◌∙◌, rules, w32, w64, map, filter}
 use mir.Val.{SFits}
 use Rattle.std.proofs.lemmas.Int.{to_z-of_z}
-use Rattle.std.proofs.lemmas.Result.{IfOk-weaker, on_ok_weaker}
+use Rattle.std.proofs.lemmas.Result.{IfOk-weaker}
 use Rattle.jiff.specs.Words.{epoch_day}
 use Rattle.jiff.specs.Types.{Date}
-use Rattle.sqlite.specs.State.{HasCleanDisk}
 use Rattle.sqlite.specs.Held.{state}
 use Rattle.office_rows.specs.Told.{PlaceRow, due_places}
 use Rattle.office_tables.specs.Tables.{tables_of}
 use Rattle.office_asking.specs.ByRows.{IsAskerIn}
 use Rattle.office_asking.proofs.RowsTold.{office_still, told_before}
 use Rattle.office_asking.proofs.Readings.{pictured_still}
-use Rattle.sql_meaning.proofs.Inside.{stays_then}
-use Rattle.office_asking.proofs.InTurn.{clean_before, goes_twice, goes_still, on_after, same_twice, stays_thrice}
 use Rattle.office_serving.specs.Listing.{may_destroy}
 use Rattle.office_serving.specs.ListsByRows.{AreAllowedIn}
 use Rattle.office_serving.proofs.DueListLaw.{due_list_is}
+use Rattle.office_tables.proofs.InTurn.{clean_first, inside_failed, inside_then, same_in_turn, same_then, then_in_turn}
 use Rattle.office_serving.proofs.due_lists.due_numbers.Goals as goal
 
 pub returns-clause-due : goal.returns-clause-due
 returns-clause-due g c clean h legal pictured =
     let a = c.args in
     let s1 = state g.S.Store c.read.new.tx.conn.now in
-    let s2 = state g.S.Store c.due_rows.new.tx.conn.now in
-    let s3 = state g.S.Store c.allowed_among.new.tx.conn.now in
-    let clean2 : HasCleanDisk s2 = clean_before s2 s3 c.allowed_among.ensures.inside.stays clean in
-    let clean1 : HasCleanDisk s1 = clean_before s1 s2 c.due_rows.ensures.inside.stays clean2 in
+    let clean2 = clean_first c.allowed_among.ensures.inside.stays clean in
+    let clean1 = clean_first c.due_rows.ensures.inside.stays clean2 in
     let asked = c.in_ok-asker.ensures.asker clean1 h legal pictured in
-    let still = pictured_still h s1.now asked.0 s2.now (c.in_ok-places.ensures.same clean2 asked.0.office) in
+    let still = pictured_still asked.0 (c.in_ok-places.ensures.same clean2 asked.0.office) in
     let small : SFits w32 c.number.result = search rules in
     let fits : SFits w64 c.number.result = search rules in
     let found : c.in_ok-places.places.items ≡ due_places (epoch_day a.day) (tables_of s1.now) =
@@ -45,11 +41,10 @@ returns-clause-rows g c clean office =
     let s0 = state g.S.Store a.tx.now.conn.now in
     let s1 = state g.S.Store c.read.new.tx.conn.now in
     let s2 = state g.S.Store c.due_rows.new.tx.conn.now in
-    let s3 = state g.S.Store c.allowed_among.new.tx.conn.now in
-    let clean2 : HasCleanDisk s2 = clean_before s2 s3 c.allowed_among.ensures.inside.stays clean in
-    let clean1 : HasCleanDisk s1 = clean_before s1 s2 c.due_rows.ensures.inside.stays clean2 in
+    let clean2 = clean_first c.allowed_among.ensures.inside.stays clean in
+    let clean1 = clean_first c.due_rows.ensures.inside.stays clean2 in
     let first = c.in_ok-asker.ensures.same clean1 office in
-    let still = office_still s0.now s1.now first office in
+    let still = office_still first office in
     let same : s2.now ≡ s0.now = c.in_ok-places.ensures.same clean2 still ∙ first in
     let small : SFits w32 c.number.result = search rules in
     let fits : SFits w64 c.number.result = search rules in
@@ -57,35 +52,18 @@ returns-clause-rows g c clean office =
     rw (to_z-of_z w32 c.number.result small, to_z-of_z w64 c.number.result fits, c.number.ensures.value) at (c.in_ok-places.ensures.found clean2 still) in
     let places_are = c.deref.ensures.value ∙ found ∙ ap (λ db. due_places (epoch_day a.day) (tables_of db)) first in
     IfOk-weaker c.allowed_among.result _ _ (λ numbers says.
-    let allowed = told_before s0.now s2.now same (λ t. (day : Date) (caller : List ℕ) → IsAskerIn t day caller c.in_ok-asker.asker → AreAllowedIn t day caller c.deref.result.now numbers.items) says a.day a.caller.now (c.in_ok-asker.ensures.rows clean1 office) in
+    let allowed = told_before same (λ t. (day : Date) (caller : List ℕ) → IsAskerIn t day caller c.in_ok-asker.asker → AreAllowedIn t day caller c.deref.result.now numbers.items) says a.day a.caller.now (c.in_ok-asker.ensures.rows clean1 office) in
     subst (λ places. AreAllowedIn (tables_of s0.now) a.day a.caller.now places numbers.items) places_are allowed)
-    (c.allowed_among.ensures.rows clean (office_still s0.now s2.now same office))
+    (c.allowed_among.ensures.rows clean (office_still same office))
 
 pub returns-clause-same : goal.returns-clause-same
-returns-clause-same g c clean office =
-    let s0 = state g.S.Store c.args.tx.now.conn.now in
-    let s1 = state g.S.Store c.read.new.tx.conn.now in
-    let s2 = state g.S.Store c.due_rows.new.tx.conn.now in
-    let same = same_twice s0 s1 s2 c.due_rows.ensures.inside.stays c.in_ok-asker.ensures.same c.in_ok-places.ensures.same (clean_before s2 (state g.S.Store c.allowed_among.new.tx.conn.now) c.allowed_among.ensures.inside.stays clean) office in
-    on_ok_weaker c.allowed_among.result (λ still. still ∙ same) (c.allowed_among.ensures.same clean (office_still s0.now s2.now same office))
+returns-clause-same g c =
+    let first = c.in_ok-asker.ensures in
+    let second = c.in_ok-places.ensures in
+    same_in_turn (inside_then first.inside second.inside) c.allowed_among.ensures.inside (same_then first.inside second.inside first.same second.same) c.allowed_among.ensures.same
 
 pub returns-in_err-places-clause-inside : goal.returns-in_err-places-clause-inside
-returns-in_err-places-clause-inside g c = record {
-  same_reference = search rules;
-  stays = stays_then (state g.S.Store c.args.tx.now.conn.now) (state g.S.Store c.read.new.tx.conn.now) (state g.S.Store c.due_rows.new.tx.conn.now) c.read.ensures.inside.stays c.in_ok-asker.ensures.inside.goes_on c.due_rows.ensures.inside.stays;
-  goes_on = search rules;
-  failure = search rules;
-}
+returns-in_err-places-clause-inside g c = inside_failed c.in_ok-asker.ensures.inside c.due_rows.ensures.inside _ (search rules) (search rules)
 
 pub returns-clause-inside : goal.returns-clause-inside
-returns-clause-inside g c = record {
-  same_reference = search rules;
-  stays = stays_thrice (state g.S.Store c.args.tx.now.conn.now) (state g.S.Store c.read.new.tx.conn.now) (state g.S.Store c.due_rows.new.tx.conn.now) (state g.S.Store c.allowed_among.new.tx.conn.now) c.read.ensures.inside.stays c.in_ok-asker.ensures.inside.goes_on c.due_rows.ensures.inside.stays c.in_ok-places.ensures.inside.goes_on c.allowed_among.ensures.inside.stays;
-  goes_on = (
-      let s0 = state g.S.Store c.args.tx.now.conn.now in
-      let s1 = state g.S.Store c.read.new.tx.conn.now in
-      let s2 = state g.S.Store c.due_rows.new.tx.conn.now in
-      let s3 = state g.S.Store c.allowed_among.new.tx.conn.now in
-      on_after s0 s2 s3 c.allowed_among.ensures.inside.stays c.allowed_among.result (goes_still s0 s2 s3) (goes_twice s0 s1 s2 c.due_rows.ensures.inside.stays c.in_ok-asker.ensures.inside.goes_on c.in_ok-places.ensures.inside.goes_on) c.allowed_among.ensures.inside.goes_on);
-  failure = search rules;
-}
+returns-clause-inside g c = then_in_turn (inside_then c.in_ok-asker.ensures.inside c.in_ok-places.ensures.inside) c.allowed_among.ensures.inside

@@ -1,16 +1,14 @@
 use Rattle.std.proofs.Common.{Result, Ok, Err, List, ℕ, Bool, Option, None, OnOk, IfOk, ap, sym, ◌∙◌, pos, option_copied, option_map, if◌then◌else◌, rules}
-use Rattle.std.proofs.lemmas.Result.{IfOk-weaker, on_ok_weaker}
+use Rattle.std.proofs.lemmas.Result.{IfOk-weaker}
 use Rattle.sqlite.specs.Held.{state}
-use Rattle.sql_meaning.proofs.Inside.{stands_then}
 use Rattle.bag_text.specs.Paths.{is_good}
 use Rattle.bag_text.specs.TransferForm.{content_at}
 use Rattle.office_rows.specs.Rows.{FileRow, file_at}
 use Rattle.office_tables.specs.Tables.{tables_of}
-use Rattle.office_asking.proofs.InTurn.{stays_still}
 use Rattle.office_asking.proofs.Readings.{pictured_still}
 use Rattle.office_serving.proofs.FilesTold.{content_read}
-use Rattle.office_serving.proofs.InTurn.{stands_still}
 use Rattle.office_serving.proofs.PathsTold.{spelled, is_spelled, unspelled, no_file_there}
+use Rattle.office_tables.proofs.InTurn.{in_turn, none_called}
 use Rattle.office_serving.proofs.files.content_of.Goals as goal
 
 -- what is so of an Ok, and of its value
@@ -21,13 +19,11 @@ both (Err e) next p q = tt
 pub returns-in-Some-clause-content : goal.returns-in-Some-clause-content
 returns-in-Some-clause-content g c clean h legal pictured =
     let a = c.args in
-    let old = state g.S.Store a.tx.now.conn.now in
-    let new = state g.S.Store c.file_of.new.tx.conn.now in
     let text = c.in-Some.text in
     let same = spelled (is_good a.path.now) text.now a.path.now (ap option_copied (sym c.in-Some.is) ∙ c.bag_path.ensures) in
     both c.file_of.result (λ content stands read. (
-      pictured_still h old.now pictured new.now stands,
-      λ found there kept. content_read h old.now pictured a.number found there kept text.now _ read ∙ ap (content_at found.1.bag) same,
+      pictured_still pictured stands,
+      λ found there kept. content_read pictured a.number found there kept text.now _ read ∙ ap (content_at found.1.bag) same,
     )) (c.file_of.ensures.same clean pictured.office) (c.file_of.ensures.found clean pictured.office)
 
 pub returns-in-None-clause-content : goal.returns-in-None-clause-content
@@ -55,19 +51,7 @@ returns-in-None-clause-rows g c clean office =
     ap (λ (b : Bool). if b then option_map (λ (f : FileRow). f.content) (file_at (pos a.number) a.path.now files) else None) (sym bad)
 
 pub returns-in-Some-clause-inside : goal.returns-in-Some-clause-inside
-returns-in-Some-clause-inside g c = record {
-  same_reference = search rules;
-  stays = search rules;
-  goes_on = λ clean. (
-      let old = state g.S.Store c.args.tx.now.conn.now in
-      on_ok_weaker c.file_of.result (stands_then old old (state g.S.Store c.file_of.new.tx.conn.now) (stands_still old)) (c.file_of.ensures.inside.goes_on clean));
-  failure = search rules;
-}
+returns-in-Some-clause-inside g c = in_turn c.file_of.ensures.inside
 
 pub returns-in-None-clause-inside : goal.returns-in-None-clause-inside
-returns-in-None-clause-inside g c = record {
-  same_reference = search rules;
-  stays = stays_still (state g.S.Store c.args.tx.now.conn.now);
-  goes_on = search rules;
-  failure = search rules;
-}
+returns-in-None-clause-inside g c = none_called _ (search rules)

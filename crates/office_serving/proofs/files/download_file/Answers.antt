@@ -3,18 +3,17 @@ use Rattle.sqlite.specs.Held.{state}
 use Rattle.office_core.specs.declared.action.Action.TheVariants as acts
 use Rattle.office_tables.specs.Tables.{tables_of}
 use Rattle.office_history.specs.Answers.{file_answer}
-use Rattle.office_asking.proofs.InTurn.{clean_before, same_twice}
 use Rattle.office_asking.proofs.RowsTold.{office_still}
 use Rattle.office_serving.specs.FilesByRows.{content_stored}
 use Rattle.office_serving.proofs.Told.{is_kept, file_told, file_not_asked}
+use Rattle.office_tables.proofs.InTurn.{clean_first, same_in_turn}
 use Rattle.office_serving.proofs.files.download_file.Goals as goal
 
 pub returns-in-Ok-clause-decides : goal.returns-in-Ok-clause-decides
 returns-in-Ok-clause-decides g c clean h legal pictured =
     let a = c.args in
-    let mid = state g.S.Store c.kept_deposit.new.tx.conn.now in
     let new = state g.S.Store c.content_of.new.tx.conn.now in
-    let asked = rw c.in-Ok.is at c.in_ok-kept_deposit.ensures.asked (clean_before mid new c.content_of.ensures.inside.stays clean) h legal pictured in
+    let asked = rw c.in-Ok.is at c.in_ok-kept_deposit.ensures.asked (clean_first c.content_of.ensures.inside.stays clean) h legal pictured in
     let it = asked.1 in
     let read = c.in_ok-content_of-in-Ok.ensures.content clean h legal asked.0 in
     rw c.file_answer.ensures (file_told h a.day a.caller.now a.number a.path new.now _ it _ (read.1 it.found it.there (is_kept a.day a.caller.now acts.Download it)) read.0)
@@ -27,11 +26,9 @@ returns-clause-decides g c clean h legal pictured =
 pub returns-in-Ok-clause-rows : goal.returns-in-Ok-clause-rows
 returns-in-Ok-clause-rows g c clean office =
     let a = c.args in
-    let old = state g.S.Store a.tx.now.conn.now in
-    let mid = state g.S.Store c.kept_deposit.new.tx.conn.now in
-    let early = clean_before mid (state g.S.Store c.content_of.new.tx.conn.now) c.content_of.ensures.inside.stays clean in
+    let early = clean_first c.content_of.ensures.inside.stays clean in
     let same = c.in_ok-kept_deposit.ensures.same early office in
-    let read = c.in_ok-content_of-in-Ok.ensures.rows clean (office_still old.now mid.now same office) in
+    let read = c.in_ok-content_of-in-Ok.ensures.rows clean (office_still same office) in
     record {
       asked = Ok _;
       is_asked = rw c.in-Ok.is at c.in_ok-kept_deposit.ensures.rows early office;
@@ -42,5 +39,4 @@ pub returns-clause-rows : goal.returns-clause-rows
 returns-clause-rows g c clean office = record { asked = Err _; is_asked = rw c.in-Err.is at c.in_ok-kept_deposit.ensures.rows clean office; answers = refl }
 
 pub returns-in-Ok-clause-same : goal.returns-in-Ok-clause-same
-returns-in-Ok-clause-same g c =
-    same_twice (state g.S.Store c.args.tx.now.conn.now) (state g.S.Store c.kept_deposit.new.tx.conn.now) (state g.S.Store c.content_of.new.tx.conn.now) c.content_of.ensures.inside.stays c.in_ok-kept_deposit.ensures.same c.in_ok-content_of-in-Ok.ensures.same
+returns-in-Ok-clause-same g c = same_in_turn c.in_ok-kept_deposit.ensures.inside c.in_ok-content_of-in-Ok.ensures.inside c.in_ok-kept_deposit.ensures.same c.in_ok-content_of-in-Ok.ensures.same

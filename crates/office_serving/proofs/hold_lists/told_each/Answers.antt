@@ -1,14 +1,12 @@
 use Rattle.std.proofs.Common.{rules, ◌∙◌, refl, sym, ap, subst, []}
 use Rattle.sqlite.specs.State.{HasCleanDisk}
 use Rattle.sqlite.specs.Held.{state}
-use Rattle.sql_meaning.proofs.Inside.{stays_on, stands_then}
 use Rattle.office_history.specs.Answers.{told_hold}
 use Rattle.office_tables.specs.Tables.{tables_of}
 use Rattle.office_asking.proofs.RowsTold.{office_still}
 use Rattle.office_serving.specs.FilesByRows.{AreHoldsOf}
 use Rattle.office_serving.proofs.HoldsTold.{next_told, next_by_row}
-use Rattle.office_asking.proofs.InTurn.{clean_before, stays_still}
-use Rattle.office_serving.proofs.InTurn.{stands_still}
+use Rattle.office_tables.proofs.InTurn.{clean_first, in_turn, none_called, turn_as, turn_failed, turn_then}
 use Rattle.office_serving.proofs.hold_lists.told_each.Goals as goal
 
 pub loop-number-preserved : goal.loop-number-preserved
@@ -18,47 +16,33 @@ loop-number-preserved g c =
     let now = state g.S.Store c.loop-number.tx.conn.now in
     let new = state g.S.Store c.told_hold.new.tx.conn.now in
     let inv = c.loop-number.invariant in
-    let early = λ (clean : HasCleanDisk new). let e : HasCleanDisk now = clean_before now new c.told_hold.ensures.inside.stays clean in e in
+    let early = λ (clean : HasCleanDisk new). clean_first c.told_hold.ensures.inside.stays clean in
     record {
-      same_reference = search rules;
-      stays = stays_on old now new inv.stays inv.goes_on c.told_hold.ensures.inside.stays;
-      goes_on = λ clean. stands_then old now new (inv.goes_on (early clean)) (c.in_ok-told_hold.ensures.inside.goes_on clean);
+      inside = turn_as (turn_then inv.inside (in_turn c.in_ok-told_hold.ensures.inside)) _ tt;
       told = λ clean h legal pictured.
           let there = inv.told (early clean) h legal pictured in
           let found = c.in_ok-told_hold.ensures.told clean h legal there.0 in
           (found.0, c.in_ok-push.ensures.items ∙ next_told (told_hold h) a.numbers.now c.loop-number.number-index _ c.loop-number-test.true c.loop-number.told.items c.in_ok-told_hold.field-0 there.1 found.1);
       same = λ clean office.
           let same = inv.same (early clean) office in
-          c.in_ok-told_hold.ensures.same clean (office_still old.now now.now same office) ∙ same;
+          c.in_ok-told_hold.ensures.same clean (office_still same office) ∙ same;
       rows = λ clean office.
           let same = inv.same (early clean) office in
-          let read = c.in_ok-told_hold.ensures.rows clean (office_still old.now now.now same office) in
+          let read = c.in_ok-told_hold.ensures.rows clean (office_still same office) in
           let more = next_by_row (tables_of old.now) (tables_of now.now) (ap tables_of same) a.numbers.now c.loop-number.number-index _ c.loop-number-test.true c.loop-number.told.items c.in_ok-told_hold.field-0 (inv.rows (early clean) office) read in
           subst (AreHoldsOf (tables_of old.now) _) (sym c.in_ok-push.ensures.items) more;
     }
 
 pub loop-number-init : goal.loop-number-init
 loop-number-init g c = record {
-  same_reference = refl;
-  stays = stays_still (state g.S.Store c.args.tx.now.conn.now);
-  goes_on = λ _. stands_still (state g.S.Store c.args.tx.now.conn.now);
+  inside = none_called _ tt;
   told = λ clean h legal pictured. (pictured, c.new-told.ensures.items);
   same = λ _ _. refl;
   rows = λ clean office. subst (AreHoldsOf _ []) (sym c.new-told.ensures.items) (record { one_each = refl; each = tt });
 }
 
 pub returns-in_err-told_hold-clause-inside : goal.returns-in_err-told_hold-clause-inside
-returns-in_err-told_hold-clause-inside g c = record {
-  same_reference = search rules;
-  stays = stays_on (state g.S.Store c.args.tx.now.conn.now) (state g.S.Store c.loop-number.tx.conn.now) (state g.S.Store c.told_hold.new.tx.conn.now) c.loop-number.invariant.stays c.loop-number.invariant.goes_on c.told_hold.ensures.inside.stays;
-  goes_on = search rules;
-  failure = search rules;
-}
+returns-in_err-told_hold-clause-inside g c = turn_failed c.loop-number.invariant.inside (in_turn c.told_hold.ensures.inside) _ (search rules) (search rules)
 
 pub returns-in_err-push-clause-inside : goal.returns-in_err-push-clause-inside
-returns-in_err-push-clause-inside g c = record {
-  same_reference = search rules;
-  stays = stays_on (state g.S.Store c.args.tx.now.conn.now) (state g.S.Store c.loop-number.tx.conn.now) (state g.S.Store c.told_hold.new.tx.conn.now) c.loop-number.invariant.stays c.loop-number.invariant.goes_on c.told_hold.ensures.inside.stays;
-  goes_on = search rules;
-  failure = search rules;
-}
+returns-in_err-push-clause-inside g c = turn_as (turn_then c.loop-number.invariant.inside (in_turn c.in_ok-told_hold.ensures.inside)) _ (search rules)

@@ -1,11 +1,11 @@
-use Rattle.std.proofs.Common.{◌≡◌, map, pos, take}
+use Rattle.std.proofs.Common.{Ok, ◌≡◌, map, pos, take}
 use Rattle.std.specs.List.{filter_map}
 use Rattle.sqlite.specs.State.{HasCleanDisk}
 use Rattle.sqlite.specs.Held.{state}
-use Rattle.sql_meaning.specs.Inside.{Stays, Stands}
 use Rattle.office_history.specs.Histories.{History}
 use Rattle.office_history.specs.Answers.{told_hold}
 use Rattle.office_history.specs.Runs.{IsLegal}
+use Rattle.office_tables.specs.Calls.{GoesOnInTurn}
 use Rattle.office_tables.specs.Tables.{IsOffice, tables_of}
 use Rattle.office_asking.specs.Pictures.{Pictures}
 use Rattle.office_serving.specs.FilesByRows.{AreHoldsOf}
@@ -16,9 +16,7 @@ invariant-loop-number g l =
     let old = state g.S.Store l.fn.tx.conn.now in
     let now = state g.S.Store l.tx.conn.now in
     record {
-      same_reference : l.tx.conn.ghost_name ≡ l.fn.tx.conn.ghost_name;
-      stays : Stays old now;
-      goes_on : HasCleanDisk now → Stands old now;
+      inside : GoesOnInTurn {T = Unit {0}} g.S.Store l.fn.tx.conn l.tx.conn (Ok tt);
       told : HasCleanDisk now → (h : History) → IsLegal h → Pictures h old.now → Pictures h now.now × (l.told.items ≡ filter_map (told_hold h) (take l.number-index l.numbers));
       same : HasCleanDisk now → IsOffice old.now → now.now ≡ old.now;
       rows : HasCleanDisk now → IsOffice old.now → AreHoldsOf (tables_of old.now) (map pos (take l.number-index l.numbers)) l.told.items;

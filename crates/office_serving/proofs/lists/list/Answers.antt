@@ -1,6 +1,5 @@
 use Rattle.std.proofs.Common.{rules, ◌≡◌, List, ℕ, refl, ap, subst, ◌∙◌, option_copied}
 use Rattle.jiff.specs.Types.{Date}
-use Rattle.sqlite.specs.State.{HasCleanDisk}
 use Rattle.sqlite.specs.Held.{state}
 use Rattle.office_core.specs.declared.answer.Answer.TheVariants as answers
 use Rattle.office_rows.specs.Rows.{beside}
@@ -10,24 +9,19 @@ use Rattle.office_asking.specs.ByRows.{IsAskerIn}
 use Rattle.office_asking.proofs.RowsTold.{office_still, told_before}
 use Rattle.office_asking.proofs.Readings.{in_picture, pictured_still}
 use Rattle.office_asking.proofs.Serving.{read_serves}
-use Rattle.sql_meaning.proofs.Inside.{stays_then}
-use Rattle.office_asking.proofs.InTurn.{clean_before, goes_twice}
-use Rattle.office_serving.proofs.InTurn.{goes_still, stays_thrice}
 use Rattle.office_serving.specs.ListsByRows.{AreListedIn}
-use Rattle.office_serving.proofs.ByRows.{same_thrice}
+use Rattle.office_tables.proofs.InTurn.{clean_first, failed_in_turn, inside_as, inside_failed, inside_then, same_in_turn, same_then, then_in_turn}
 use Rattle.office_serving.proofs.lists.list.Goals as goal
 
 pub returns-clause-decides : goal.returns-clause-decides
 returns-clause-decides g c clean h legal pictured =
     let a = c.args in
-    let s1 = state g.S.Store c.read.new.tx.conn.now in
-    let s2 = state g.S.Store c.deposits_and_dues.new.tx.conn.now in
     let s3 = state g.S.Store c.shown_among.new.tx.conn.now in
-    let clean2 : HasCleanDisk s2 = clean_before s2 s3 c.shown_among.ensures.inside.stays clean in
-    let clean1 : HasCleanDisk s1 = clean_before s1 s2 c.deposits_and_dues.ensures.inside.stays clean2 in
+    let clean2 = clean_first c.shown_among.ensures.inside.stays clean in
+    let clean1 = clean_first c.deposits_and_dues.ensures.inside.stays clean2 in
     let asked = c.in_ok-asker.ensures.asker clean1 h legal pictured in
-    let still = pictured_still h s1.now asked.0 s2.now (c.in_ok-rows.ensures.same clean2 asked.0.office) in
-    let rows_are = c.deref.ensures.value ∙ c.in_ok-rows.ensures.found clean2 asked.0.office ∙ in_picture h s1.now asked.0 (λ t. beside t.deposits t.dues) in
+    let still = pictured_still asked.0 (c.in_ok-rows.ensures.same clean2 asked.0.office) in
+    let rows_are = c.deref.ensures.value ∙ c.in_ok-rows.ensures.found clean2 asked.0.office ∙ in_picture asked.0 (λ t. beside t.deposits t.dues) in
     let found = c.in_ok-told.ensures.listed clean h legal still in
     let given : c.of.result ≡ c.in_ok-told.told.items = search rules in
     read_serves h a.day a.caller.now (requests.List (option_copied a.collection) (option_copied a.class)) s3.now (answers.List c.of.result) refl (ap answers.List (given ∙ found.1 a.day a.caller.now asked.1 rows_are)) refl found.0
@@ -36,56 +30,31 @@ pub returns-clause-rows : goal.returns-clause-rows
 returns-clause-rows g c clean office =
     let a = c.args in
     let s0 = state g.S.Store a.tx.now.conn.now in
-    let s1 = state g.S.Store c.read.new.tx.conn.now in
     let s2 = state g.S.Store c.deposits_and_dues.new.tx.conn.now in
-    let s3 = state g.S.Store c.shown_among.new.tx.conn.now in
     let collection = option_copied a.collection in
     let class = option_copied a.class in
-    let clean2 : HasCleanDisk s2 = clean_before s2 s3 c.shown_among.ensures.inside.stays clean in
-    let clean1 : HasCleanDisk s1 = clean_before s1 s2 c.deposits_and_dues.ensures.inside.stays clean2 in
+    let clean2 = clean_first c.shown_among.ensures.inside.stays clean in
+    let clean1 = clean_first c.deposits_and_dues.ensures.inside.stays clean2 in
     let first = c.in_ok-asker.ensures.same clean1 office in
-    let still = office_still s0.now s1.now first office in
+    let still = office_still first office in
     let same : s2.now ≡ s0.now = c.in_ok-rows.ensures.same clean2 still ∙ first in
     let rows_are = c.deref.ensures.value ∙ c.in_ok-rows.ensures.found clean2 still ∙ ap (λ db. beside (tables_of db).deposits (tables_of db).dues) first in
-    let found = told_before s0.now s2.now same (λ t. (day : Date) (caller : List ℕ) → IsAskerIn t day caller c.in_ok-asker.asker → AreListedIn t day caller collection class c.deref.result.now c.in_ok-told.told.items)
-    (c.in_ok-told.ensures.rows clean (office_still s0.now s2.now same office)) a.day a.caller.now (c.in_ok-asker.ensures.rows clean1 office) in
+    let found = told_before same (λ t. (day : Date) (caller : List ℕ) → IsAskerIn t day caller c.in_ok-asker.asker → AreListedIn t day caller collection class c.deref.result.now c.in_ok-told.told.items)
+    (c.in_ok-told.ensures.rows clean (office_still same office)) a.day a.caller.now (c.in_ok-asker.ensures.rows clean1 office) in
     let given : c.of.result ≡ c.in_ok-told.told.items = search rules in
     (c.in_ok-told.told.items, subst (λ rows. AreListedIn (tables_of s0.now) a.day a.caller.now collection class rows c.in_ok-told.told.items) rows_are found, ap answers.List given)
 
 pub returns-clause-same : goal.returns-clause-same
 returns-clause-same g c =
-    let s0 = state g.S.Store c.args.tx.now.conn.now in
-    let s1 = state g.S.Store c.read.new.tx.conn.now in
-    let s2 = state g.S.Store c.deposits_and_dues.new.tx.conn.now in
-    let s3 = state g.S.Store c.shown_among.new.tx.conn.now in
-    same_thrice s0 s1 s2 s3 c.deposits_and_dues.ensures.inside.stays c.shown_among.ensures.inside.stays c.in_ok-asker.ensures.same c.in_ok-rows.ensures.same c.in_ok-told.ensures.same
+    let first = c.in_ok-asker.ensures in
+    let second = c.in_ok-rows.ensures in
+    same_in_turn (inside_then first.inside second.inside) c.in_ok-told.ensures.inside (same_then first.inside second.inside first.same second.same) c.in_ok-told.ensures.same
 
 pub returns-in_err-rows-clause-inside : goal.returns-in_err-rows-clause-inside
-returns-in_err-rows-clause-inside g c = record {
-  same_reference = search rules;
-  stays = stays_then (state g.S.Store c.args.tx.now.conn.now) (state g.S.Store c.read.new.tx.conn.now) (state g.S.Store c.deposits_and_dues.new.tx.conn.now) c.read.ensures.inside.stays c.in_ok-asker.ensures.inside.goes_on c.deposits_and_dues.ensures.inside.stays;
-  goes_on = search rules;
-  failure = search rules;
-}
+returns-in_err-rows-clause-inside g c = inside_failed c.in_ok-asker.ensures.inside c.deposits_and_dues.ensures.inside _ (search rules) (search rules)
 
 pub returns-in_err-told-clause-inside : goal.returns-in_err-told-clause-inside
-returns-in_err-told-clause-inside g c = record {
-  same_reference = search rules;
-  stays = stays_thrice (state g.S.Store c.args.tx.now.conn.now) (state g.S.Store c.read.new.tx.conn.now) (state g.S.Store c.deposits_and_dues.new.tx.conn.now) (state g.S.Store c.shown_among.new.tx.conn.now) c.read.ensures.inside.stays c.in_ok-asker.ensures.inside.goes_on c.deposits_and_dues.ensures.inside.stays c.in_ok-rows.ensures.inside.goes_on c.shown_among.ensures.inside.stays;
-  goes_on = search rules;
-  failure = search rules;
-}
+returns-in_err-told-clause-inside g c = failed_in_turn (inside_then c.in_ok-asker.ensures.inside c.in_ok-rows.ensures.inside) c.shown_among.ensures.inside _ (search rules) (search rules)
 
 pub returns-clause-inside : goal.returns-clause-inside
-returns-clause-inside g c = record {
-  same_reference = search rules;
-  stays = stays_thrice (state g.S.Store c.args.tx.now.conn.now) (state g.S.Store c.read.new.tx.conn.now) (state g.S.Store c.deposits_and_dues.new.tx.conn.now) (state g.S.Store c.shown_among.new.tx.conn.now) c.read.ensures.inside.stays c.in_ok-asker.ensures.inside.goes_on c.deposits_and_dues.ensures.inside.stays c.in_ok-rows.ensures.inside.goes_on c.shown_among.ensures.inside.stays;
-  goes_on = λ clean. (
-      let s0 = state g.S.Store c.args.tx.now.conn.now in
-      let s1 = state g.S.Store c.read.new.tx.conn.now in
-      let s2 = state g.S.Store c.deposits_and_dues.new.tx.conn.now in
-      let s3 = state g.S.Store c.shown_among.new.tx.conn.now in
-      let p = goes_twice s0 s1 s2 c.deposits_and_dues.ensures.inside.stays c.in_ok-asker.ensures.inside.goes_on c.in_ok-rows.ensures.inside.goes_on (clean_before s2 s3 c.shown_among.ensures.inside.stays clean) in
-      goes_still s0 s2 s3 p (c.in_ok-told.ensures.inside.goes_on clean));
-  failure = search rules;
-}
+returns-clause-inside g c = inside_as (then_in_turn (inside_then c.in_ok-asker.ensures.inside c.in_ok-rows.ensures.inside) c.in_ok-told.ensures.inside) _ (search rules)

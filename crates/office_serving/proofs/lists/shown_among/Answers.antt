@@ -2,7 +2,6 @@ use Rattle.std.proofs.Common.{arith, rules, ◌≡◌, ◌++◌, [], length, get
 use Rattle.std.specs.List.{cons_option, filter_map}
 use Rattle.sqlite.specs.State.{HasCleanDisk}
 use Rattle.sqlite.specs.Held.{state}
-use Rattle.sql_meaning.proofs.Inside.{stays_on}
 use Rattle.office_core.specs.declared.action.Action.TheVariants as acts
 use Rattle.office_tables.specs.Tables.{tables_of}
 use Rattle.office_history.specs.Lists.{numbers}
@@ -12,25 +11,21 @@ use Rattle.office_serving.specs.ListsByRows.{AreIn, IsToldIn}
 use Rattle.office_serving.proofs.ByRows.{tells_next, tells_all}
 use Rattle.office_serving.proofs.ShownTold.{shown_next, shown_of_rows}
 use Rattle.office_serving.proofs.lists.shown_among.Goals.{in-Some+in_ok-push, in_default}
-use Rattle.office_asking.proofs.InTurn.{clean_before, stays_still}
-use Rattle.office_serving.proofs.InTurn.{stands_still, stands_on}
+use Rattle.office_tables.proofs.InTurn.{clean_first, none_called, turn_as, turn_failed, turn_then}
 use Rattle.office_serving.proofs.lists.shown_among.Goals as goal
 
 pub loop-row-preserved : goal.loop-row-preserved
 loop-row-preserved g c =
     let a = c.args in
     let old = state g.S.Store a.tx.now.conn.now in
-    let now = state g.S.Store c.loop-row.tx.conn.now in
     let new = state g.S.Store c.shown_record.new.tx.conn.now in
     let inv = c.loop-row.invariant in
     let place = c.loop-row.row-index in
     let row = c.row-item.result in
     let item : row ≡ get_or a.rows.now place row = search rules in
-    let early = λ (clean : HasCleanDisk new). let e : HasCleanDisk now = clean_before now new c.shown_record.ensures.inside.stays clean in e in
+    let early = λ (clean : HasCleanDisk new). clean_first c.shown_record.ensures.inside.stays clean in
     record {
-      same_reference = search rules;
-      stays = stays_on old now new inv.stays inv.goes_on c.shown_record.ensures.inside.stays;
-      goes_on = λ clean. stands_on old now new (inv.goes_on (early clean)) (c.in_ok-record.ensures.inside.goes_on clean);
+      inside = turn_as (turn_then inv.inside c.in_ok-record.ensures.inside) _ tt;
       told = λ clean h legal pictured.
           let there = inv.told (early clean) h legal pictured in
           let found = c.in_ok-record.ensures.shown clean h legal there.0 in (
@@ -48,12 +43,12 @@ loop-row-preserved g c =
           );
       same = λ clean office.
           let before = inv.same (early clean) office in
-          c.in_ok-record.ensures.same clean (office_still old.now now.now before office) ∙ before;
+          c.in_ok-record.ensures.same clean (office_still before office) ∙ before;
       by_rows = λ clean office day caller is.
           let before = inv.same (early clean) office in
           let known = inv.by_rows (early clean) office day caller is in
-          let said = told_before old.now now.now before (λ t. AreIn t day caller acts.List c.loop-row.allowances → AreIn t day caller acts.List c.shown_record.new.allowances × IsToldIn t day caller (option_copied a.collection) (option_copied a.class) row c.in_ok-record.field-0)
-          (c.in_ok-record.ensures.rows clean (office_still old.now now.now before office) day caller) known.0 in
+          let said = told_before before (λ t. AreIn t day caller acts.List c.loop-row.allowances → AreIn t day caller acts.List c.shown_record.new.allowances × IsToldIn t day caller (option_copied a.collection) (option_copied a.class) row c.in_ok-record.field-0)
+          (c.in_ok-record.ensures.rows clean (office_still before office) day caller) known.0 in
           let told = IsToldIn (tables_of old.now) day caller (option_copied a.collection) (option_copied a.class) in (
             said.0,
             tells_next told a.rows.now place row c.loop-row-test.true c.loop-row.told.items known.1 c.in_ok-record.field-0 (subst (λ r. told r c.in_ok-record.field-0) item said.1) _ (elim c.match-branch-2.branch [
@@ -82,9 +77,7 @@ returns-clause-rows g c clean office day caller is =
 
 pub loop-row-init : goal.loop-row-init
 loop-row-init g c = record {
-  same_reference = refl;
-  stays = stays_still (state g.S.Store c.args.tx.now.conn.now);
-  goes_on = λ _. stands_still (state g.S.Store c.args.tx.now.conn.now);
+  inside = none_called _ tt;
   told = λ clean h legal pictured. (pictured, λ day caller is rows_are. (c.new-allowances.ensures.those h day caller is, c.new-told.ensures.items));
   same = λ clean office. refl;
   by_rows = λ clean office day caller is. (c.new-allowances.ensures.rows (tables_of (state g.S.Store c.args.tx.now.conn.now).now) day caller is, c.new-told.ensures.items);
@@ -94,17 +87,7 @@ pub returns-clause-same : goal.returns-clause-same
 returns-clause-same g c = c.loop-row.invariant.same
 
 pub returns-in_err-record-clause-inside : goal.returns-in_err-record-clause-inside
-returns-in_err-record-clause-inside g c = record {
-  same_reference = search rules;
-  stays = stays_on (state g.S.Store c.args.tx.now.conn.now) (state g.S.Store c.loop-row.tx.conn.now) (state g.S.Store c.shown_record.new.tx.conn.now) c.loop-row.invariant.stays c.loop-row.invariant.goes_on c.shown_record.ensures.inside.stays;
-  goes_on = search rules;
-  failure = search rules;
-}
+returns-in_err-record-clause-inside g c = turn_failed c.loop-row.invariant.inside c.shown_record.ensures.inside _ (search rules) (search rules)
 
 pub returns-in_err-push-clause-inside : goal.returns-in_err-push-clause-inside
-returns-in_err-push-clause-inside g c = record {
-  same_reference = search rules;
-  stays = stays_on (state g.S.Store c.args.tx.now.conn.now) (state g.S.Store c.loop-row.tx.conn.now) (state g.S.Store c.shown_record.new.tx.conn.now) c.loop-row.invariant.stays c.loop-row.invariant.goes_on c.shown_record.ensures.inside.stays;
-  goes_on = search rules;
-  failure = search rules;
-}
+returns-in_err-push-clause-inside g c = turn_as (turn_then c.loop-row.invariant.inside c.in_ok-record.ensures.inside) _ (search rules)

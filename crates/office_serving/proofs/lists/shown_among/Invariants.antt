@@ -1,11 +1,11 @@
-use Rattle.std.proofs.Common.{◌≡◌, List, ℕ, option_copied, take}
+use Rattle.std.proofs.Common.{Ok, ◌≡◌, List, ℕ, option_copied, take}
 use Rattle.std.specs.List.{filter_map}
 use Rattle.jiff.specs.Types.{Date}
 use Rattle.sqlite.specs.State.{HasCleanDisk}
 use Rattle.sqlite.specs.Held.{state}
-use Rattle.sql_meaning.specs.Inside.{Stays, Stands}
 use Rattle.office_core.specs.declared.action.Action.TheVariants as acts
 use Rattle.office_rows.specs.Rows.{beside}
+use Rattle.office_tables.specs.Calls.{GoesOnInTurn}
 use Rattle.office_tables.specs.Tables.{IsOffice, tables_of}
 use Rattle.office_history.specs.Lists.{numbers}
 use Rattle.office_history.specs.Histories.{History}
@@ -24,9 +24,7 @@ invariant-loop-row g l =
     let old = state g.S.Store l.fn.tx.conn.now in
     let now = state g.S.Store l.tx.conn.now in
     record {
-      same_reference : l.tx.conn.ghost_name ≡ l.fn.tx.conn.ghost_name;
-      stays : Stays old now;
-      goes_on : HasCleanDisk now → Stands old now;
+      inside : GoesOnInTurn {T = Unit {0}} g.S.Store l.fn.tx.conn l.tx.conn (Ok tt);
       told : HasCleanDisk now → (h : History) → IsLegal h → Pictures h old.now → Pictures h now.now
           × ((day : Date) (caller : List ℕ) → IsAsker h day caller l.asker → l.rows ≡ beside (deposit_rows h) (due_rows h)
           → AreOf h day caller acts.List l.allowances

@@ -10,16 +10,13 @@ use Rattle.office_asking.proofs.Serving.{refused_serves}
 use Rattle.office_serving.specs.ListsByRows.{IsRecordBy}
 use Rattle.office_serving.proofs.ByRows.{found_number}
 use Rattle.office_serving.proofs.Told.{told_serves}
-use Rattle.office_asking.proofs.InTurn.{clean_before, goes_twice, same_twice}
-use Rattle.sql_meaning.proofs.Inside.{stays_then}
+use Rattle.office_tables.proofs.InTurn.{clean_first, inside_after, inside_failed, same_then}
 use Rattle.office_serving.proofs.records.record.Goals as goal
 
 pub returns-in_ok-record_of-in-Ok-clause-decides : goal.returns-in_ok-record_of-in-Ok-clause-decides
 returns-in_ok-record_of-in-Ok-clause-decides g c clean h legal pictured =
     let a = c.args in
-    let mid = state g.S.Store c.kept_deposit.new.tx.conn.now in
-    let new = state g.S.Store c.record_of.new.tx.conn.now in
-    let asked = rw c.in-Ok.is at c.in_ok-row.ensures.asked (clean_before mid new c.record_of.ensures.inside.stays clean) h legal pictured in
+    let asked = rw c.in-Ok.is at c.in_ok-row.ensures.asked (clean_first c.record_of.ensures.inside.stays clean) h legal pictured in
     let it = asked.1 in
     let told = c.in_ok-record_of-in-Ok.ensures.told clean h legal asked.0 in
     told_serves a.day a.caller.now acts.Record it refl (λ found. answers.Record (record_of h a.number found)) refl refl (ap answers.Record (told.1 a.number it.found it.there it.row_is)) told.0
@@ -33,12 +30,10 @@ pub returns-in_ok-record_of-in-Ok-clause-rows : goal.returns-in_ok-record_of-in-
 returns-in_ok-record_of-in-Ok-clause-rows g c clean office =
     let a = c.args in
     let old = state g.S.Store a.tx.now.conn.now in
-    let mid = state g.S.Store c.kept_deposit.new.tx.conn.now in
-    let new = state g.S.Store c.record_of.new.tx.conn.now in
-    let early = clean_before mid new c.record_of.ensures.inside.stays clean in
+    let early = clean_first c.record_of.ensures.inside.stays clean in
     let asked : IsAskedIn (tables_of old.now) a.day a.caller.now acts.Record a.number (Ok c.in-Ok.row) = rw c.in-Ok.is at c.in_ok-row.ensures.rows early office in
     let same = c.in_ok-row.ensures.same early office in
-    let told = told_before old.now mid.now same (λ t. (n : ℕ) → pos n ≡ c.in-Ok.row.number → IsRecordBy t n c.in-Ok.row c.in_ok-record_of-in-Ok.field-0) (c.in_ok-record_of-in-Ok.ensures.rows clean (office_still old.now mid.now same office)) in
+    let told = told_before same (λ t. (n : ℕ) → pos n ≡ c.in-Ok.row.number → IsRecordBy t n c.in-Ok.row c.in_ok-record_of-in-Ok.field-0) (c.in_ok-record_of-in-Ok.ensures.rows clean (office_still same office)) in
     let number = sym (found_number (pos a.number) (tables_of old.now).deposits c.in-Ok.row asked.0) in
     record { asked = Ok c.in-Ok.row; is_asked = asked; answers = (c.in_ok-record_of-in-Ok.field-0, told a.number number, refl) }
 
@@ -48,21 +43,10 @@ returns-in-Err-clause-rows g c clean office =
     record { asked = Err c.in-Err.why; is_asked = asked; answers = refl }
 
 pub returns-in_ok-record_of-in-Ok-clause-same : goal.returns-in_ok-record_of-in-Ok-clause-same
-returns-in_ok-record_of-in-Ok-clause-same g c =
-    same_twice (state g.S.Store c.args.tx.now.conn.now) (state g.S.Store c.kept_deposit.new.tx.conn.now) (state g.S.Store c.record_of.new.tx.conn.now) c.record_of.ensures.inside.stays c.in_ok-row.ensures.same c.in_ok-record_of-in-Ok.ensures.same
+returns-in_ok-record_of-in-Ok-clause-same g c = same_then c.in_ok-row.ensures.inside c.in_ok-record_of-in-Ok.ensures.inside c.in_ok-row.ensures.same c.in_ok-record_of-in-Ok.ensures.same
 
 pub returns-in_err-record_of-in-Ok-clause-inside : goal.returns-in_err-record_of-in-Ok-clause-inside
-returns-in_err-record_of-in-Ok-clause-inside g c = record {
-  same_reference = search rules;
-  stays = stays_then (state g.S.Store c.args.tx.now.conn.now) (state g.S.Store c.kept_deposit.new.tx.conn.now) (state g.S.Store c.record_of.new.tx.conn.now) c.kept_deposit.ensures.inside.stays c.in_ok-row.ensures.inside.goes_on c.record_of.ensures.inside.stays;
-  goes_on = search rules;
-  failure = search rules;
-}
+returns-in_err-record_of-in-Ok-clause-inside g c = inside_failed c.in_ok-row.ensures.inside c.record_of.ensures.inside _ (search rules) (search rules)
 
 pub returns-in_ok-record_of-in-Ok-clause-inside : goal.returns-in_ok-record_of-in-Ok-clause-inside
-returns-in_ok-record_of-in-Ok-clause-inside g c = record {
-  same_reference = search rules;
-  stays = stays_then (state g.S.Store c.args.tx.now.conn.now) (state g.S.Store c.kept_deposit.new.tx.conn.now) (state g.S.Store c.record_of.new.tx.conn.now) c.kept_deposit.ensures.inside.stays c.in_ok-row.ensures.inside.goes_on c.record_of.ensures.inside.stays;
-  goes_on = goes_twice (state g.S.Store c.args.tx.now.conn.now) (state g.S.Store c.kept_deposit.new.tx.conn.now) (state g.S.Store c.record_of.new.tx.conn.now) c.record_of.ensures.inside.stays c.in_ok-row.ensures.inside.goes_on c.in_ok-record_of-in-Ok.ensures.inside.goes_on;
-  failure = search rules;
-}
+returns-in_ok-record_of-in-Ok-clause-inside g c = inside_after c.in_ok-row.ensures.inside c.in_ok-record_of-in-Ok.ensures.inside _ (search rules)

@@ -1,13 +1,13 @@
 use Rattle.std.proofs.Common.{rules, ◌≡◌, pos, ap, sym, ◌∙◌}
 use Rattle.std.proofs.lemmas.Result.{IfOk-weaker}
 use Rattle.sqlite.specs.Held.{state}
-use Rattle.sql_meaning.proofs.Results.{on_ok}
 use Rattle.office_rows.specs.Rows.{DepositRow, due_numbered}
 use Rattle.office_tables.specs.Tables.{tables_of}
 use Rattle.office_history.specs.Histories.{deposit_numbered}
 use Rattle.office_history.specs.Pictures.{due_row}
 use Rattle.office_asking.proofs.NumberedRows.{same_count}
 use Rattle.office_serving.proofs.RecordTold.{record_is}
+use Rattle.office_tables.proofs.InTurn.{whatever}
 use Rattle.office_serving.proofs.records.record_of.Goals as goal
 
 pub returns-clause-told : goal.returns-clause-told
@@ -31,4 +31,4 @@ returns-clause-rows g c clean office =
     IfOk-weaker c.record_in.result _ _ (λ told says n is. record { kept = c.in_ok-kept.kept; there = kept ∙ ap (λ m. due_numbered m t.dues) (number ∙ sym is); is = says }) c.record_in.ensures.told
 
 pub returns-clause-same : goal.returns-clause-same
-returns-clause-same g c clean office = on_ok c.record_in.result (λ _ _. c.in_ok-kept.ensures.same clean office) c.record_in.ensures.told
+returns-clause-same g c clean office = whatever c.record_in.result (c.in_ok-kept.ensures.same clean office)

@@ -10,25 +10,21 @@ use Rattle.office_asking.proofs.asker.Asker.decision.Goals as goal
 pub returns-in_ok-decision_in-in-Some-clause-decided : goal.returns-in_ok-decision_in-in-Some-clause-decided
 returns-in_ok-decision_in-in-Some-clause-decided g c clean h legal pictured =
     let a = c.args in
-    let old = state g.S.Store a.tx.now.conn.now in
-    let new = state g.S.Store c.match_rule.new.tx.conn.now in
     let small : SFits w32 c.number.result = search rules in
     let fits : SFits w64 c.number.result = search rules in
     let found = rw (to_z-of_z w32 c.number.result small, to_z-of_z w64 c.number.result fits, c.number.ensures.value) at (c.in_ok-found.ensures.found clean pictured.office) in (
-      pictured_still h old.now pictured new.now (c.in_ok-found.ensures.same clean pictured.office),
-      λ day caller is. rule_found h old.now legal pictured day caller a.self.now is a.action (option_copied a.collection) (option_copied a.class) c.in-Some.row (search (rules, found)) c.in_ok-decision_in-in-Some.field-0 (search rules),
+      pictured_still pictured (c.in_ok-found.ensures.same clean pictured.office),
+      λ day caller is. rule_found legal pictured day caller a.self.now is a.action (option_copied a.collection) (option_copied a.class) c.in-Some.row (search (rules, found)) c.in_ok-decision_in-in-Some.field-0 (search rules),
     )
 
 pub returns-in-None-clause-decided : goal.returns-in-None-clause-decided
 returns-in-None-clause-decided g c clean h legal pictured =
     let a = c.args in
-    let old = state g.S.Store a.tx.now.conn.now in
-    let new = state g.S.Store c.match_rule.new.tx.conn.now in
     let small : SFits w32 c.number.result = search rules in
     let fits : SFits w64 c.number.result = search rules in
     let found = rw (to_z-of_z w32 c.number.result small, to_z-of_z w64 c.number.result fits, c.number.ensures.value) at (c.in_ok-found.ensures.found clean pictured.office) in (
-      pictured_still h old.now pictured new.now (c.in_ok-found.ensures.same clean pictured.office),
-      λ day caller is. none_found h old.now legal pictured day caller a.self.now is a.action (option_copied a.collection) (option_copied a.class) (search (rules, found)),
+      pictured_still pictured (c.in_ok-found.ensures.same clean pictured.office),
+      λ day caller is. none_found legal pictured day caller a.self.now is a.action (option_copied a.collection) (option_copied a.class) (search (rules, found)),
     )
 
 pub returns-in_ok-decision_in-in-Some-clause-rows : goal.returns-in_ok-decision_in-in-Some-clause-rows

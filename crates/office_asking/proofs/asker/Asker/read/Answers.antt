@@ -9,10 +9,9 @@ use Rattle.office_asking.proofs.asker.Asker.read.Goals as goal
 
 pub returns-clause-asker : goal.returns-clause-asker
 returns-clause-asker g c clean h legal pictured =
-    let old = state g.S.Store c.args.tx.now.conn.now in
     let new = state g.S.Store c.role_of.new.tx.conn.now in (
-      pictured_still h old.now pictured new.now (c.in_ok-role.ensures.same clean pictured.office),
-      record { role = role_read h old.now pictured c.args.caller.now (option_map string_bytes c.in_ok-role.role) (c.in_ok-role.ensures.found clean pictured.office); on = refl },
+      pictured_still pictured (c.in_ok-role.ensures.same clean pictured.office),
+      record { role = role_read pictured c.args.caller.now (option_map string_bytes c.in_ok-role.role) (c.in_ok-role.ensures.found clean pictured.office); on = refl },
     )
 
 pub returns-clause-rows : goal.returns-clause-rows
