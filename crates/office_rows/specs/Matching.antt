@@ -11,10 +11,25 @@ fits_name text name = bytes_eq text (codes "*") || bytes_eq text name
 abbrev pub counts_on : ℤ → RuleRow → Bool
 counts_on day r = is_le (int_cmp r.first day) && is_ge (int_cmp r.last day)
 
+-- what a caller of this role attempts: the action on the collection and the class, on that day
+pub record Attempt : Type 0 where
+  pub role : List ℕ
+  pub action : List ℕ
+  pub collection : List ℕ
+  pub class : List ℕ
+  pub day : ℤ
+
+-- each name of the rule fits, and the rule counts on the day
+abbrev pub fits_attempt : Attempt → RuleRow → Bool
+fits_attempt a r =
+    fits_name r.role a.role && (fits_name r.action a.action && (fits_name r.collection a.collection && (fits_name r.class a.class && counts_on a.day r)))
+
+-- the same of an attempt that is told in parts
 abbrev pub rule_fits : List ℕ → List ℕ → List ℕ → List ℕ → ℤ → RuleRow → Bool
-rule_fits role action collection class day r =
-    fits_name r.role role && (fits_name r.action action && (fits_name r.collection collection && (fits_name r.class class && counts_on day r)))
+rule_fits role action collection class day =
+    fits_attempt (record { role = role; action = action; collection = collection; class = class; day = day })
 
 -- of rules that ascend by place: the one of the least place that fits
 abbrev pub matching_rule : List ℕ → List ℕ → List ℕ → List ℕ → ℤ → List RuleRow → Option RuleRow
-matching_rule role action collection class day = find (rule_fits role action collection class day)
+matching_rule role action collection class day =
+    find (fits_attempt (record { role = role; action = action; collection = collection; class = class; day = day }))

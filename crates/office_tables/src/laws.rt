@@ -4,7 +4,7 @@ ghost use Rattle.std.specs.Prelude.{◌≡◌, ◌≤ℤ◌, ℕ, ℤ, List, Non
 ghost use Rattle.sqlite.specs.Effect.{Database};
 ghost use Rattle.sqlite_rules.specs.Lists.{Has};
 ghost use Rattle.office_rows.specs.Rows.{AreInOrder, NumbersRise, RuleRow, live_holds};
-ghost use Rattle.office_rows.specs.Matching.{matching_rule, rule_fits};
+ghost use Rattle.office_rows.specs.Matching.{Attempt, fits_attempt, matching_rule};
 ghost use Rattle.office_tables.specs.Tables.{IsOffice, contents_of, tables_of};
 ghost use Rattle.office_tables.specs.Contents.{AreContents, KeepsOnce};
 
@@ -27,20 +27,17 @@ pub fn contents_are_those_of_files()
 
 /// In an office the rule that `match_rule` answers fits and is one of the rules, and no rule of a lower place fits; where it answers none, no rule fits.
 pub fn matching_rules_are_least()
-    ensures fits { (db : Database) → IsOffice db
-        → (role action collection class : List ℕ) (day : ℤ) (r : RuleRow)
-        → matching_rule role action collection class day (tables_of db).rules ≡ Some r
-        → rule_fits role action collection class day r ≡ true }
-    ensures there { (db : Database) → IsOffice db
-        → (role action collection class : List ℕ) (day : ℤ) (r : RuleRow)
-        → matching_rule role action collection class day (tables_of db).rules ≡ Some r
+    ensures fits { (db : Database) → IsOffice db → (a : Attempt) (r : RuleRow)
+        → matching_rule a.role a.action a.collection a.class a.day (tables_of db).rules ≡ Some r
+        → fits_attempt a r ≡ true }
+    ensures there { (db : Database) → IsOffice db → (a : Attempt) (r : RuleRow)
+        → matching_rule a.role a.action a.collection a.class a.day (tables_of db).rules ≡ Some r
         → Has (tables_of db).rules r }
-    ensures least { (db : Database) → IsOffice db
-        → (role action collection class : List ℕ) (day : ℤ) (r : RuleRow)
-        → matching_rule role action collection class day (tables_of db).rules ≡ Some r
-        → (s : RuleRow) → Has (tables_of db).rules s
-        → rule_fits role action collection class day s ≡ true → r.place ≤ℤ s.place }
-    ensures none { (db : Database) → IsOffice db → (role action collection class : List ℕ) (day : ℤ)
-        → matching_rule role action collection class day (tables_of db).rules ≡ None → (s : RuleRow)
-        → Has (tables_of db).rules s → rule_fits role action collection class day s ≡ false }
+    ensures least { (db : Database) → IsOffice db → (a : Attempt) (r : RuleRow)
+        → matching_rule a.role a.action a.collection a.class a.day (tables_of db).rules ≡ Some r
+        → (s : RuleRow) → Has (tables_of db).rules s → fits_attempt a s ≡ true
+        → r.place ≤ℤ s.place }
+    ensures none { (db : Database) → IsOffice db → (a : Attempt)
+        → matching_rule a.role a.action a.collection a.class a.day (tables_of db).rules ≡ None
+        → (s : RuleRow) → Has (tables_of db).rules s → fits_attempt a s ≡ false }
 {}
