@@ -1,5 +1,5 @@
 -- What the statements on classes do to the rows of an office.
-use Rattle.std.proofs.Common.{IsTrue, if◌then◌else◌, ◌≡◌, ◌≢◌, ◌⊎◌, ℕ, ℤ, List, [], ◌∷◌, map, filter, slice_get, option_map, true, Ok, refl, ap, subst, sym, ◌∙◌, inl, inr, codes, arith}
+use Rattle.std.proofs.Common.{IsTrue, if◌then◌else◌, ◌≡◌, ◌≢◌, ◌⊎◌, ℕ, ℤ, List, [], ◌∷◌, map, filter, slice_get, option_map, true, Ok, refl, ap, subst, sym, ◌∙◌, inl, inr, arith}
 use Rattle.std.specs.List.{AllByRecursion, list_any}
 use Rattle.std.proofs.lemmas.Bool.{cases_Bool}
 use Rattle.std.proofs.lemmas.List.{map-append}
@@ -22,11 +22,11 @@ use Rattle.sql_meaning.specs.Columns.{int_at, bytes_at}
 use Rattle.sql_meaning.proofs.Writing.{inserts, updates}
 use Rattle.sql_meaning.proofs.Scanning.{as_program, scan, shown_of}
 use Rattle.sql_meaning.proofs.TextKeys.{has_text, by_text, each_passes, few_named}
-use Rattle.sql_meaning.proofs.Typed.{text_at, int_in, all_both}
+use Rattle.sql_meaning.proofs.Typed.{typed_at, all_both}
 use Rattle.sql_meaning.proofs.Edits.{appended, decoded, counted, cast_null, cast_int, none_revised}
 use Rattle.sql_meaning.proofs.Whole.{keeps_rule}
 use Rattle.sql_meaning.proofs.Changing.{revises}
-use Rattle.office_tables.specs.Schema.{office_schema, class_table, needed}
+use Rattle.office_tables.specs.Schema.{office_schema, class_table}
 use Rattle.office_rows.specs.Rows.{Tables, ClassRow, is_class, class_named, with_years, with_new_class, with_class}
 use Rattle.office_tables.specs.Tables.{IsOffice, Becomes, tables_of, class_in}
 use Rattle.office_tables.specs.Contents.{KeepsOnce}
@@ -40,10 +40,9 @@ abbrev pub IsClassRow : Row → Type 0
 IsClassRow r = (column r 1 ≡ Text (bytes_at r 1)) × (column r 2 ≡ Int (int_at r 2))
 
 pub class_rows : (db : Database) → IsOffice db → AllByRecursion IsClassRow (db.trees 4)
-class_rows db office = all_both (λ r typed present. (
-  text_at office_schema db.trees class_table r typed present 0 (needed (codes "name") kind.Text) refl refl refl refl refl,
-  int_in office_schema db.trees class_table r typed present 1 (needed (codes "years") kind.Integer) refl refl refl refl refl,
-)) (db.trees 4) (keeps_rule office.whole Datatype).1.1.1.0 (keeps_rule office.whole NotNull).1.1.1.0
+class_rows db office = all_both (λ r typed present.
+    let at = typed_at office_schema db.trees class_table r typed present in
+    (at 0 refl, at 1 refl)) (db.trees 4) (keeps_rule office.whole Datatype).1.1.1.0 (keeps_rule office.whole NotNull).1.1.1.0
 
 -- what is known of the table: each name is a text, and at most one class has it
 module _ (db : Database) (office : IsOffice db) (name : List ℕ) where

@@ -1,5 +1,5 @@
 -- What the statements on collections do to the rows of an office.
-use Rattle.std.proofs.Common.{◌≡◌, ◌⊎◌, ℕ, List, [], ◌∷◌, map, filter, length, ◌==◌, not, true, Ok, refl, ap, sym, ◌∙◌, inl, inr, arith, codes}
+use Rattle.std.proofs.Common.{◌≡◌, ◌⊎◌, ℕ, List, [], ◌∷◌, map, filter, length, ◌==◌, not, true, Ok, refl, ap, sym, ◌∙◌, inl, inr, arith}
 use Rattle.std.proofs.lemmas.Bool.{cases_Bool}
 use Rattle.std.proofs.lemmas.List.{map-append}
 use Rattle.std.proofs.lemmas.Bool.Decides.{nat_tests}
@@ -8,7 +8,6 @@ use Rattle.sqlite.specs.declared.types.Value.TheVariants.{Null, Text}
 use Rattle.sqlite.specs.Order.{Row, column}
 use Rattle.sqlite.specs.Edit.{edit_of}
 use Rattle.sqlite.specs.Rowids.TheVariants.{Chosen}
-use Rattle.sqlite.specs.Kind.TheVariants as kind
 use Rattle.sqlite.specs.Cast.{cast_row}
 use Rattle.sqlite.specs.Effect.{Database}
 use Rattle.sqlite.specs.State.{State, Shown, Executes}
@@ -19,10 +18,10 @@ use Rattle.sql_meaning.proofs.Writing.{inserts}
 use Rattle.sql_meaning.proofs.Scanning.{shown_of}
 use Rattle.sql_meaning.proofs.Reading.{finds_any}
 use Rattle.sql_meaning.proofs.TextKeys.{has_text, few_named}
-use Rattle.sql_meaning.proofs.Typed.{text_at, all_both}
+use Rattle.sql_meaning.proofs.Typed.{typed_at, all_both}
 use Rattle.sql_meaning.proofs.Edits.{appended, cast_null}
 use Rattle.sql_meaning.proofs.Whole.{keeps_rule}
-use Rattle.office_tables.specs.Schema.{office_schema, collection_table, needed}
+use Rattle.office_tables.specs.Schema.{office_schema, collection_table}
 use Rattle.office_rows.specs.Rows.{has_collection, is_collection, with_new_collection}
 use Rattle.office_tables.specs.Tables.{IsOffice, Becomes, tables_of, collection_in}
 use Rattle.office_tables.proofs.Frames.{idle, becomes}
@@ -31,7 +30,7 @@ use Rattle.office_tables.proofs.Columns.{only, all_given}
 use Rattle.office_tables.proofs.RowsRead.{reads_named}
 
 pub collection_rows : (db : Database) → IsOffice db → AllByRecursion (λ r. column r 1 ≡ Text (bytes_at r 1)) (db.trees 6)
-collection_rows db office = all_both (λ r typed present. text_at office_schema db.trees collection_table r typed present 0 (needed (codes "name") kind.Text) refl refl refl refl refl)
+collection_rows db office = all_both (λ r typed present. typed_at office_schema db.trees collection_table r typed present 0 refl)
     (db.trees 6) (keeps_rule office.whole Datatype).1.1.1.1.0 (keeps_rule office.whole NotNull).1.1.1.1.0
 
 module _ (db : Database) (office : IsOffice db) (name : List ℕ) where

@@ -1,5 +1,5 @@
 -- What the statements on contents do to the rows of an office.
-use Rattle.std.proofs.Common.{arith, ◌≡◌, ◌&&◌, ◌||◌, ◌⊎◌, ◌==◌, ap₂, not, bytes_eq, ℕ, ℤ, pos, ◌+ℤ◌, List, [], ◌∷◌, ◌++◌, map, filter, fold, length, slice_get, option_map, unwrap_or, codes, Bool, true, false, Option, None, Some, Ok, refl, sym, ap, subst, subst₂, ◌∙◌, inl, inr}
+use Rattle.std.proofs.Common.{arith, ◌≡◌, ◌&&◌, ◌||◌, ◌⊎◌, ◌==◌, ap₂, not, bytes_eq, ℕ, ℤ, pos, ◌+ℤ◌, List, [], ◌∷◌, ◌++◌, map, filter, fold, length, slice_get, option_map, unwrap_or, Bool, true, false, Option, None, Some, Ok, refl, sym, ap, subst, subst₂, ◌∙◌, inl, inr}
 use Rattle.std.specs.List.{AllByRecursion, IsDistinct, list_any}
 use Rattle.std.proofs.lemmas.Slice.Eq.{bytes_eq-Decides}
 use Rattle.sha2.specs.Sha256.{sha256}
@@ -14,7 +14,6 @@ use Rattle.sqlite.specs.Order.{Row, column}
 use Rattle.sqlite.specs.Edit.{Edit, edit_of, id_in}
 use Rattle.sqlite.specs.Rowids.TheVariants.{Chosen, Given}
 use Rattle.sqlite.specs.Cast.{cast_row}
-use Rattle.sqlite.specs.Kind.TheVariants as kind
 use Rattle.sqlite.specs.Ops.{binary, is_true, is_null}
 use Rattle.sqlite.specs.Collation.TheVariants.{Binary}
 use Rattle.sqlite.specs.Tree.{rowid}
@@ -43,11 +42,11 @@ use Rattle.sql_meaning.proofs.Reading.{reads_same, reads_scan, reads_rising, fin
 use Rattle.sql_meaning.proofs.Limited.{reads_some}
 use Rattle.sql_meaning.proofs.Keys.{found_by, int_itself, same_int, same_blob}
 use Rattle.sql_meaning.proofs.RowidKeys.{by_number, has_number, each_numbered, few_numbered, one_numbered, rising}
-use Rattle.sql_meaning.proofs.Typed.{int_in, blob_at, all_both}
+use Rattle.sql_meaning.proofs.Typed.{typed_at, all_both}
 use Rattle.sql_meaning.proofs.Edits.{appended, cast_null, cast_int, map_alike}
 use Rattle.sql_meaning.proofs.Whole.{keeps_rule}
 use Rattle.sql_meaning.proofs.Changing.{drops}
-use Rattle.office_tables.specs.Schema.{office_schema, content_table, file_table, needed}
+use Rattle.office_tables.specs.Schema.{office_schema, content_table, file_table}
 use Rattle.office_rows.specs.Rows.{FileRow, ContentRow, is_content, content_numbered, bytes_under, is_alike, next_id, last_number, with_content, with_file, file_at, Tables}
 use Rattle.office_tables.specs.Tables.{IsOffice, tables_of, contents_of, content_in, file_in}
 use Rattle.office_tables.specs.Contents.{references_of, StandOnce, IsMarked, AreUsed, KeepsOnce, KeepsFiles, content_after, IsContentAdded, IsContentThere, IsNewContent, IsContentKept, IsFileAdded, IsMarkedPut, AreFilesDropped, AreUsedOr, IsTidied}
@@ -62,15 +61,13 @@ abbrev IsContentRow : Row → Type 0
 IsContentRow r = (column r 2 ≡ Blob (bytes_at r 2)) × (column r 3 ≡ Int (int_at r 3)) × (column r 4 ≡ Blob (bytes_at r 4))
 
 content_rows : (db : Database) → IsOffice db → AllByRecursion IsContentRow (db.trees 13)
-content_rows db office = all_both (λ r t p. (
-  blob_at office_schema db.trees content_table r t p 1 (needed (codes "mark") kind.Blob) refl refl refl refl refl,
-  int_in office_schema db.trees content_table r t p 2 (needed (codes "size") kind.Integer) refl refl refl refl refl,
-  blob_at office_schema db.trees content_table r t p 3 (needed (codes "bytes") kind.Blob) refl refl refl refl refl,
-)) (db.trees 13) (keeps_rule office.whole Datatype).1.1.1.1.1.1.1.1.0 (keeps_rule office.whole NotNull).1.1.1.1.1.1.1.1.0
+content_rows db office = all_both (λ r t p.
+    let at = typed_at office_schema db.trees content_table r t p in
+    (at 1 refl, at 2 refl, at 3 refl)) (db.trees 13) (keeps_rule office.whole Datatype).1.1.1.1.1.1.1.1.0 (keeps_rule office.whole NotNull).1.1.1.1.1.1.1.1.0
 
 -- the reference of a stored file
 pub file_references : (db : Database) → IsOffice db → AllByRecursion (λ r. column r 3 ≡ Int (int_at r 3)) (db.trees 10)
-file_references db office = all_both (λ r t p. int_in office_schema db.trees file_table r t p 2 (needed (codes "content") kind.Integer) refl refl refl refl refl)
+file_references db office = all_both (λ r t p. typed_at office_schema db.trees file_table r t p 2 refl)
     (db.trees 10) (keeps_rule office.whole Datatype).1.1.1.1.1.1.0 (keeps_rule office.whole NotNull).1.1.1.1.1.1.0
 
 -- ---- the content of a number
@@ -385,7 +382,8 @@ kept_office mark bytes old new id office (inl reused) = subst IsOffice (sym reus
 kept_office mark bytes old new id office (inr (lacked, fresh)) = fresh.keeps.becomes.office
 
 -- a file whose content is kept under the number that it was given
-pub is_marked_put : (n : ℤ) (path mark bytes : List ℕ) (id : ℤ) (old mid new : Database) → IsOffice mid → IsContentKept mark bytes old mid id → IsFileAdded n path id mid new → IsMarkedPut n path mark bytes old new
+pub is_marked_put : (n : ℤ) (path mark bytes : List ℕ) (id : ℤ) (old mid new : Database) → IsOffice mid → IsContentKept mark bytes old mid id → IsFileAdded n path id mid new
+    → IsMarkedPut (record { deposit = n; path = path; content = bytes }) mark old new
 is_marked_put n path mark bytes id old mid new office (inl reused) added =
     let cs = contents_of old in
     let there = reused.there in
@@ -524,7 +522,7 @@ all_named bytes [] marked = tt
 all_named bytes (c ∷ cs) marked = (λ same. marked.0.mark ∙ ap sha256 same, all_named bytes cs marked.1)
 
 -- contents that were kept once still are after a file was put under the SHA-256 of its bytes
-pub put_once : (path bytes : List ℕ) (n : ℤ) (old new : Database) → IsMarkedPut n path (sha256 bytes) bytes old new → KeepsOnce old → KeepsOnce new
+pub put_once : (path bytes : List ℕ) (n : ℤ) (old new : Database) → IsMarkedPut (record { deposit = n; path = path; content = bytes }) (sha256 bytes) old new → KeepsOnce old → KeepsOnce new
 put_once path bytes n old new put kept = by (list_any (is_alike (sha256 bytes) bytes) (contents_of old)) refl
   where
     by : (found : Bool) → list_any (is_alike (sha256 bytes) bytes) (contents_of old) ≡ found → KeepsOnce new

@@ -1,5 +1,5 @@
 -- What the statements on deposits do to the rows of an office.
-use Rattle.std.proofs.Common.{IsTrue, Bool, false, inl, inr, ap₂, if◌then◌else◌, ◌≡◌, ◌⊎◌, ℕ, ℤ, List, [], ◌∷◌, map, filter, drop, slice_get, option_map, true, codes, Some, Ok, refl, sym, ap, subst, ◌∙◌}
+use Rattle.std.proofs.Common.{IsTrue, Bool, false, inl, inr, ap₂, if◌then◌else◌, ◌≡◌, ◌⊎◌, ℕ, ℤ, List, [], ◌∷◌, map, filter, drop, slice_get, option_map, true, Some, Ok, refl, sym, ap, subst, ◌∙◌}
 use Rattle.std.specs.List.{AllByRecursion}
 use Rattle.sqlite.specs.declared.types.Value.{Value}
 use Rattle.sqlite.specs.declared.types.Value.TheVariants.{Null, Int, Text}
@@ -21,11 +21,11 @@ use Rattle.sql_meaning.specs.Columns.{int_at, bytes_at}
 use Rattle.sql_meaning.proofs.Scanning.{shown_of, finds_one}
 use Rattle.sql_meaning.proofs.TextKeys.{has_text, few_named}
 use Rattle.sql_meaning.proofs.RowidKeys.{by_number, has_number, each_numbered, few_numbered}
-use Rattle.sql_meaning.proofs.Typed.{text_at, int_in, maybe_int_at as some_int_at, all_both}
+use Rattle.sql_meaning.proofs.Typed.{typed_at, all_both}
 use Rattle.sql_meaning.proofs.Edits.{decoded, cast_null, cast_int}
 use Rattle.sql_meaning.proofs.Whole.{keeps_rule}
 use Rattle.sql_meaning.proofs.Changing.{revises}
-use Rattle.office_tables.specs.Schema.{office_schema, deposit_table, needed, optional}
+use Rattle.office_tables.specs.Schema.{office_schema, deposit_table}
 use Rattle.office_rows.specs.Rows.{DepositRow, is_deposit, deposit_numbered, has_accession, deposit_by, last_number, with_gone}
 use Rattle.office_tables.specs.Tables.{IsOffice, Becomes, tables_of, deposit_in, due_in}
 use Rattle.office_tables.specs.Deposits.{shown_deposit}
@@ -43,18 +43,9 @@ IsDepositRow r = (column r 2 ≡ Text (bytes_at r 2)) × (column r 3 ≡ Text (b
     × ((column r 9 ≡ Null) ⊎ (column r 9 ≡ Int (int_at r 9)))
 
 pub deposit_rows : (db : Database) → IsOffice db → AllByRecursion IsDepositRow (db.trees 8)
-deposit_rows db office = all_both (λ r t p. (
-  text_at office_schema db.trees deposit_table r t p 1 (needed (codes "accession") kind.Text) refl refl refl refl refl,
-  text_at office_schema db.trees deposit_table r t p 2 (needed (codes "collection") kind.Text) refl refl refl refl refl,
-  text_at office_schema db.trees deposit_table r t p 3 (needed (codes "class") kind.Text) refl refl refl refl refl,
-  int_in office_schema db.trees deposit_table r t p 4 (needed (codes "closed") kind.Integer) refl refl refl refl refl,
-  int_in office_schema db.trees deposit_table r t p 5 (needed (codes "deposited") kind.Integer) refl refl refl refl refl,
-  int_in office_schema db.trees deposit_table r t p 6 (needed (codes "files") kind.Integer) refl refl refl refl refl,
-  int_in office_schema db.trees deposit_table r t p 7 (needed (codes "bytes") kind.Integer) refl refl refl refl refl,
-  some_int_at office_schema db.trees deposit_table r t p 9 (optional (codes "due") kind.Integer) refl refl refl refl,
-  int_in office_schema db.trees deposit_table r t p 10 (needed (codes "holds") kind.Integer) refl refl refl refl refl,
-  some_int_at office_schema db.trees deposit_table r t p 8 (optional (codes "gone") kind.Integer) refl refl refl refl,
-)) (db.trees 8) (keeps_rule office.whole Datatype).1.1.1.1.1.0 (keeps_rule office.whole NotNull).1.1.1.1.1.0
+deposit_rows db office = all_both (λ r t p.
+    let at = typed_at office_schema db.trees deposit_table r t p in
+    (at 1 refl, at 2 refl, at 3 refl, at 4 refl, at 5 refl, at 6 refl, at 7 refl, at 9 refl, at 10 refl, at 8 refl)) (db.trees 8) (keeps_rule office.whole Datatype).1.1.1.1.1.0 (keeps_rule office.whole NotNull).1.1.1.1.1.0
 
 -- ---- one deposit
 

@@ -1,5 +1,5 @@
 -- What the statements on files do to the rows of an office.
-use Rattle.std.proofs.Common.{arith, ◌≡◌, ◌&&◌, ◌⊎◌, ap₂, not, bytes_eq, ℕ, ℤ, List, [], ◌∷◌, ◌++◌, ◌<◌, map, filter, take, length, get_or, slice_get, slice_index_or, ◌+◌, option_map, codes, Bool, true, false, Option, None, Some, Ok, Ordering, Equal, Less, refl, sym, ap, subst, subst₂, ◌∙◌, inl, inr}
+use Rattle.std.proofs.Common.{arith, ◌≡◌, ◌&&◌, ◌⊎◌, ap₂, not, bytes_eq, ℕ, ℤ, List, [], ◌∷◌, ◌++◌, ◌<◌, map, filter, take, length, get_or, slice_get, slice_index_or, ◌+◌, option_map, Bool, true, false, Option, None, Some, Ok, Ordering, Equal, Less, refl, sym, ap, subst, subst₂, ◌∙◌, inl, inr}
 use Rattle.std.specs.List.{AllByRecursion}
 use Rattle.std.specs.Ordering.{is_lt, is_eq, int_eq}
 use Rattle.std.specs.Cmp.{IsTotalOrder}
@@ -20,7 +20,6 @@ use Rattle.sqlite.specs.Order.{Row, column, value_cmp}
 use Rattle.sqlite.specs.Edit.{Edit, edit_of, with_rowid, next_rowid}
 use Rattle.sqlite.specs.Rowids.TheVariants.{Chosen, Given}
 use Rattle.sqlite.specs.Cast.{cast_row}
-use Rattle.sqlite.specs.Kind.TheVariants as kind
 use Rattle.sqlite.specs.Ops.{binary, is_true}
 use Rattle.sqlite.specs.Collation.TheVariants.{Binary}
 use Rattle.sqlite.specs.Tree.{rowid, IsAscending}
@@ -51,11 +50,11 @@ use Rattle.sql_meaning.proofs.Scanning.{scan, passes, shown_of, answer_complete}
 use Rattle.sql_meaning.proofs.Reading.{reads_same, reads_one, reads_scan, finds_part}
 use Rattle.sql_meaning.proofs.Inserts.{none_before}
 use Rattle.sql_meaning.proofs.Keys.{found_by, bytes_itself, int_itself, same_key, unclashed, same_text, same_int, lone}
-use Rattle.sql_meaning.proofs.Typed.{text_at, int_in, all_both}
+use Rattle.sql_meaning.proofs.Typed.{typed_at, all_both}
 use Rattle.sql_meaning.proofs.Edits.{appended, cast_null, cast_int, map_alike}
 use Rattle.sql_meaning.proofs.Whole.{keeps_rule}
 use Rattle.sql_meaning.proofs.Changing.{drops}
-use Rattle.office_tables.specs.Schema.{office_schema, file_table, needed}
+use Rattle.office_tables.specs.Schema.{office_schema, file_table}
 use Rattle.office_rows.proofs.Order.{map_back}
 use Rattle.office_rows.specs.Rows.{FileRow, ContentRow, bytes_under, is_file_of, is_file_at, file_at, with_file}
 use Rattle.office_tables.specs.Tables.{IsOffice, Becomes, tables_of, contents_of, file_in}
@@ -70,10 +69,9 @@ abbrev IsFileRow : Row → Type 0
 IsFileRow r = (column r 1 ≡ Int (int_at r 1)) × (column r 2 ≡ Text (bytes_at r 2))
 
 file_rows : (db : Database) → IsOffice db → AllByRecursion IsFileRow (db.trees 10)
-file_rows db office = all_both (λ r t p. (
-  int_in office_schema db.trees file_table r t p 0 (needed (codes "deposit") kind.Integer) refl refl refl refl refl,
-  text_at office_schema db.trees file_table r t p 1 (needed (codes "path") kind.Text) refl refl refl refl refl,
-)) (db.trees 10) (keeps_rule office.whole Datatype).1.1.1.1.1.1.0 (keeps_rule office.whole NotNull).1.1.1.1.1.1.0
+file_rows db office = all_both (λ r t p.
+    let at = typed_at office_schema db.trees file_table r t p in
+    (at 0 refl, at 1 refl)) (db.trees 10) (keeps_rule office.whole Datatype).1.1.1.1.1.1.0 (keeps_rule office.whole NotNull).1.1.1.1.1.1.0
 
 -- ---- the tests by the deposit, and by the deposit and the path
 

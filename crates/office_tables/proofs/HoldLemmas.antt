@@ -1,5 +1,5 @@
 -- What the statements on holds do to the rows of an office.
-use Rattle.std.proofs.Common.{arith, ◌+◌, slice_index_or, IsTrue, ◌≡◌, ◌⊎◌, ◌&&◌, ◌||◌, not, is_some, unwrap_or, bytes_eq, ℕ, ℤ, pos, Bor, Bool, true, false, List, [], ◌∷◌, ◌++◌, map, filter, slice_get, option_map, Option, Some, None, Ok, Less, Greater, refl, ap, ap₂, subst, subst₂, sym, ◌∙◌, inl, inr, codes}
+use Rattle.std.proofs.Common.{arith, ◌+◌, slice_index_or, IsTrue, ◌≡◌, ◌⊎◌, ◌&&◌, ◌||◌, not, is_some, unwrap_or, bytes_eq, ℕ, ℤ, pos, Bor, Bool, true, false, List, [], ◌∷◌, ◌++◌, map, filter, slice_get, option_map, Option, Some, None, Ok, Less, Greater, refl, ap, ap₂, subst, subst₂, sym, ◌∙◌, inl, inr}
 use Rattle.std.specs.List.{AllByRecursion}
 use Rattle.std.specs.Ordering.{int_eq, int_cmp, nat_cmp, is_eq, is_lt}
 use Rattle.std.proofs.lemmas.Int.{ints}
@@ -44,11 +44,11 @@ use Rattle.sqlite_schema.specs.declared.schema.Keys.TheVariants.{Enforced}
 use Rattle.sql_meaning.proofs.Scanning.{passes, shown_of, finds_one}
 use Rattle.sql_meaning.proofs.Reading.{Asks, reads_same, reads_rising}
 use Rattle.sql_meaning.proofs.RowidKeys.{by_number, has_number, each_numbered, few_numbered, one_numbered, rising}
-use Rattle.sql_meaning.proofs.Typed.{text_at, int_in, maybe_int_at as some_int_at, maybe_text_at as some_text_at, all_both}
+use Rattle.sql_meaning.proofs.Typed.{typed_at, all_both}
 use Rattle.sql_meaning.proofs.Edits.{decoded, cast_null, cast_int}
 use Rattle.sql_meaning.proofs.Whole.{keeps_rule}
 use Rattle.sql_meaning.proofs.Changing.{revises}
-use Rattle.office_tables.specs.Schema.{office_schema, hold_4_table, needed, optional}
+use Rattle.office_tables.specs.Schema.{office_schema, hold_4_table}
 use Rattle.office_rows.specs.Rows.{HoldRow, put_by, is_hold, hold_numbered, last_number, with_hold, with_released, is_live, holds_deposit, holds_collection, holds_class, is_live_on, is_live_within, is_live_of_class, is_live_over, live_holds}
 use Rattle.office_tables.specs.Tables.{IsOffice, Becomes, tables_of, hold_in}
 use Rattle.office_tables.specs.ShownHolds.{shown_hold}
@@ -146,14 +146,9 @@ IsStoredHold r = ((column r 2 ≡ Null) ⊎ (column r 2 ≡ Int (int_at r 2))) �
     × ((column r 4 ≡ Null) ⊎ (column r 4 ≡ Text (bytes_at r 4))) × (column r 5 ≡ Text (bytes_at r 5)) × (column r 6 ≡ Int (int_at r 6)) × ((column r 7 ≡ Null) ⊎ (column r 7 ≡ Int (int_at r 7)))
 
 pub hold_rows : (db : Database) → IsOffice db → AllByRecursion IsStoredHold (db.trees 19)
-hold_rows db office = all_both (λ r typed present. (
-  some_int_at office_schema db.trees hold_4_table r typed present 1 (optional (codes "deposit") kind.Integer) refl refl refl refl,
-  some_text_at office_schema db.trees hold_4_table r typed present 2 (optional (codes "collection") kind.Text) refl refl refl refl,
-  some_text_at office_schema db.trees hold_4_table r typed present 3 (optional (codes "class") kind.Text) refl refl refl refl,
-  text_at office_schema db.trees hold_4_table r typed present 4 (needed (codes "matter") kind.Text) refl refl refl refl refl,
-  int_in office_schema db.trees hold_4_table r typed present 5 (needed (codes "placed") kind.Integer) refl refl refl refl refl,
-  some_int_at office_schema db.trees hold_4_table r typed present 6 (optional (codes "released") kind.Integer) refl refl refl refl,
-)) (db.trees 19) (keeps_rule office.whole Datatype).1.1.1.1.1.1.1.1.1.0 (keeps_rule office.whole NotNull).1.1.1.1.1.1.1.1.1.0
+hold_rows db office = all_both (λ r typed present.
+    let at = typed_at office_schema db.trees hold_4_table r typed present in
+    (at 1 refl, at 2 refl, at 3 refl, at 4 refl, at 5 refl, at 6 refl)) (db.trees 19) (keeps_rule office.whole Datatype).1.1.1.1.1.1.1.1.1.0 (keeps_rule office.whole NotNull).1.1.1.1.1.1.1.1.1.0
 
 keeps_int : (v : Value) → (v ≡ Null) ⊎ (v ≡ Int (id_in v)) → cast kind.Integer v ≡ v
 keeps_int v (inl is) = subst (λ w. cast kind.Integer w ≡ w) (sym is) cast_null

@@ -1,5 +1,5 @@
 -- What the statements on holds mean under the schema of an office.
-use Rattle.std.proofs.Common.{ℕ, List, [], ◌∷◌, codes, refl}
+use Rattle.std.proofs.Common.{ℕ, List, [], ◌∷◌, ◌++◌, codes, refl}
 use Rattle.sqlite.specs.declared.types.Value.TheVariants.{Null}
 use Rattle.sqlite.specs.Term.{Term, lit, col, op1, op2}
 use Rattle.sqlite.specs.Collation.TheVariants.{Binary}
@@ -75,14 +75,8 @@ abbrev pub outside_of : ℕ → List Term
 outside_of place =
     op2 (Compare Eq Binary) (col 1 place) (col 0 0) ∷ op2 Or (op2 (Compare Lt Binary) (col 1 7) (col 0 1)) (op2 (Compare Gt Binary) (col 1 7) (col 0 2)) ∷ []
 
-abbrev pub outside_on_text : List ℕ
-outside_on_text = codes "SELECT number FROM hold_4 WHERE deposit = ?1 AND (released < ?2 OR released > ?3) LIMIT 1"
-
-abbrev pub outside_within_text : List ℕ
-outside_within_text = codes "SELECT number FROM hold_4 WHERE collection = ?1 AND (released < ?2 OR released > ?3) LIMIT 1"
-
-abbrev pub outside_of_class_text : List ℕ
-outside_of_class_text = codes "SELECT number FROM hold_4 WHERE class = ?1 AND (released < ?2 OR released > ?3) LIMIT 1"
+abbrev pub outside_text : List ℕ → List ℕ
+outside_text column = codes "SELECT number FROM hold_4 WHERE " ++ column ++ codes " = ?1 AND (released < ?2 OR released > ?3) LIMIT 1"
 
 -- ---- what each means
 
@@ -94,9 +88,9 @@ pub record HoldMeanings : Type 0 where
   pub asks_on : Asks office_schema on_text 19 on (only 0) rising
   pub asks_within : Asks office_schema within_text 19 within (only 0) rising
   pub asks_of_class : Asks office_schema of_class_text 19 of_class (only 0) rising
-  pub asks_outside_on : AsksSome office_schema outside_on_text 19 (outside_of 2) (only 0)
-  pub asks_outside_within : AsksSome office_schema outside_within_text 19 (outside_of 3) (only 0)
-  pub asks_outside_of_class : AsksSome office_schema outside_of_class_text 19 (outside_of 4) (only 0)
+  pub asks_outside_on : AsksSome office_schema (outside_text (codes "deposit")) 19 (outside_of 2) (only 0)
+  pub asks_outside_within : AsksSome office_schema (outside_text (codes "collection")) 19 (outside_of 3) (only 0)
+  pub asks_outside_of_class : AsksSome office_schema (outside_text (codes "class")) 19 (outside_of 4) (only 0)
 
 pub hold_meanings : HoldMeanings
 unfolding understood everything

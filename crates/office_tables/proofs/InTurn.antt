@@ -47,7 +47,7 @@ pub turn_as : {S A B : Type 0} {g : Ghosts S} {old new : MutBor (Held S)} {x : A
 turn_as it result failure = record { same_reference = it.same_reference; stays = it.stays; goes_on = λ clean. whatever result (it.goes_on clean); failure = failure }
 
 -- where no call was made
-stays_still : (a : State) → Stays a a
+pub stays_still : (a : State) → Stays a a
 stays_still a = record {
   survives = record {
     clean = omega arith;

@@ -7,7 +7,6 @@ use Rattle.sqlite.specs.declared.types.Value.{Value}
 use Rattle.sqlite.specs.declared.types.Value.TheVariants.{Null, Int, Text}
 use Rattle.sqlite.specs.Order.{Row, column, value_cmp}
 use Rattle.sqlite.specs.Term.{Term}
-use Rattle.sqlite.specs.Kind.TheVariants as kind
 use Rattle.sqlite.specs.Collation.TheVariants.{Binary}
 use Rattle.sqlite.specs.Ops.{binary, is_true, from_truth}
 use Rattle.sqlite.specs.Query.{IsSureAnswer, output, output_cmp, Output}
@@ -26,15 +25,15 @@ use Rattle.sqlite_rules.proofs.ListLemmas.{all_has, all_from}
 use Rattle.sqlite_keyed.proofs.ListLemmas.{first_taken, ascending_weaker}
 use Rattle.sql_meaning.specs.Columns.{int_at, bytes_at}
 use Rattle.sql_meaning.proofs.Scanning.{Scans, scan, passes, shown_of, scanned, answers_rising, shown_same, finds_one}
-use Rattle.sql_meaning.proofs.Typed.{int_in, text_at, all_both}
+use Rattle.sql_meaning.proofs.Typed.{typed_at, all_both}
 use Rattle.sql_meaning.proofs.Whole.{keeps_rule}
-use Rattle.office_tables.specs.Schema.{office_schema, rule_5_table, needed}
+use Rattle.office_tables.specs.Schema.{office_schema, rule_5_table}
 use Rattle.office_tables.specs.Tables.{IsOffice, tables_of, rule_in}
 use Rattle.office_tables.specs.ShownPolicy.{shown_rule}
 use Rattle.office_tables.proofs.PolicyTexts.{rule_columns}
 use Rattle.office_tables.proofs.DueLemmas.{truth_back, by_day}
 use Rattle.office_tables.proofs.MatchTexts.{AsksFirst, match_text, matching, match_order, asks_match}
-use Rattle.office_rows.specs.Matching.{matching_rule, fits_name, rule_fits}
+use Rattle.office_rows.specs.Matching.{Attempt, fits_attempt, fits_name, matching_rule}
 
 -- ---- ORDER BY, LIMIT 1
 
@@ -86,14 +85,9 @@ IsRuleRow r = (column r 3 ≡ Text (bytes_at r 3)) × (column r 4 ≡ Text (byte
     × (column r 7 ≡ Int (int_at r 7)) × (column r 8 ≡ Int (int_at r 8))
 
 pub rule_rows : (db : Database) → IsOffice db → AllByRecursion IsRuleRow (db.trees 23)
-rule_rows db office = all_both (λ r t p. (
-  text_at office_schema db.trees rule_5_table r t p 2 (needed (codes "role") kind.Text) refl refl refl refl refl,
-  text_at office_schema db.trees rule_5_table r t p 3 (needed (codes "action") kind.Text) refl refl refl refl refl,
-  text_at office_schema db.trees rule_5_table r t p 4 (needed (codes "collection") kind.Text) refl refl refl refl refl,
-  text_at office_schema db.trees rule_5_table r t p 5 (needed (codes "class") kind.Text) refl refl refl refl refl,
-  int_in office_schema db.trees rule_5_table r t p 6 (needed (codes "first") kind.Integer) refl refl refl refl refl,
-  int_in office_schema db.trees rule_5_table r t p 7 (needed (codes "last") kind.Integer) refl refl refl refl refl,
-)) (db.trees 23) (keeps_rule office.whole Datatype).1.1.1.1.1.1.1.1.1.1.0 (keeps_rule office.whole NotNull).1.1.1.1.1.1.1.1.1.1.0
+rule_rows db office = all_both (λ r t p.
+    let at = typed_at office_schema db.trees rule_5_table r t p in
+    (at 2 refl, at 3 refl, at 4 refl, at 5 refl, at 6 refl, at 7 refl)) (db.trees 23) (keeps_rule office.whole Datatype).1.1.1.1.1.1.1.1.1.1.0 (keeps_rule office.whole NotNull).1.1.1.1.1.1.1.1.1.1.0
 
 and_true : (a : Bool) → (a && true) ≡ a
 and_true true = refl
@@ -103,8 +97,11 @@ until_is : (r : Row) (day : ℤ) → column r 8 ≡ Int (int_at r 8) → (is_tru
 unfolding binary
 until_is r day is = and_true (is_true (binary (Compare Ge Binary) (column r 8) (Int day))) ∙ ap (λ v. is_true (binary (Compare Ge Binary) v (Int day))) is ∙ truth_back (is_ge (value_cmp (Int (int_at r 8)) (Int day))) ∙ ap is_ge (value_cmp-Int (int_at r 8) day)
 
+abbrev attempt : List ℕ → List ℕ → List ℕ → List ℕ → ℤ → Attempt
+attempt role action collection class day = record { role = role; action = action; collection = collection; class = class; day = day }
+
 passes_match : (role action collection class : List ℕ) (day : ℤ) (r : Row) → IsRuleRow r
-    → passes (Text role ∷ Text action ∷ Text collection ∷ Text class ∷ Int day ∷ []) matching r ≡ rule_fits role action collection class day (rule_in r)
+    → passes (Text role ∷ Text action ∷ Text collection ∷ Text class ∷ Int day ∷ []) matching r ≡ fits_attempt (attempt role action collection class day) (rule_in r)
 passes_match role action collection class day r it =
     ap₂ (λ a b. a && b) (star_is (column r 3) (bytes_at r 3) role it.0) (ap₂ (λ a b. a && b) (star_is (column r 4) (bytes_at r 4) action it.1)
     (ap₂ (λ a b. a && b) (star_is (column r 5) (bytes_at r 5) collection it.2) (ap₂ (λ a b. a && b) (star_is (column r 6) (bytes_at r 6) class it.3)
@@ -116,12 +113,12 @@ pub finds_match : (old new : State) (role action collection class : List ℕ) (d
 finds_match old new role action collection class day rows office h =
     let params : Row = Text role ∷ Text action ∷ Text collection ∷ Text class ∷ Int day ∷ [] in
     let stored = old.now.trees 23 in
-    let keep : Row → Bool = λ r. rule_fits role action collection class day (rule_in r) in
+    let keep : Row → Bool = λ r. fits_attempt (attempt role action collection class day) (rule_in r) in
     let up = ascending_weaker _ _ (λ a b lower. rw lower refl) stored office.whole.shaped.1.1.1.1.1.1.1.1.1.1.0.0 in
     let each = all_from (λ r. passes params matching r ≡ keep r) stored (λ r there. passes_match role action collection class day r (all_has IsRuleRow stored r (rule_rows old.now office) there)) in
     let is = reads_first office_schema match_text 23 matching rule_columns match_order asks_match params old new office.whole.schema_is rows h keep each up in
     let all = map (shown_of params rule_columns) (filter keep stored) in
-    let one = finds_one stored all keep (shown_of params rule_columns) rule_in shown_rule (rule_fits role action collection class day) (λ r. refl) (λ r. refl) refl in (
+    let one = finds_one stored all keep (shown_of params rule_columns) rule_in shown_rule (fits_attempt (attempt role action collection class day)) (λ r. refl) (λ r. refl) refl in (
       first_same office_schema match_text 23 matching rule_columns match_order asks_match params old new office.whole.schema_is rows h,
       one ∙ ap (option_map shown_rule) (sym (first_taken all) ∙ ap (λ rs. slice_get rs 0) (sym is)),
     )

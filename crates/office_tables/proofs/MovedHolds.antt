@@ -1,5 +1,5 @@
 -- The holds, taken over into the table whose holds may name a class.
-use Rattle.std.proofs.Common.{◌≡◌, ◌⊎◌, ◌==◌, ℕ, [], map, drop, length, codes, Ok, IsTrue, refl, sym, ap, subst, ◌∙◌, inl, inr}
+use Rattle.std.proofs.Common.{◌≡◌, ◌⊎◌, ◌==◌, ℕ, [], map, drop, length, Ok, IsTrue, refl, sym, ap, subst, ◌∙◌, inl, inr}
 use Rattle.std.specs.List.{AllByRecursion}
 use Rattle.std.proofs.lemmas.Bool.{cases_Bool}
 use Rattle.sqlite.specs.declared.types.Value.{Value}
@@ -20,11 +20,11 @@ use Rattle.sql_meaning.specs.Columns.{int_at, bytes_at}
 use Rattle.sql_meaning.specs.Whole.{IsWhole, Sets}
 use Rattle.sql_meaning.specs.Growing.{Grows}
 use Rattle.sql_meaning.proofs.Writing.{IsIdle}
-use Rattle.sql_meaning.proofs.Typed.{text_at, int_in, maybe_int_at, maybe_text_at, all_both}
+use Rattle.sql_meaning.proofs.Typed.{typed_at, all_both}
 use Rattle.sql_meaning.proofs.Edits.{cast_null, cast_int}
 use Rattle.sql_meaning.proofs.Whole.{keeps_rule}
 use Rattle.sql_meaning.proofs.Scanning.{shown_of}
-use Rattle.office_tables.specs.Schema.{hold_table, hold_4_table, needed, optional}
+use Rattle.office_tables.specs.Schema.{hold_table, hold_4_table}
 use Rattle.office_tables.specs.Tables.{hold_in}
 use Rattle.office_tables.specs.Moving.{AllRows, moved_hold, BecomesAt, rows_at}
 use Rattle.office_tables.specs.Versions.{schema_at, old_hold_in}
@@ -55,13 +55,9 @@ IsStored r = ((column r 2 ≡ Null) ⊎ (column r 2 ≡ Int (int_at r 2))) × ((
     × (column r 4 ≡ Text (bytes_at r 4)) × (column r 5 ≡ Int (int_at r 5)) × ((column r 6 ≡ Null) ⊎ (column r 6 ≡ Int (int_at r 6)))
 
 stored_rows : (db : Database) → IsWhole fourth db → AllByRecursion IsStored (db.trees 12)
-stored_rows db whole = all_both (λ r typed present. (
-  maybe_int_at fourth db.trees hold_table r typed present 1 (optional (codes "deposit") kind.Integer) refl refl refl refl,
-  maybe_text_at fourth db.trees hold_table r typed present 2 (optional (codes "collection") kind.Text) refl refl refl refl,
-  text_at fourth db.trees hold_table r typed present 3 (needed (codes "matter") kind.Text) refl refl refl refl refl,
-  int_in fourth db.trees hold_table r typed present 4 (needed (codes "placed") kind.Integer) refl refl refl refl refl,
-  maybe_int_at fourth db.trees hold_table r typed present 5 (optional (codes "released") kind.Integer) refl refl refl refl,
-)) (db.trees 12) (keeps_rule whole Datatype).1.1.1.1.1.1.1.0 (keeps_rule whole NotNull).1.1.1.1.1.1.1.0
+stored_rows db whole = all_both (λ r typed present.
+    let at = typed_at fourth db.trees hold_table r typed present in
+    (at 1 refl, at 2 refl, at 3 refl, at 4 refl, at 5 refl)) (db.trees 12) (keeps_rule whole Datatype).1.1.1.1.1.1.1.0 (keeps_rule whole NotNull).1.1.1.1.1.1.1.0
 
 moves_row : (r : Row) → IsStored r → IsTrue (is_int (rowid r)) → cast_row hold_4_table (shown_of [] copied_hold r) ≡ moved_hold r
 moves_row r it whole =

@@ -1,5 +1,5 @@
 -- The rules, taken over into the table whose rules have days.
-use Rattle.std.proofs.Common.{◌≡◌, ℕ, [], ◌∷◌, map, drop, codes, Ok, IsTrue, refl, ap, ◌∙◌, inr}
+use Rattle.std.proofs.Common.{◌≡◌, ℕ, [], ◌∷◌, map, drop, Ok, IsTrue, refl, ap, ◌∙◌, inr}
 use Rattle.std.specs.List.{AllByRecursion}
 use Rattle.sqlite.specs.declared.types.Value.TheVariants.{Int, Text}
 use Rattle.sqlite.specs.Order.{Row, column}
@@ -17,11 +17,11 @@ use Rattle.sqlite_rules.proofs.TableLemmas.{int_is}
 use Rattle.sql_meaning.specs.Columns.{int_at, bytes_at}
 use Rattle.sql_meaning.specs.Whole.{IsWhole, Sets}
 use Rattle.sql_meaning.specs.Growing.{Grows}
-use Rattle.sql_meaning.proofs.Typed.{text_at, int_in, all_both}
+use Rattle.sql_meaning.proofs.Typed.{typed_at, all_both}
 use Rattle.sql_meaning.proofs.Edits.{cast_null, cast_int}
 use Rattle.sql_meaning.proofs.Whole.{keeps_rule}
 use Rattle.sql_meaning.proofs.Scanning.{shown_of}
-use Rattle.office_tables.specs.Schema.{rule_table, rule_5_table, needed}
+use Rattle.office_tables.specs.Schema.{rule_table, rule_5_table}
 use Rattle.office_tables.specs.Tables.{rule_in}
 use Rattle.office_tables.specs.Moving.{AllRows, moved_rule, BecomesAt, rows_at}
 use Rattle.office_tables.specs.Versions.{first_day, last_day, schema_at, old_rule_in}
@@ -38,13 +38,9 @@ abbrev IsStored : Row → Type 0
 IsStored r = (column r 2 ≡ Int (int_at r 2)) × (column r 3 ≡ Text (bytes_at r 3)) × (column r 4 ≡ Text (bytes_at r 4)) × (column r 5 ≡ Text (bytes_at r 5)) × (column r 6 ≡ Text (bytes_at r 6))
 
 stored_rows : (db : Database) → IsWhole fifth db → AllByRecursion IsStored (db.trees 3)
-stored_rows db whole = all_both (λ r typed present. (
-  int_in fifth db.trees rule_table r typed present 1 (needed (codes "effect") kind.Integer) refl refl refl refl refl,
-  text_at fifth db.trees rule_table r typed present 2 (needed (codes "role") kind.Text) refl refl refl refl refl,
-  text_at fifth db.trees rule_table r typed present 3 (needed (codes "action") kind.Text) refl refl refl refl refl,
-  text_at fifth db.trees rule_table r typed present 4 (needed (codes "collection") kind.Text) refl refl refl refl refl,
-  text_at fifth db.trees rule_table r typed present 5 (needed (codes "class") kind.Text) refl refl refl refl refl,
-)) (db.trees 3) (keeps_rule whole Datatype).1.1.0 (keeps_rule whole NotNull).1.1.0
+stored_rows db whole = all_both (λ r typed present.
+    let at = typed_at fifth db.trees rule_table r typed present in
+    (at 1 refl, at 2 refl, at 3 refl, at 4 refl, at 5 refl)) (db.trees 3) (keeps_rule whole Datatype).1.1.0 (keeps_rule whole NotNull).1.1.0
 
 moves_row : (r : Row) → IsStored r → IsTrue (is_int (rowid r)) → cast_row rule_5_table (shown_of [] copied_rule r) ≡ moved_rule r
 moves_row r it whole =

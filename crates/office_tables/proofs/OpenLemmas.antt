@@ -12,7 +12,6 @@ use Rattle.sqlite.specs.Collation.TheVariants.{Binary}
 use Rattle.sqlite_value.specs.declared.keys.Key.{Key}
 use Rattle.sqlite.specs.Edit.{id_in}
 use Rattle.sqlite.specs.Tree.{rowid}
-use Rattle.sqlite.specs.Kind.TheVariants as kind
 use Rattle.sqlite.specs.Command.TheVariants.{Select}
 use Rattle.sqlite.specs.Listing.{understood, reads_listing, IsSourceOf}
 use Rattle.sqlite.specs.Effect.{Database, Reads}
@@ -30,12 +29,12 @@ use Rattle.sql_meaning.proofs.Keys.{found_by, lone, none_pass}
 use Rattle.sql_meaning.proofs.RowidKeys.{one_numbered}
 use Rattle.sql_meaning.proofs.Reading.{Asks}
 use Rattle.sql_meaning.proofs.Scanning.{scan, as_program, passes, shown_of, Scans, scanned, answer_sound, answer_complete}
-use Rattle.sql_meaning.proofs.Typed.{int_in, all_both}
+use Rattle.sql_meaning.proofs.Typed.{typed_at, all_both}
 use Rattle.sql_meaning.proofs.Whole.{keeps_rule}
 use Rattle.sqlite.specs.Table.{Table}
 use Rattle.sqlite_schema.specs.declared.schema.Index.{Index}
 use Rattle.sql_meaning.specs.Whole.{IsWhole}
-use Rattle.office_tables.specs.Schema.{office_table, needed}
+use Rattle.office_tables.specs.Schema.{office_table}
 use Rattle.office_rows.specs.Rows.{OfficeRow, is_known, version_of}
 use Rattle.office_tables.specs.Versions.{schema_at, tables_at}
 use Rattle.office_tables.specs.declared.version.TableVersion.{TableVersion}
@@ -53,11 +52,9 @@ abbrev with_office : List Table → List Index → Schema
 with_office more indexes = record { tables = office_table ∷ more; indexes = indexes; views = [] }
 
 office_rows : (more : List Table) (indexes : List Index) (db : Database) → IsWhole (with_office more indexes) db → AllByRecursion IsOfficeRow (db.trees 0)
-office_rows more indexes db office = all_both (λ r t p. (
-  int_in (with_office more indexes) db.trees office_table r t p 1 (needed (codes "version") kind.Integer) refl refl refl refl refl,
-  int_in (with_office more indexes) db.trees office_table r t p 2 (needed (codes "max_deposits") kind.Integer) refl refl refl refl refl,
-  int_in (with_office more indexes) db.trees office_table r t p 3 (needed (codes "max_holds") kind.Integer) refl refl refl refl refl,
-)) (db.trees 0) (keeps_rule office Datatype).0 (keeps_rule office NotNull).0
+office_rows more indexes db office = all_both (λ r t p.
+    let at = typed_at (with_office more indexes) db.trees office_table r t p in
+    (at 1 refl, at 2 refl, at 3 refl)) (db.trees 0) (keeps_rule office Datatype).0 (keeps_rule office NotNull).0
 
 -- the schema of each version has the table
 at_once : (version : TableVersion) → has_office (schema_at version) ≡ true

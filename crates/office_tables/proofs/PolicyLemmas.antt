@@ -1,5 +1,5 @@
 -- What the statements on callers and rules do to the rows of an office.
-use Rattle.std.proofs.Common.{◌≡◌, ◌⊎◌, ℕ, List, [], ◌∷◌, ◌++◌, map, filter, slice_get, option_map, true, false, Ok, refl, ap, sym, ◌∙◌, codes, append-nil, append_assoc, get_or, drop, length, ◌+◌, ◌<◌}
+use Rattle.std.proofs.Common.{◌≡◌, ℕ, List, [], ◌∷◌, ◌++◌, map, slice_get, option_map, true, false, Ok, refl, ap, sym, ◌∙◌, append-nil, append_assoc, get_or, drop, length, ◌+◌, ◌<◌}
 use Rattle.std.specs.List.{AllByRecursion}
 use Rattle.std.proofs.lemmas.List.{at_drop_more, map-append}
 use Rattle.sqlite.specs.declared.types.Value.TheVariants.{Null, Int, Text}
@@ -7,23 +7,21 @@ use Rattle.sqlite.specs.Order.{Row, column}
 use Rattle.sqlite.specs.Edit.{edit_of}
 use Rattle.sqlite.specs.Rowids.TheVariants.{Chosen, Given}
 use Rattle.sqlite.specs.Term.{col}
-use Rattle.sqlite.specs.Kind.TheVariants as kind
 use Rattle.sqlite.specs.Cast.{cast_row}
 use Rattle.sqlite.specs.Effect.{Database}
 use Rattle.sqlite.specs.State.{State, Shown, Executes}
 use Rattle.sqlite_schema.specs.declared.schema.Constraint.TheVariants.{Datatype, NotNull, Unique}
-use Rattle.sqlite_rules.specs.Lists.{Has}
 use Rattle.sqlite_rules.specs.Calls.{ids_of}
 use Rattle.sqlite_rules.proofs.ListLemmas.{all_from}
 use Rattle.sql_meaning.specs.Columns.{bytes_at}
 use Rattle.sql_meaning.proofs.Writing.{inserts}
 use Rattle.sql_meaning.proofs.Keys.{none_pass}
-use Rattle.sql_meaning.proofs.TextKeys.{has_text, few_named}
-use Rattle.sql_meaning.proofs.Typed.{text_at, all_both}
+use Rattle.sql_meaning.proofs.TextKeys.{few_named}
+use Rattle.sql_meaning.proofs.Typed.{typed_at, all_both}
 use Rattle.sql_meaning.proofs.Edits.{appended, cast_null, cast_int}
 use Rattle.sql_meaning.proofs.Whole.{keeps_rule}
 use Rattle.sql_meaning.proofs.Changing.{drops}
-use Rattle.office_tables.specs.Schema.{office_schema, caller_table, rule_5_table, needed}
+use Rattle.office_tables.specs.Schema.{office_schema, caller_table, rule_5_table}
 use Rattle.office_rows.specs.Rows.{Tables, CallerRow, RuleRow, is_caller, caller_named, with_caller, with_rule, with_callers, with_rules, without_callers, without_rules, with_policy}
 use Rattle.office_tables.specs.Tables.{IsOffice, Becomes, tables_of, caller_in, rule_in}
 use Rattle.office_tables.specs.ShownPolicy.{shown_rule}
@@ -33,21 +31,19 @@ use Rattle.office_tables.proofs.PolicyTexts.{role_text, rules_text, drop_callers
 use Rattle.office_tables.proofs.Columns.{all_given}
 use Rattle.office_tables.proofs.RowsRead.{finds_named, lists_all}
 
--- what is known of the callers: each name is a text, and at most one caller has it
-module _ (db : Database) (office : IsOffice db) (name : List ℕ) where
-  named : AllByRecursion (λ r. column r 1 ≡ Text (bytes_at r 1)) (db.trees 1)
-  named = all_both (λ r typed present. text_at office_schema db.trees caller_table r typed present 0 (needed (codes "name") kind.Text) refl refl refl refl refl)
-      (db.trees 1) (keeps_rule office.whole Datatype).1.0 (keeps_rule office.whole NotNull).1.0
-
-  few : (filter (has_text 1 name) (db.trees 1) ≡ []) ⊎ ((r : Row) × Has (db.trees 1) r × (has_text 1 name r ≡ true) × (filter (has_text 1 name) (db.trees 1) ≡ r ∷ []))
-  few = few_named 1 (db.trees 1) office.whole.shaped.1.0 named (keeps_rule office.whole Unique).1.0 name
+-- each name of a caller is a text
+names : (db : Database) → IsOffice db → AllByRecursion (λ r. column r 1 ≡ Text (bytes_at r 1)) (db.trees 1)
+names db office = all_both (λ r typed present. typed_at office_schema db.trees caller_table r typed present 0 refl)
+    (db.trees 1) (keeps_rule office.whole Datatype).1.0 (keeps_rule office.whole NotNull).1.0
 
 -- ---- reads
 
 pub finds_role : (old new : State) (name : List ℕ) (rows : List Row) → IsOffice old.now → Shown role_text (Text name ∷ []) old new rows
     → (new.now ≡ old.now) × (option_map (λ (c : CallerRow). c.role) (caller_named name (tables_of old.now).callers) ≡ option_map (λ row. bytes_at row 0) (slice_get rows 0))
 finds_role old new name rows office h =
-    finds_named old new rows office 1 policy_meanings.asks_role name (named old.now office name) (few old.now office name) caller_in (is_caller name) (λ r. refl) (λ (c : CallerRow). c.role) (λ row. bytes_at row 0) (λ r. refl) h
+    let named = names old.now office in
+    let few = few_named 1 (old.now.trees 1) office.whole.shaped.1.0 named (keeps_rule office.whole Unique).1.0 name in
+    finds_named old new rows office 1 policy_meanings.asks_role name named few caller_in (is_caller name) (λ r. refl) (λ (c : CallerRow). c.role) (λ row. bytes_at row 0) (λ r. refl) h
 
 pub lists_rules : (old new : State) (rows : List Row) → IsOffice old.now → Shown rules_text [] old new rows
     → (new.now ≡ old.now) × ((tables_of old.now).rules ≡ map shown_rule rows)

@@ -1,5 +1,5 @@
 -- What the statements on days of release tell of the rows of an office.
-use Rattle.std.proofs.Common.{◌≡◌, ◌⊎◌, ◌&&◌, ◌||◌, ℕ, ℤ, Bool, true, false, List, [], ◌∷◌, Some, refl, ap, ap₂, subst, sym, ◌∙◌, inl, inr}
+use Rattle.std.proofs.Common.{◌≡◌, ◌⊎◌, ◌&&◌, ◌||◌, ℕ, ℤ, Bool, true, false, List, [], ◌∷◌, codes, Some, refl, ap, ap₂, subst, sym, ◌∙◌, inl, inr}
 use Rattle.std.specs.List.{list_any}
 use Rattle.std.specs.Ordering.{int_cmp, is_gt, is_lt}
 use Rattle.sqlite.specs.declared.types.Value.{Value}
@@ -20,11 +20,11 @@ use Rattle.sql_meaning.proofs.Edits.{any_mapped}
 use Rattle.sql_meaning.proofs.Limited.{AsksSome, reads_some}
 use Rattle.sql_meaning.proofs.Scanning.{passes}
 use Rattle.office_rows.specs.Rows.{HoldRow, holds_class, holds_collection, holds_deposit}
-use Rattle.office_tables.specs.Releases.{is_outside, is_outside_of, is_over, is_released_outside}
+use Rattle.office_tables.specs.Releases.{is_outside, is_outside_of, is_over}
 use Rattle.office_tables.specs.Schema.{office_schema}
 use Rattle.office_tables.specs.Tables.{IsOffice, tables_of, hold_in}
 use Rattle.office_tables.proofs.HoldLemmas.{IsStoredHold, deposit_is, hold_rows, text_is}
-use Rattle.office_tables.proofs.HoldTexts.{outside_of, outside_of_class_text, outside_on_text, outside_within_text, hold_meanings}
+use Rattle.office_tables.proofs.HoldTexts.{outside_of, outside_text, hold_meanings}
 use Rattle.office_tables.proofs.Columns.{only}
 
 -- ---- a day before the first or after the last
@@ -74,20 +74,20 @@ module _ (old new : State) (text : List ℕ) (place : ℕ) (asks : AsksSome offi
       let some = reads_some office_schema text 19 (outside_of place) (only 0) asks params old new office.whole.schema_is rows h (λ r. p (hold_in r)) each in
       (some.0, any_mapped hold_in (λ r. p (hold_in r)) p (λ r. refl) stored ∙ some.1)
 
-pub tells_outside_on : (old new : State) (n first last : ℤ) (rows : List Row) → IsOffice old.now → Shown outside_on_text (Int n ∷ Int first ∷ Int last ∷ []) old new rows
+pub tells_outside_on : (old new : State) (n first last : ℤ) (rows : List Row) → IsOffice old.now → Shown (outside_text (codes "deposit")) (Int n ∷ Int first ∷ Int last ∷ []) old new rows
     → (new.now ≡ old.now) × (list_any (is_outside_of (holds_deposit n) first last) (tables_of old.now).holds ≡ list_any (λ r. true) rows)
 tells_outside_on old new n first last rows office h =
-    tells_outside old new outside_on_text 2 hold_meanings.asks_outside_on (Int n) first last rows office h (holds_deposit n) (λ r it. deposit_is (column r 2) n it.0)
+    tells_outside old new (outside_text (codes "deposit")) 2 hold_meanings.asks_outside_on (Int n) first last rows office h (holds_deposit n) (λ r it. deposit_is (column r 2) n it.0)
 
-pub tells_outside_within : (old new : State) (c : List ℕ) (first last : ℤ) (rows : List Row) → IsOffice old.now → Shown outside_within_text (Text c ∷ Int first ∷ Int last ∷ []) old new rows
+pub tells_outside_within : (old new : State) (c : List ℕ) (first last : ℤ) (rows : List Row) → IsOffice old.now → Shown (outside_text (codes "collection")) (Text c ∷ Int first ∷ Int last ∷ []) old new rows
     → (new.now ≡ old.now) × (list_any (is_outside_of (holds_collection c) first last) (tables_of old.now).holds ≡ list_any (λ r. true) rows)
 tells_outside_within old new c first last rows office h =
-    tells_outside old new outside_within_text 3 hold_meanings.asks_outside_within (Text c) first last rows office h (holds_collection c) (λ r it. text_is (column r 3) c it.1)
+    tells_outside old new (outside_text (codes "collection")) 3 hold_meanings.asks_outside_within (Text c) first last rows office h (holds_collection c) (λ r it. text_is (column r 3) c it.1)
 
-pub tells_outside_of_class : (old new : State) (k : List ℕ) (first last : ℤ) (rows : List Row) → IsOffice old.now → Shown outside_of_class_text (Text k ∷ Int first ∷ Int last ∷ []) old new rows
+pub tells_outside_of_class : (old new : State) (k : List ℕ) (first last : ℤ) (rows : List Row) → IsOffice old.now → Shown (outside_text (codes "class")) (Text k ∷ Int first ∷ Int last ∷ []) old new rows
     → (new.now ≡ old.now) × (list_any (is_outside_of (holds_class k) first last) (tables_of old.now).holds ≡ list_any (λ r. true) rows)
 tells_outside_of_class old new k first last rows office h =
-    tells_outside old new outside_of_class_text 4 hold_meanings.asks_outside_of_class (Text k) first last rows office h (holds_class k) (λ r it. text_is (column r 4) k it.2)
+    tells_outside old new (outside_text (codes "class")) 4 hold_meanings.asks_outside_of_class (Text k) first last rows office h (holds_class k) (λ r it. text_is (column r 4) k it.2)
 
 -- ---- all of them
 
@@ -108,7 +108,7 @@ both_parts true false false = refl
 both_parts false b o = refl
 
 outside_over : (first last n : ℤ) (c k : List ℕ) (holds : List HoldRow)
-    → list_any (is_released_outside first last n c k) holds
+    → list_any (is_outside_of (is_over n c k) first last) holds
     ≡ (list_any (is_outside_of (holds_deposit n) first last) holds || (list_any (is_outside_of (holds_collection c) first last) holds || list_any (is_outside_of (holds_class k) first last) holds))
 outside_over first last n c k holds =
     let later : HoldRow → Bool = λ h. holds_collection c h || holds_class k h in
@@ -126,7 +126,7 @@ pub gathers_outside : (old one two : Database) → one ≡ old → two ≡ one �
     → on ≡ list_any (is_outside_of (holds_deposit n) first last) (tables_of old).holds
     → within ≡ list_any (is_outside_of (holds_collection c) first last) (tables_of one).holds
     → of_class ≡ list_any (is_outside_of (holds_class k) first last) (tables_of two).holds
-    → ((on || within) || of_class) ≡ list_any (is_released_outside first last n c k) (tables_of old).holds
+    → ((on || within) || of_class) ≡ list_any (is_outside_of (is_over n c k) first last) (tables_of old).holds
 gathers_outside old one two same again first last n c k on within of_class on_is within_is of_class_is =
     let at : (HoldRow → Bool) → Database → Bool = λ p db. list_any (is_outside_of p first last) (tables_of db).holds in
     in_turn on within of_class

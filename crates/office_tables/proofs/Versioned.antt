@@ -1,5 +1,5 @@
 -- The version in the row of the office.
-use Rattle.std.proofs.Common.{◌≡◌, ℕ, ℤ, pos, [], ◌∷◌, map, codes, Ok, IsTrue, refl, ap, ◌∙◌, inr, if◌then◌else◌}
+use Rattle.std.proofs.Common.{◌≡◌, ℕ, ℤ, pos, [], ◌∷◌, map, Ok, IsTrue, refl, ap, ◌∙◌, inr, if◌then◌else◌}
 use Rattle.std.specs.List.{AllByRecursion}
 use Rattle.sqlite.specs.declared.types.Value.TheVariants.{Null, Int}
 use Rattle.sqlite.specs.Order.{Row, column}
@@ -18,13 +18,13 @@ use Rattle.sqlite_rules.proofs.ListLemmas.{all_has}
 use Rattle.sqlite_rules.proofs.TableLemmas.{int_is}
 use Rattle.sql_meaning.specs.Columns.{int_at}
 use Rattle.sql_meaning.specs.Whole.{IsWhole, Sets}
-use Rattle.sql_meaning.proofs.Typed.{int_in, all_both}
+use Rattle.sql_meaning.proofs.Typed.{typed_at, all_both}
 use Rattle.sql_meaning.proofs.Edits.{decoded, cast_null, cast_int}
 use Rattle.sql_meaning.proofs.Whole.{keeps_rule, sets}
 use Rattle.sql_meaning.proofs.Changing.{revises}
 use Rattle.sql_meaning.proofs.RowidKeys.{by_number, has_number, each_numbered, few_numbered}
 use Rattle.office_rows.specs.Rows.{OfficeRow, is_office_row}
-use Rattle.office_tables.specs.Schema.{office_table, needed}
+use Rattle.office_tables.specs.Schema.{office_table}
 use Rattle.office_tables.specs.Tables.{office_in}
 use Rattle.office_tables.specs.Moving.{AllRows, all_in_version, in_version, BecomesAt, rows_at}
 use Rattle.office_tables.specs.Versions.{schema_at}
@@ -40,11 +40,9 @@ abbrev IsStored : Row → Type 0
 IsStored r = (column r 2 ≡ Int (int_at r 2)) × (column r 3 ≡ Int (int_at r 3)) × (column r 4 ≡ Int (int_at r 4))
 
 stored_rows : (db : Database) → IsWhole fifth db → AllByRecursion IsStored (db.trees 0)
-stored_rows db whole = all_both (λ r t p. (
-  int_in fifth db.trees office_table r t p 1 (needed (codes "version") kind.Integer) refl refl refl refl refl,
-  int_in fifth db.trees office_table r t p 2 (needed (codes "max_deposits") kind.Integer) refl refl refl refl refl,
-  int_in fifth db.trees office_table r t p 3 (needed (codes "max_holds") kind.Integer) refl refl refl refl refl,
-)) (db.trees 0) (keeps_rule whole Datatype).0 (keeps_rule whole NotNull).0
+stored_rows db whole = all_both (λ r t p.
+    let at = typed_at fifth db.trees office_table r t p in
+    (at 1 refl, at 2 refl, at 3 refl)) (db.trees 0) (keeps_rule whole Datatype).0 (keeps_rule whole NotNull).0
 
 abbrev set_to : ℤ → Row → Row
 set_to version r = rowid r ∷ Null ∷ Int version ∷ column r 3 ∷ column r 4 ∷ []

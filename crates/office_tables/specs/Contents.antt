@@ -10,7 +10,7 @@ use Rattle.sqlite.specs.Order.{Row}
 use Rattle.sqlite.specs.Effect.{Database}
 use Rattle.sqlite_rules.specs.Lists.{Has}
 use Rattle.sql_meaning.specs.Columns.{int_at}
-use Rattle.office_rows.specs.Rows.{ContentRow, content_numbered, bytes_under, next_id, with_content, is_alike, file_at, with_file, without_files}
+use Rattle.office_rows.specs.Rows.{ContentRow, FileRow, content_numbered, bytes_under, next_id, with_content, is_alike, file_at, with_file, without_files}
 use Rattle.office_tables.specs.Tables.{IsOffice, Becomes, tables_of, contents_of}
 
 -- the number of the content of each file
@@ -108,11 +108,11 @@ pub record AreFilesDropped (n : ℤ) (old new : Database) : Type 0 where
   pub contents : contents_of new ≡ contents_of old
   pub references : (id : ℤ) → Has (references_of old) id → Has (references_of new) id ⊎ ((row : Row) × Has (old.trees 10) row × (int_eq (int_at row 1) n ≡ true) × (int_at row 3 ≡ id))
 
--- a file came at the end; its content was there or came at the end too
-pub record IsMarkedPut (n : ℤ) (path mark bytes : List ℕ) (old new : Database) : Type 0 where
-  pub becomes : Becomes new (with_file (record { deposit = n; path = path; content = bytes }) (tables_of old))
-  pub new_path : file_at n path (tables_of old).files ≡ None
-  pub contents : contents_of new ≡ with_content mark bytes (contents_of old)
+-- this file came at the end; its content was there under that mark, or came at the end too
+pub record IsMarkedPut (f : FileRow) (mark : List ℕ) (old new : Database) : Type 0 where
+  pub becomes : Becomes new (with_file f (tables_of old))
+  pub new_path : file_at f.deposit f.path (tables_of old).files ≡ None
+  pub contents : contents_of new ≡ with_content mark f.content (contents_of old)
   pub used : AreUsed (references_of old) (contents_of old) → AreUsed (references_of new) (contents_of new)
 
 -- ---- contents that nobody keeps

@@ -6,23 +6,14 @@ use Rattle.std.specs.declared.cmp.Ordering.{Ordering}
 use Rattle.sqlite.specs.Order.{Row}
 use Rattle.sqlite.specs.Effect.{Database}
 use Rattle.sqlite_keyed.specs.Lists.{sort_by}
-use Rattle.sql_meaning.specs.Columns.{int_at, bytes_at, maybe_int_at}
+use Rattle.sql_meaning.specs.Columns.{bytes_at}
 use Rattle.office_rows.specs.Rows.{DepositRow, FileRow, Tables, files_of, with_deposit, deposit_numbered, deposit_by, has_collection, has_class}
+use Rattle.office_tables.specs.Stored.{deposit_at}
 use Rattle.office_tables.specs.Tables.{Becomes, tables_of}
 use Rattle.office_tables.specs.declared.deposits.NewDeposit.{NewDeposit}
 
 abbrev pub shown_deposit : Row → DepositRow
-shown_deposit row = record {
-  number = int_at row 0;
-  accession = bytes_at row 1;
-  collection = bytes_at row 2;
-  class = bytes_at row 3;
-  closed = int_at row 4;
-  deposited = int_at row 5;
-  files = int_at row 6;
-  bytes = int_at row 7;
-  gone = maybe_int_at row 8;
-}
+shown_deposit row = deposit_at 0 row
 
 abbrev pub shown_path : Row → List ℕ
 shown_path row = bytes_at row 0

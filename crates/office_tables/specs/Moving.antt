@@ -1,13 +1,17 @@
 -- What a call makes of an office whose tables are of an older version. `old` is the connection before it and `new` the
 -- connection after it.
-use Rattle.std.specs.Prelude.{◌≡◌, ℤ, pos, List, [], ◌∷◌, map, Result, OnOk, if◌then◌else◌}
+use Rattle.std.specs.Prelude.{◌≡◌, ℕ, ℤ, pos, List, [], ◌∷◌, map, Ok, if◌then◌else◌}
 use Rattle.sqlite.specs.declared.types.Value.TheVariants.{Null, Int}
 use Rattle.sqlite.specs.Order.{Row, column}
 use Rattle.sqlite.specs.Tree.{rowid}
+use Rattle.sqlite.specs.Schema.{Schema}
 use Rattle.sqlite.specs.Effect.{Database}
 use Rattle.sqlite.specs.Store.{Ghosts}
-use Rattle.sqlite.specs.State.{HasCleanDisk}
+use Rattle.sqlite.specs.State.{Executes}
 use Rattle.sqlite.specs.Held.{Held, state}
+use Rattle.sql_meaning.specs.Making.{Builds}
+use Rattle.sql_meaning.specs.Growing.{Grows}
+use Rattle.sql_meaning.specs.Whole.{IsWhole}
 use Rattle.office_rows.specs.Rows.{OfficeRow, ContentRow, Tables, is_office_row}
 use Rattle.office_tables.specs.Stored.{contents_of}
 use Rattle.office_tables.specs.Contents.{references_of}
@@ -46,12 +50,19 @@ moved_hold r = rowid r ∷ Null ∷ column r 2 ∷ column r 3 ∷ Null ∷ colum
 abbrev pub moved_rule : Row → Row
 moved_rule r = rowid r ∷ Null ∷ column r 2 ∷ column r 3 ∷ column r 4 ∷ column r 5 ∷ column r 6 ∷ Int first_day ∷ Int last_day ∷ []
 
--- ---- what a call makes of them
+-- the texts that take the rows of an older table over: they make the newer one, copy the rows, and empty the older one
+pub record Takeover : Type 0 where
+  pub tables : List (List ℕ)
+  pub copying : List ℕ
+  pub emptying : List ℕ
 
--- from the tables of one version to those of another, with the same rows
-abbrev pub Moves : {S T E : Type 0} → Ghosts S → TableVersion → TableVersion → Held S → Held S → Result T E → Type 0
-Moves g from to old new result = HasCleanDisk (state g new) → (rows : AllRows) → BecomesAt from (state g old).now rows
-    → OnOk result (BecomesAt to (state g new).now rows)
+-- the three steps in turn, each from where the one before it led
+abbrev pub TakesOver : {S : Type 0} → Ghosts S → Takeover → Held S → Held S → Type 0
+TakesOver {S} g texts old new = (made : Held S) × (copied : Held S) × (count : ℕ) × (more : ℕ)
+    × ((before after : Schema) → Builds before texts.tables after → IsWhole before (state g old).now → Grows before after (state g old).now (state g made).now)
+    × Executes texts.copying [] (state g made) (state g copied) (Ok count) × Executes texts.emptying [] (state g copied) (state g new) (Ok more)
+
+-- ---- what a call makes of them
 
 -- the rows after an upgrade
 abbrev pub renewed : TableVersion → AllRows → AllRows

@@ -1,5 +1,5 @@
 -- When a database is an office, and what making and opening one leaves.
-use Rattle.std.specs.Prelude.{◌⊎◌, ◌&&◌, ◌==◌, IsTrue, is_some, slice_get, option_and_then, find, ◌≡◌, ◌≢◌, ℕ, ℤ, Bool, true, false, List, [], codes, Option, Some, None, Ok, pos}
+use Rattle.std.specs.Prelude.{◌⊎◌, ◌&&◌, ◌==◌, IsTrue, is_some, slice_get, option_and_then, find, ◌≡◌, ◌≢◌, ℕ, ℤ, Bool, true, false, List, [], codes, Option, Some, None, Ok, Result, IfOk, IfErr, pos}
 use Rattle.sqlite.specs.declared.types.Value.{Value}
 use Rattle.sqlite.specs.declared.types.Value.TheVariants.{Int}
 use Rattle.sqlite.specs.Order.{Row, column}
@@ -8,12 +8,15 @@ use Rattle.sqlite.specs.Tree.{Trees}
 use Rattle.sqlite.specs.Schema.{Schema}
 use Rattle.sqlite.specs.Listing.{understood, reads_listing, IsSourceOf}
 use Rattle.sqlite.specs.Effect.{Database, Reads}
-use Rattle.sqlite.specs.State.{State}
+use Rattle.sqlite.specs.State.{State, HasCleanDisk}
+use Rattle.sqlite.specs.Store.{Ghosts}
+use Rattle.sqlite.specs.Held.{Held, state}
 use Rattle.sqlite_schema.specs.Names.{table_named, column_named}
 use Rattle.sqlite_resolve.specs.declared.compiled.Compiled.{Compiled}
 use Rattle.office_rows.specs.Rows.{Tables, is_limit, version_of}
 use Rattle.office_tables.specs.Tables.{Becomes}
 use Rattle.office_tables.specs.Contents.{KeepsOnce}
+use Rattle.office_tables.specs.declared.fault.TableFault.{TableFault}
 
 -- ---- what is left
 
@@ -35,6 +38,16 @@ IsLeft tables left = (made : Database) × Becomes made tables × (left ≡ made.
 -- the same of an office that was just made, whose contents are kept once
 abbrev pub IsMadeLeft : Tables → Trees → Type 0
 IsMadeLeft tables left = (made : Database) × Becomes made tables × KeepsOnce made × (left ≡ made.trees)
+
+-- ---- a connection that is taken, and handed back
+
+-- on Ok this is so of the connection, where the disk is honest
+abbrev pub IfTaken : {S E : Type 0} → Ghosts S → Result (Held S) E → (State → Type 0) → Type 0
+IfTaken g result is_so = IfOk result (λ taken. HasCleanDisk (state g taken) → is_so (state g taken))
+
+-- on a refusal this is so of the connection that is handed back, and of the fault
+abbrev pub IfRefused : {S : Type 0} → Ghosts S → Result (Held S) (Held S × TableFault) → (State → TableFault → Type 0) → Type 0
+IfRefused g result is_so = IfErr result (λ e. HasCleanDisk (state g e.0) → is_so (state g e.0) e.1)
 
 -- ---- the row by which an office is known
 

@@ -85,3 +85,7 @@ emptied_at Fifth = emptied_trees
 pub record IsOfficeAt (version : TableVersion) (db : Database) : Type 0 where
   pub whole : IsWhole (schema_at version) db
   pub emptied : AllByRecursion (λ tree. db.trees tree ≡ []) (emptied_at version)
+
+-- where the database is an office's, whichever its version, this is so of its rows
+abbrev pub IfKnownOffice : Database → (Tables → Type 0) → Type 0
+IfKnownOffice db is_so = (version : TableVersion) → IsOfficeAt version db → is_so (tables_at version db)

@@ -1,50 +1,30 @@
 //! Classes and collections.
 
-ghost use Rattle.std.specs.Prelude.{◌≡◌, option_map, slice_get, if◌then◌else◌};
-ghost use Rattle.sql_meaning.specs.Columns.{int_at};
+ghost use Rattle.std.specs.Prelude.{◌≡◌, option_map, if◌then◌else◌};
 ghost use Rattle.office_rows.specs.Rows.{class_named, has_class, with_class, with_new_class, with_years, has_collection, with_collection, with_new_collection};
 ghost use Rattle.office_tables.specs.Contents.{LeavesOnce};
-ghost use Rattle.office_tables.specs.Calls.{GoesOnInside, Keeps, Shows, Tells, Writes};
+ghost use Rattle.office_tables.specs.Calls.{GoesOnInside, Keeps, Tells, Writes};
 
-use crate::fault::TableFault;
-use crate::run::{ask, change, number_in};
-use sqlite::{Alter, Row, Transaction, params};
-
-/// The row that shows the years of the class of that name, if there is one.
-fn rows_of_class<S: Alter>(tx: &mut Transaction<'_, S>, name: &str) -> Result<Vec<Row>, TableFault>
-    ensures inside { GoesOnInside S.Store tx.old.conn tx.new.conn result }
-    ensures found { Shows S.Store tx.old.conn.now tx.new.conn.now result (λ tables rows.
-        option_map (λ c. c.years) (class_named name.now tables.classes)
-        ≡ option_map (λ row. int_at row 0) (slice_get rows.items 0)) }
-{
-    ask(tx, "SELECT years FROM class WHERE name = ?1", params![name])
-}
+use crate::fault::Result;
+use crate::rows::read_first;
+use crate::run::{ask, change};
+use sqlite::{Alter, Transaction, params};
 
 /// The years of the class of that name, -1 where its deposits are kept permanently; `None` where there is no such class.
 ///
 /// Fails with `Memory` or `Store`.
-pub fn class_of<S: Alter>(
-    tx: &mut Transaction<'_, S>,
-    name: &str,
-) -> Result<Option<i64>, TableFault>
+pub fn class_of<S: Alter>(tx: &mut Transaction<'_, S>, name: &str) -> Result<Option<i64>>
     ensures inside { GoesOnInside S.Store tx.old.conn tx.new.conn result }
     ensures same { Keeps S.Store tx.old.conn.now tx.new.conn.now result }
     ensures found { Tells S.Store tx.old.conn.now tx.new.conn.now result (λ tables found.
         found ≡ option_map (λ c. c.years) (class_named name.now tables.classes)) }
 {
-    let rows = rows_of_class(tx, name)?;
-    match rows.first() {
-        Some(row) => Ok(Some(number_in(row, 0)?)),
-        None => Ok(None),
-    }
+    let rows = ask(tx, "SELECT years FROM class WHERE name = ?1", params![name])?;
+    read_first(&rows)
 }
 
 /// Gives the years to the class of that name, and says how many classes that were.
-fn revise_class<S: Alter>(
-    tx: &mut Transaction<'_, S>,
-    name: &str,
-    years: i64,
-) -> Result<usize, TableFault>
+fn revise_class<S: Alter>(tx: &mut Transaction<'_, S>, name: &str, years: i64) -> Result<usize>
     ensures inside { GoesOnInside S.Store tx.old.conn tx.new.conn result }
     ensures becomes { Writes S.Store tx.old.conn.now tx.new.conn.now result
         (with_years name.now years) }
@@ -60,11 +40,7 @@ fn revise_class<S: Alter>(
 }
 
 /// Adds a class at the end.
-fn add_class<S: Alter>(
-    tx: &mut Transaction<'_, S>,
-    name: &str,
-    years: i64,
-) -> Result<usize, TableFault>
+fn add_class<S: Alter>(tx: &mut Transaction<'_, S>, name: &str, years: i64) -> Result<usize>
     ensures inside { GoesOnInside S.Store tx.old.conn tx.new.conn result }
     ensures becomes { Writes S.Store tx.old.conn.now tx.new.conn.now result
         (with_new_class name.now years) }
@@ -80,11 +56,7 @@ fn add_class<S: Alter>(
 /// Adds the class, or sets its years where there is a class of that name; -1 keeps its deposits permanently.
 ///
 /// Fails with `Memory` or `Store`.
-pub fn put_class<S: Alter>(
-    tx: &mut Transaction<'_, S>,
-    name: &str,
-    years: i64,
-) -> Result<(), TableFault>
+pub fn put_class<S: Alter>(tx: &mut Transaction<'_, S>, name: &str, years: i64) -> Result<()>
     ensures inside { GoesOnInside S.Store tx.old.conn tx.new.conn result }
     ensures becomes { Writes S.Store tx.old.conn.now tx.new.conn.now result
         (with_class name.now years) }
@@ -99,7 +71,7 @@ pub fn put_class<S: Alter>(
 /// Whether there is a collection of that name.
 ///
 /// Fails with `Memory` or `Store`.
-pub fn has_collection<S: Alter>(tx: &mut Transaction<'_, S>, name: &str) -> Result<bool, TableFault>
+pub fn has_collection<S: Alter>(tx: &mut Transaction<'_, S>, name: &str) -> Result<bool>
     ensures inside { GoesOnInside S.Store tx.old.conn tx.new.conn result }
     ensures same { Keeps S.Store tx.old.conn.now tx.new.conn.now result }
     ensures found { Tells S.Store tx.old.conn.now tx.new.conn.now result (λ tables found.
@@ -114,7 +86,7 @@ pub fn has_collection<S: Alter>(tx: &mut Transaction<'_, S>, name: &str) -> Resu
 }
 
 /// Adds a collection at the end.
-fn add_collection<S: Alter>(tx: &mut Transaction<'_, S>, name: &str) -> Result<usize, TableFault>
+fn add_collection<S: Alter>(tx: &mut Transaction<'_, S>, name: &str) -> Result<usize>
     ensures inside { GoesOnInside S.Store tx.old.conn tx.new.conn result }
     ensures becomes { Writes S.Store tx.old.conn.now tx.new.conn.now result
         (with_new_collection name.now) }
@@ -130,7 +102,7 @@ fn add_collection<S: Alter>(tx: &mut Transaction<'_, S>, name: &str) -> Result<u
 /// Adds the collection; where it is there already, nothing changes.
 ///
 /// Fails with `Memory` or `Store`.
-pub fn put_collection<S: Alter>(tx: &mut Transaction<'_, S>, name: &str) -> Result<(), TableFault>
+pub fn put_collection<S: Alter>(tx: &mut Transaction<'_, S>, name: &str) -> Result<()>
     ensures inside { GoesOnInside S.Store tx.old.conn tx.new.conn result }
     ensures becomes { Writes S.Store tx.old.conn.now tx.new.conn.now result
         (with_collection name.now) }

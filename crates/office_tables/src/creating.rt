@@ -16,16 +16,14 @@ ghost use Rattle.office_tables.specs.Tables.{Becomes};
 ghost use Rattle.office_tables.specs.Opening.{KeepsTables, IsMade, IsMadeLeft};
 ghost use Rattle.office_tables.specs.Contents.{KeepsOnce};
 
-use crate::fault::TableFault;
+use crate::fault::{Result, TableFault};
+use crate::opening::OfficeLimits;
 use crate::run::change;
 use sqlite::{Alter, Connection, Transaction, params};
 use sqlite_schema::schema::Schema;
 
 /// Runs CREATE texts in turn, in a database without rows or with some.
-pub(crate) fn define<S: Alter>(
-    tx: &mut Transaction<'_, S>,
-    texts: &[&str],
-) -> Result<(), TableFault>
+pub(crate) fn define<S: Alter>(tx: &mut Transaction<'_, S>, texts: &[&str]) -> Result<()>
     ensures inside { GoesOnInTurn S.Store tx.old.conn tx.new.conn result }
     ensures made { HasCleanDisk (state S.Store tx.new.conn.now)
         → OnOk result
@@ -46,7 +44,7 @@ pub(crate) fn define<S: Alter>(
 }
 
 /// Makes the eleven tables and their indexes in an empty database, in the order in which versions came to have them.
-fn define_tables<S: Alter>(tx: &mut Transaction<'_, S>) -> Result<(), TableFault>
+fn define_tables<S: Alter>(tx: &mut Transaction<'_, S>) -> Result<()>
     ensures inside { GoesOnInTurn S.Store tx.old.conn tx.new.conn result }
     ensures made { HasCleanDisk (state S.Store tx.new.conn.now)
         → (state S.Store tx.old.conn.now).now.schema ≡ no_schema
@@ -79,17 +77,13 @@ fn define_tables<S: Alter>(tx: &mut Transaction<'_, S>) -> Result<(), TableFault
 }
 
 /// Adds the row of the office.
-fn start<S: Alter>(
-    tx: &mut Transaction<'_, S>,
-    max_deposits: u32,
-    max_holds: u32,
-) -> Result<usize, TableFault>
+fn start<S: Alter>(tx: &mut Transaction<'_, S>, limits: OfficeLimits) -> Result<usize>
     ensures inside { GoesOnInside S.Store tx.old.conn tx.new.conn result }
     ensures becomes { HasCleanDisk (state S.Store tx.new.conn.now)
         → IsBlank office_schema (state S.Store tx.old.conn.now).now
         → OnOk result
         (Becomes (state S.Store tx.new.conn.now).now
-        (empty_office this_version (pos max_deposits) (pos max_holds))) }
+        (empty_office this_version (pos limits.max_deposits) (pos limits.max_holds))) }
     ensures once { HasCleanDisk (state S.Store tx.new.conn.now)
         → IsBlank office_schema (state S.Store tx.old.conn.now).now
         → OnOk result (KeepsOnce (state S.Store tx.new.conn.now).now) }
@@ -97,16 +91,12 @@ fn start<S: Alter>(
     change(
         tx,
         "INSERT INTO office (id, version, max_deposits, max_holds) VALUES (1, 5, ?1, ?2)",
-        params![max_deposits, max_holds],
+        params![limits.max_deposits, limits.max_holds],
     )
 }
 
 /// Makes the tables in an empty database, with the row of the office.
-fn make_office<S: Alter>(
-    tx: &mut Transaction<'_, S>,
-    max_deposits: u32,
-    max_holds: u32,
-) -> Result<(), TableFault>
+fn make_office<S: Alter>(tx: &mut Transaction<'_, S>, limits: OfficeLimits) -> Result<()>
     ensures inside { GoesOnInTurn S.Store tx.old.conn tx.new.conn result }
     ensures opened { HasCleanDisk (state S.Store tx.new.conn.now)
         → OnOk result (IsTrue (state S.Store tx.new.conn.now).is_open) }
@@ -114,13 +104,13 @@ fn make_office<S: Alter>(
         → (state S.Store tx.old.conn.now).now.schema ≡ no_schema
         → OnOk result
         (Becomes (state S.Store tx.new.conn.now).now
-        (empty_office this_version (pos max_deposits) (pos max_holds))) }
+        (empty_office this_version (pos limits.max_deposits) (pos limits.max_holds))) }
     ensures once { HasCleanDisk (state S.Store tx.new.conn.now)
         → (state S.Store tx.old.conn.now).now.schema ≡ no_schema
         → OnOk result (KeepsOnce (state S.Store tx.new.conn.now).now) }
 {
     define_tables(tx)?;
-    start(tx, max_deposits, max_holds)?;
+    start(tx, limits)?;
     Ok(())
 }
 
@@ -138,11 +128,7 @@ fn is_empty(schema: &Schema) -> bool
 ///
 /// Fails with `Store` where the database isn't empty, which then is just as it was, and with `Memory` or `Store`: then the tables
 /// are as they were, as long as the connection is open, and a crash leaves the empty office or what it could leave before.
-pub fn create<S: Alter>(
-    conn: &mut Connection<S>,
-    max_deposits: u32,
-    max_holds: u32,
-) -> Result<(), TableFault>
+pub fn create<S: Alter>(conn: &mut Connection<S>, max_deposits: u32, max_holds: u32) -> Result<()>
     requires outside { (state S.Store conn.old).in_transaction ≡ false }
     requires deposits { IsLimit (pos max_deposits) }
     requires holds { IsLimit (pos max_holds) }
@@ -169,8 +155,12 @@ pub fn create<S: Alter>(
     if !is_empty(conn.schema()) {
         return Err(TableFault::Store);
     }
+    let limits = OfficeLimits {
+        max_deposits,
+        max_holds,
+    };
     let mut tx = conn.transaction();
-    if let Err(stopped) = make_office(&mut tx, max_deposits, max_holds) {
+    if let Err(stopped) = make_office(&mut tx, limits) {
         tx.rollback();
         return Err(stopped);
     }

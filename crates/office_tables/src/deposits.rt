@@ -1,17 +1,17 @@
 //! Deposits.
 
-ghost use Rattle.std.specs.Prelude.{◌≡◌, IfOk, IsTrue, IfErr, OnOk, None, pos, option_map, slice_get, map};
+ghost use Rattle.std.specs.Prelude.{◌≡◌, IsTrue, OnOk, None, pos, option_map, slice_get, map};
 ghost use Rattle.sqlite.specs.State.{HasCleanDisk};
 ghost use Rattle.sqlite.specs.Held.{state};
 ghost use Rattle.sql_meaning.specs.Columns.{int_at};
-ghost use Rattle.office_tables.specs.Faults.{IsFailure};
 ghost use Rattle.office_rows.specs.Rows.{deposit_numbered, deposit_by, has_class, has_collection, last_number, with_deposit, with_gone};
 ghost use Rattle.office_tables.specs.Tables.{IsOffice};
 ghost use Rattle.office_tables.specs.Contents.{LeavesOnce};
 ghost use Rattle.office_tables.specs.Calls.{GoesOnInside, Keeps, Shows, Tells, Writes};
 ghost use Rattle.office_tables.specs.Deposits.{shown_deposit, added_row, IsAdded};
 
-use crate::fault::TableFault;
+use crate::fault::Result;
+use crate::rows::{Shown, first_number, read_all, read_first};
 use crate::run::{ask, change};
 use sqlite::{Alter, Row, Transaction, params};
 use std::alloc::Global;
@@ -92,40 +92,26 @@ impl Model for DepositRow {
     } };
 }
 
-/// The deposit that a row shows.
-pub(crate) fn deposit_in(row: &Row) -> Result<DepositRow, TableFault>
-    ensures shown { IfOk result (λ deposit. deposit ≡ shown_deposit row.now) }
-    ensures failure { IfErr result IsFailure }
-{
-    Ok(DepositRow {
-        number: row.get(0)?,
-        accession: row.get(1)?,
-        collection: row.get(2)?,
-        class: row.get(3)?,
-        closed: row.get(4)?,
-        deposited: row.get(5)?,
-        files: row.get(6)?,
-        bytes: row.get(7)?,
-        gone: row.get(8)?,
-    })
-}
+impl Shown for DepositRow {
+    ghost shown_in = { shown_deposit };
 
-/// The deposit that the first of the rows shows, if there is one.
-fn first_deposit(rows: &[Row]) -> Result<Option<DepositRow>, TableFault>
-    ensures shown { IfOk result (λ found. found ≡ option_map shown_deposit (slice_get rows.now 0)) }
-    ensures failure { IfErr result IsFailure }
-{
-    match rows.first() {
-        Some(row) => Ok(Some(deposit_in(row)?)),
-        None => Ok(None),
+    fn read(row: &Row) -> Result<DepositRow> {
+        Ok(DepositRow {
+            number: row.get(0)?,
+            accession: row.get(1)?,
+            collection: row.get(2)?,
+            class: row.get(3)?,
+            closed: row.get(4)?,
+            deposited: row.get(5)?,
+            files: row.get(6)?,
+            bytes: row.get(7)?,
+            gone: row.get(8)?,
+        })
     }
 }
 
 /// The row that shows the deposit of that number, if there is one.
-fn rows_of_deposit<S: Alter>(
-    tx: &mut Transaction<'_, S>,
-    number: u32,
-) -> Result<Vec<Row>, TableFault>
+fn rows_of_deposit<S: Alter>(tx: &mut Transaction<'_, S>, number: u32) -> Result<Vec<Row>>
     ensures inside { GoesOnInside S.Store tx.old.conn tx.new.conn result }
     ensures found { Shows S.Store tx.old.conn.now tx.new.conn.now result (λ tables rows.
         deposit_numbered (pos number) tables.deposits
@@ -141,24 +127,18 @@ fn rows_of_deposit<S: Alter>(
 /// The deposit of that number; `None` where there is no such deposit.
 ///
 /// Fails with `Memory` or `Store`.
-pub fn deposit_row<S: Alter>(
-    tx: &mut Transaction<'_, S>,
-    number: u32,
-) -> Result<Option<DepositRow>, TableFault>
+pub fn deposit_row<S: Alter>(tx: &mut Transaction<'_, S>, number: u32) -> Result<Option<DepositRow>>
     ensures inside { GoesOnInside S.Store tx.old.conn tx.new.conn result }
     ensures same { Keeps S.Store tx.old.conn.now tx.new.conn.now result }
     ensures found { Tells S.Store tx.old.conn.now tx.new.conn.now result (λ tables found.
         found ≡ deposit_numbered (pos number) tables.deposits) }
 {
     let rows = rows_of_deposit(tx, number)?;
-    first_deposit(&rows)
+    read_first(&rows)
 }
 
 /// The row that shows the deposit with that accession, if there is one.
-fn rows_of_accession<S: Alter>(
-    tx: &mut Transaction<'_, S>,
-    accession: &str,
-) -> Result<Vec<Row>, TableFault>
+fn rows_of_accession<S: Alter>(tx: &mut Transaction<'_, S>, accession: &str) -> Result<Vec<Row>>
     ensures inside { GoesOnInside S.Store tx.old.conn tx.new.conn result }
     ensures found { Shows S.Store tx.old.conn.now tx.new.conn.now result (λ tables rows.
         deposit_by accession.now tables.deposits
@@ -177,18 +157,18 @@ fn rows_of_accession<S: Alter>(
 pub fn by_accession<S: Alter>(
     tx: &mut Transaction<'_, S>,
     accession: &str,
-) -> Result<Option<DepositRow>, TableFault>
+) -> Result<Option<DepositRow>>
     ensures inside { GoesOnInside S.Store tx.old.conn tx.new.conn result }
     ensures same { Keeps S.Store tx.old.conn.now tx.new.conn.now result }
     ensures found { Tells S.Store tx.old.conn.now tx.new.conn.now result (λ tables found.
         found ≡ deposit_by accession.now tables.deposits) }
 {
     let rows = rows_of_accession(tx, accession)?;
-    first_deposit(&rows)
+    read_first(&rows)
 }
 
 /// The row that shows the last number, if there is a deposit.
-fn rows_of_last<S: Alter>(tx: &mut Transaction<'_, S>) -> Result<Vec<Row>, TableFault>
+fn rows_of_last<S: Alter>(tx: &mut Transaction<'_, S>) -> Result<Vec<Row>>
     ensures inside { GoesOnInside S.Store tx.old.conn tx.new.conn result }
     ensures found { Shows S.Store tx.old.conn.now tx.new.conn.now result (λ tables rows.
         last_number (λ d. d.number) tables.deposits
@@ -204,21 +184,18 @@ fn rows_of_last<S: Alter>(tx: &mut Transaction<'_, S>) -> Result<Vec<Row>, Table
 /// The highest number of a deposit; `None` where there is no deposit.
 ///
 /// Fails with `Memory` or `Store`.
-pub fn last_deposit<S: Alter>(tx: &mut Transaction<'_, S>) -> Result<Option<u32>, TableFault>
+pub fn last_deposit<S: Alter>(tx: &mut Transaction<'_, S>) -> Result<Option<u32>>
     ensures inside { GoesOnInside S.Store tx.old.conn tx.new.conn result }
     ensures same { Keeps S.Store tx.old.conn.now tx.new.conn.now result }
     ensures found { Tells S.Store tx.old.conn.now tx.new.conn.now result (λ tables found.
         option_map pos found ≡ last_number (λ d. d.number) tables.deposits) }
 {
     let rows = rows_of_last(tx)?;
-    match rows.first() {
-        Some(row) => Ok(Some(row.get(0)?)),
-        None => Ok(None),
-    }
+    first_number(&rows)
 }
 
 /// The rows that show every deposit, by number.
-fn rows_of_deposits<S: Alter>(tx: &mut Transaction<'_, S>) -> Result<Vec<Row>, TableFault>
+fn rows_of_deposits<S: Alter>(tx: &mut Transaction<'_, S>) -> Result<Vec<Row>>
     ensures inside { GoesOnInside S.Store tx.old.conn tx.new.conn result }
     ensures found { Shows S.Store tx.old.conn.now tx.new.conn.now result (λ tables rows.
         tables.deposits ≡ map shown_deposit rows.items) }
@@ -230,32 +207,17 @@ fn rows_of_deposits<S: Alter>(tx: &mut Transaction<'_, S>) -> Result<Vec<Row>, T
     )
 }
 
-/// The deposits that the rows show.
-fn deposits_in(alloc: Global, rows: &[Row]) -> Result<Vec<DepositRow>, TableFault>
-    ensures shown { IfOk result (λ all. all.items ≡ map shown_deposit rows.now) }
-    ensures failure { IfErr result IsFailure }
-{
-    let mut all = Vec::new(alloc);
-    for row in rows {
-        all.push(deposit_in(row)?)?;
-    }
-    Ok(all)
-}
-
 /// Every deposit, by number.
 ///
 /// Fails with `Memory` or `Store`.
-pub fn deposit_rows<S: Alter>(
-    alloc: Global,
-    tx: &mut Transaction<'_, S>,
-) -> Result<Vec<DepositRow>, TableFault>
+pub fn deposit_rows<S: Alter>(alloc: Global, tx: &mut Transaction<'_, S>) -> Result<Vec<DepositRow>>
     ensures inside { GoesOnInside S.Store tx.old.conn tx.new.conn result }
     ensures same { Keeps S.Store tx.old.conn.now tx.new.conn.now result }
     ensures found { Tells S.Store tx.old.conn.now tx.new.conn.now result (λ tables all.
         all.items ≡ tables.deposits) }
 {
     let rows = rows_of_deposits(tx)?;
-    deposits_in(alloc, &rows)
+    read_all(alloc, &rows)
 }
 
 /// Adds a deposit that isn't destroyed.
@@ -269,7 +231,7 @@ fn add_deposit<S: Alter>(
     deposited: i64,
     files: i64,
     bytes: i64,
-) -> Result<usize, TableFault>
+) -> Result<usize>
     ensures inside { GoesOnInside S.Store tx.old.conn tx.new.conn result }
     ensures added { HasCleanDisk (state S.Store tx.new.conn.now)
         → IsOffice (state S.Store tx.old.conn.now).now
@@ -318,10 +280,7 @@ pub struct NewDeposit<'a> {
 ///
 /// Fails with `Store` where there is no such collection or class, or where the accession or the number is taken, and with `Memory`
 /// or `Store`.
-pub fn put_deposit<S: Alter>(
-    tx: &mut Transaction<'_, S>,
-    deposit: NewDeposit<'_>,
-) -> Result<(), TableFault>
+pub fn put_deposit<S: Alter>(tx: &mut Transaction<'_, S>, deposit: NewDeposit<'_>) -> Result<()>
     ensures inside { GoesOnInside S.Store tx.old.conn tx.new.conn result }
     ensures becomes { Writes S.Store tx.old.conn.now tx.new.conn.now result
         (with_deposit (added_row deposit.entry)) }
@@ -352,11 +311,7 @@ pub fn put_deposit<S: Alter>(
 /// Sets the day when the deposit of that number was destroyed; where there is no such deposit, nothing changes.
 ///
 /// Fails with `Memory` or `Store`.
-pub fn mark_gone<S: Alter>(
-    tx: &mut Transaction<'_, S>,
-    number: u32,
-    day: i64,
-) -> Result<(), TableFault>
+pub fn mark_gone<S: Alter>(tx: &mut Transaction<'_, S>, number: u32, day: i64) -> Result<()>
     ensures inside { GoesOnInside S.Store tx.old.conn tx.new.conn result }
     ensures becomes { Writes S.Store tx.old.conn.now tx.new.conn.now result
         (with_gone (pos number) day) }

@@ -1,9 +1,8 @@
 //! When deposits fall due, and how many live holds cover each.
 
-ghost use Rattle.std.specs.Prelude.{◌≡◌, Some, None, IfOk, IfErr, OnOk, pos, option_map, slice_get, map};
+ghost use Rattle.std.specs.Prelude.{◌≡◌, Some, None, OnOk, pos, option_map, slice_get, map};
 ghost use Rattle.sqlite.specs.State.{HasCleanDisk};
 ghost use Rattle.sqlite.specs.Held.{state};
-ghost use Rattle.office_tables.specs.Faults.{IsFailure};
 ghost use Rattle.office_rows.specs.Rows.{beside, due_numbered, with_due, with_holds, with_more_holds, with_more_holds_class};
 ghost use Rattle.office_rows.specs.Told.{due_places, class_closings};
 ghost use Rattle.office_tables.specs.Tables.{IsOffice, Becomes, tables_of};
@@ -11,8 +10,9 @@ ghost use Rattle.office_tables.specs.Calls.{GoesOnInside, Keeps, Shows, Tells, W
 ghost use Rattle.office_tables.specs.Contents.{LeavesOnce};
 ghost use Rattle.office_tables.specs.Dues.{shown_due, shown_beside, shown_place, shown_closing, FitMore};
 
-use crate::deposits::{DepositRow, deposit_in};
-use crate::fault::TableFault;
+use crate::deposits::DepositRow;
+use crate::fault::Result;
+use crate::rows::{Shown, read_all, read_first};
 use crate::run::{ask, change};
 use sqlite::{Alter, Row, Transaction, params};
 use std::alloc::Global;
@@ -97,7 +97,7 @@ impl Model for ClosingRow {
 }
 
 /// The row that shows what is kept of the deposit of that number, if there is one.
-fn rows_of_due<S: Alter>(tx: &mut Transaction<'_, S>, number: u32) -> Result<Vec<Row>, TableFault>
+fn rows_of_due<S: Alter>(tx: &mut Transaction<'_, S>, number: u32) -> Result<Vec<Row>>
     ensures inside { GoesOnInside S.Store tx.old.conn tx.new.conn result }
     ensures found { Shows S.Store tx.old.conn.now tx.new.conn.now result (λ tables rows.
         due_numbered (pos number) tables.dues ≡ option_map shown_due (slice_get rows.items 0)) }
@@ -109,38 +109,33 @@ fn rows_of_due<S: Alter>(tx: &mut Transaction<'_, S>, number: u32) -> Result<Vec
     )
 }
 
-fn due_in(row: &Row) -> Result<DueRow, TableFault>
-    ensures shown { IfOk result (λ due. due ≡ shown_due row.now) }
-    ensures failure { IfErr result IsFailure }
-{
-    Ok(DueRow {
-        number: row.get(0)?,
-        due: row.get(1)?,
-        holds: row.get(2)?,
-    })
+impl Shown for DueRow {
+    ghost shown_in = { shown_due };
+
+    fn read(row: &Row) -> Result<DueRow> {
+        Ok(DueRow {
+            number: row.get(0)?,
+            due: row.get(1)?,
+            holds: row.get(2)?,
+        })
+    }
 }
 
 /// What is kept of the deposit of that number; `None` where there is no such deposit.
 ///
 /// Fails with `Memory` or `Store`.
-pub fn due_row<S: Alter>(
-    tx: &mut Transaction<'_, S>,
-    number: u32,
-) -> Result<Option<DueRow>, TableFault>
+pub fn due_row<S: Alter>(tx: &mut Transaction<'_, S>, number: u32) -> Result<Option<DueRow>>
     ensures inside { GoesOnInside S.Store tx.old.conn tx.new.conn result }
     ensures same { Keeps S.Store tx.old.conn.now tx.new.conn.now result }
     ensures found { Tells S.Store tx.old.conn.now tx.new.conn.now result (λ tables found.
         found ≡ due_numbered (pos number) tables.dues) }
 {
     let rows = rows_of_due(tx, number)?;
-    match rows.first() {
-        Some(row) => Ok(Some(due_in(row)?)),
-        None => Ok(None),
-    }
+    read_first(&rows)
 }
 
 /// The rows that show every deposit with what is kept beside it, by number.
-fn rows_beside<S: Alter>(tx: &mut Transaction<'_, S>) -> Result<Vec<Row>, TableFault>
+fn rows_beside<S: Alter>(tx: &mut Transaction<'_, S>) -> Result<Vec<Row>>
     ensures inside { GoesOnInside S.Store tx.old.conn tx.new.conn result }
     ensures found { Shows S.Store tx.old.conn.now tx.new.conn.now result (λ tables rows.
         beside tables.deposits tables.dues ≡ map shown_beside rows.items) }
@@ -152,31 +147,19 @@ fn rows_beside<S: Alter>(tx: &mut Transaction<'_, S>) -> Result<Vec<Row>, TableF
     )
 }
 
-/// The deposit that a row shows, with what is kept beside it.
-fn both_in(row: &Row) -> Result<DepositAndDue, TableFault>
-    ensures shown { IfOk result (λ both. both ≡ shown_beside row.now) }
-    ensures failure { IfErr result IsFailure }
-{
-    Ok(DepositAndDue {
-        deposit: deposit_in(row)?,
-        kept: DueRow {
-            number: row.get(0)?,
-            due: row.get(9)?,
-            holds: row.get(10)?,
-        },
-    })
-}
+impl Shown for DepositAndDue {
+    ghost shown_in = { shown_beside };
 
-/// The deposits that the rows show, each with what is kept beside it.
-fn all_in(alloc: Global, rows: &[Row]) -> Result<Vec<DepositAndDue>, TableFault>
-    ensures shown { IfOk result (λ all. all.items ≡ map shown_beside rows.now) }
-    ensures failure { IfErr result IsFailure }
-{
-    let mut all = Vec::new(alloc);
-    for row in rows {
-        all.push(both_in(row)?)?;
+    fn read(row: &Row) -> Result<DepositAndDue> {
+        Ok(DepositAndDue {
+            deposit: DepositRow::read(row)?,
+            kept: DueRow {
+                number: row.get(0)?,
+                due: row.get(9)?,
+                holds: row.get(10)?,
+            },
+        })
     }
-    Ok(all)
 }
 
 /// The rows of all deposits, each with what is kept beside it, by number.
@@ -185,18 +168,18 @@ fn all_in(alloc: Global, rows: &[Row]) -> Result<Vec<DepositAndDue>, TableFault>
 pub fn deposits_and_dues<S: Alter>(
     alloc: Global,
     tx: &mut Transaction<'_, S>,
-) -> Result<Vec<DepositAndDue>, TableFault>
+) -> Result<Vec<DepositAndDue>>
     ensures inside { GoesOnInside S.Store tx.old.conn tx.new.conn result }
     ensures same { Keeps S.Store tx.old.conn.now tx.new.conn.now result }
     ensures found { Tells S.Store tx.old.conn.now tx.new.conn.now result (λ tables rows.
         rows.items ≡ beside tables.deposits tables.dues) }
 {
     let rows = rows_beside(tx)?;
-    all_in(alloc, &rows)
+    read_all(alloc, &rows)
 }
 
 /// Sets the day from which the deposit of that number may be destroyed.
-fn set_day<S: Alter>(tx: &mut Transaction<'_, S>, number: u32, day: i64) -> Result<(), TableFault>
+fn set_day<S: Alter>(tx: &mut Transaction<'_, S>, number: u32, day: i64) -> Result<()>
     ensures inside { GoesOnInside S.Store tx.old.conn tx.new.conn result }
     ensures becomes { Writes S.Store tx.old.conn.now tx.new.conn.now result
         (with_due (pos number) (Some day)) }
@@ -211,7 +194,7 @@ fn set_day<S: Alter>(tx: &mut Transaction<'_, S>, number: u32, day: i64) -> Resu
 }
 
 /// Notes that the deposit of that number is kept permanently.
-fn clear_day<S: Alter>(tx: &mut Transaction<'_, S>, number: u32) -> Result<(), TableFault>
+fn clear_day<S: Alter>(tx: &mut Transaction<'_, S>, number: u32) -> Result<()>
     ensures inside { GoesOnInside S.Store tx.old.conn tx.new.conn result }
     ensures becomes { Writes S.Store tx.old.conn.now tx.new.conn.now result
         (with_due (pos number) None) }
@@ -229,11 +212,7 @@ fn clear_day<S: Alter>(tx: &mut Transaction<'_, S>, number: u32) -> Result<(), T
 /// there is no such deposit, nothing changes.
 ///
 /// Fails with `Memory` or `Store`.
-pub fn set_due<S: Alter>(
-    tx: &mut Transaction<'_, S>,
-    number: u32,
-    due: Option<i64>,
-) -> Result<(), TableFault>
+pub fn set_due<S: Alter>(tx: &mut Transaction<'_, S>, number: u32, due: Option<i64>) -> Result<()>
     ensures inside { GoesOnInside S.Store tx.old.conn tx.new.conn result }
     ensures becomes { Writes S.Store tx.old.conn.now tx.new.conn.now result
         (with_due (pos number) due) }
@@ -249,11 +228,7 @@ pub fn set_due<S: Alter>(
 /// changes.
 ///
 /// Fails with `Memory` or `Store`.
-pub fn set_holds<S: Alter>(
-    tx: &mut Transaction<'_, S>,
-    number: u32,
-    holds: i64,
-) -> Result<(), TableFault>
+pub fn set_holds<S: Alter>(tx: &mut Transaction<'_, S>, number: u32, holds: i64) -> Result<()>
     ensures inside { GoesOnInside S.Store tx.old.conn tx.new.conn result }
     ensures becomes { Writes S.Store tx.old.conn.now tx.new.conn.now result
         (with_holds (pos number) holds) }
@@ -270,11 +245,7 @@ pub fn set_holds<S: Alter>(
 /// Counts as many more live holds over each deposit of the collection.
 ///
 /// Fails with `Memory` or `Store`, and with `Store` where a count would leave 64 bits.
-pub fn add_holds<S: Alter>(
-    tx: &mut Transaction<'_, S>,
-    collection: &str,
-    by: i64,
-) -> Result<(), TableFault>
+pub fn add_holds<S: Alter>(tx: &mut Transaction<'_, S>, collection: &str, by: i64) -> Result<()>
     ensures inside { GoesOnInside S.Store tx.old.conn tx.new.conn result }
     ensures becomes { HasCleanDisk (state S.Store tx.new.conn.now)
         → IsOffice (state S.Store tx.old.conn.now).now
@@ -295,11 +266,7 @@ pub fn add_holds<S: Alter>(
 /// Counts as many more live holds over each deposit of the class.
 ///
 /// Fails with `Memory` or `Store`, and with `Store` where a count would leave 64 bits.
-pub fn add_holds_class<S: Alter>(
-    tx: &mut Transaction<'_, S>,
-    class: &str,
-    by: i64,
-) -> Result<(), TableFault>
+pub fn add_holds_class<S: Alter>(tx: &mut Transaction<'_, S>, class: &str, by: i64) -> Result<()>
     ensures inside { GoesOnInside S.Store tx.old.conn tx.new.conn result }
     ensures becomes { HasCleanDisk (state S.Store tx.new.conn.now)
         → IsOffice (state S.Store tx.old.conn.now).now
@@ -318,7 +285,7 @@ pub fn add_holds_class<S: Alter>(
 }
 
 /// The rows that show the deposits that may be destroyed on that day, whatever the rules of the policy say.
-fn rows_due<S: Alter>(tx: &mut Transaction<'_, S>, day: i64) -> Result<Vec<Row>, TableFault>
+fn rows_due<S: Alter>(tx: &mut Transaction<'_, S>, day: i64) -> Result<Vec<Row>>
     ensures inside { GoesOnInside S.Store tx.old.conn tx.new.conn result }
     ensures found { Shows S.Store tx.old.conn.now tx.new.conn.now result (λ tables rows.
         due_places day tables ≡ map shown_place rows.items) }
@@ -330,27 +297,17 @@ fn rows_due<S: Alter>(tx: &mut Transaction<'_, S>, day: i64) -> Result<Vec<Row>,
     )
 }
 
-fn place_in(row: &Row) -> Result<PlaceRow, TableFault>
-    ensures shown { IfOk result (λ place. place ≡ shown_place row.now) }
-    ensures failure { IfErr result IsFailure }
-{
-    Ok(PlaceRow {
-        number: row.get(0)?,
-        collection: row.get(1)?,
-        class: row.get(2)?,
-        due: row.get(3)?,
-    })
-}
+impl Shown for PlaceRow {
+    ghost shown_in = { shown_place };
 
-fn places_in(alloc: Global, rows: &[Row]) -> Result<Vec<PlaceRow>, TableFault>
-    ensures shown { IfOk result (λ places. places.items ≡ map shown_place rows.now) }
-    ensures failure { IfErr result IsFailure }
-{
-    let mut places = Vec::new(alloc);
-    for row in rows {
-        places.push(place_in(row)?)?;
+    fn read(row: &Row) -> Result<PlaceRow> {
+        Ok(PlaceRow {
+            number: row.get(0)?,
+            collection: row.get(1)?,
+            class: row.get(2)?,
+            due: row.get(3)?,
+        })
     }
-    Ok(places)
 }
 
 /// The kept deposits that no live hold covers and that have fallen due by that day, by number.
@@ -360,18 +317,18 @@ pub fn due_rows<S: Alter>(
     alloc: Global,
     tx: &mut Transaction<'_, S>,
     day: i64,
-) -> Result<Vec<PlaceRow>, TableFault>
+) -> Result<Vec<PlaceRow>>
     ensures inside { GoesOnInside S.Store tx.old.conn tx.new.conn result }
     ensures same { Keeps S.Store tx.old.conn.now tx.new.conn.now result }
     ensures found { Tells S.Store tx.old.conn.now tx.new.conn.now result (λ tables places.
         places.items ≡ due_places day tables) }
 {
     let rows = rows_due(tx, day)?;
-    places_in(alloc, &rows)
+    read_all(alloc, &rows)
 }
 
 /// The rows that show the deposits of the class.
-fn rows_closed<S: Alter>(tx: &mut Transaction<'_, S>, class: &str) -> Result<Vec<Row>, TableFault>
+fn rows_closed<S: Alter>(tx: &mut Transaction<'_, S>, class: &str) -> Result<Vec<Row>>
     ensures inside { GoesOnInside S.Store tx.old.conn tx.new.conn result }
     ensures found { Shows S.Store tx.old.conn.now tx.new.conn.now result (λ tables rows.
         class_closings class.now tables ≡ map shown_closing rows.items) }
@@ -383,25 +340,15 @@ fn rows_closed<S: Alter>(tx: &mut Transaction<'_, S>, class: &str) -> Result<Vec
     )
 }
 
-fn closing_in(row: &Row) -> Result<ClosingRow, TableFault>
-    ensures shown { IfOk result (λ closing. closing ≡ shown_closing row.now) }
-    ensures failure { IfErr result IsFailure }
-{
-    Ok(ClosingRow {
-        number: row.get(0)?,
-        closed: row.get(1)?,
-    })
-}
+impl Shown for ClosingRow {
+    ghost shown_in = { shown_closing };
 
-fn closings_in(alloc: Global, rows: &[Row]) -> Result<Vec<ClosingRow>, TableFault>
-    ensures shown { IfOk result (λ closings. closings.items ≡ map shown_closing rows.now) }
-    ensures failure { IfErr result IsFailure }
-{
-    let mut closings = Vec::new(alloc);
-    for row in rows {
-        closings.push(closing_in(row)?)?;
+    fn read(row: &Row) -> Result<ClosingRow> {
+        Ok(ClosingRow {
+            number: row.get(0)?,
+            closed: row.get(1)?,
+        })
     }
-    Ok(closings)
 }
 
 /// The deposits of the class with their closing days, by number.
@@ -411,12 +358,12 @@ pub fn rows_of_class<S: Alter>(
     alloc: Global,
     tx: &mut Transaction<'_, S>,
     class: &str,
-) -> Result<Vec<ClosingRow>, TableFault>
+) -> Result<Vec<ClosingRow>>
     ensures inside { GoesOnInside S.Store tx.old.conn tx.new.conn result }
     ensures same { Keeps S.Store tx.old.conn.now tx.new.conn.now result }
     ensures found { Tells S.Store tx.old.conn.now tx.new.conn.now result (λ tables closings.
         closings.items ≡ class_closings class.now tables) }
 {
     let rows = rows_closed(tx, class)?;
-    closings_in(alloc, &rows)
+    read_all(alloc, &rows)
 }

@@ -24,6 +24,9 @@ pub enum TableFault {
     Store,
 }
 
+/// What a call on the tables answers.
+pub type Result<T> = std::result::Result<T, TableFault>;
+
 impl From<Error> for TableFault {
     ghost from_gives = { IsToldAs };
 

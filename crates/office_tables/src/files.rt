@@ -1,9 +1,7 @@
 //! The files of deposits.
 
-ghost use Rattle.std.specs.Prelude.{◌≡◌, true, None, Some, pos, map, option_map, slice_get};
-ghost use Rattle.std.specs.Ordering.{int_eq};
+ghost use Rattle.std.specs.Prelude.{◌≡◌, None, Some, pos, map, option_map, slice_get};
 ghost use Rattle.sha2.specs.Sha256.{sha256};
-ghost use Rattle.sqlite_rules.specs.Lists.{Has};
 ghost use Rattle.sql_meaning.specs.Columns.{int_at};
 ghost use Rattle.office_rows.specs.Rows.{bytes_under, file_at, with_content, with_file, without_files};
 ghost use Rattle.office_tables.specs.Calls.{GoesOnInTurn, GoesOnInside, Keeps, Shows, Tells, Writes};
@@ -12,7 +10,7 @@ ghost use Rattle.office_tables.specs.Contents.{AreFilesDropped, AreUsed, Does, I
 ghost use Rattle.std.specs.List.{AllByRecursion};
 ghost use Rattle.office_tables.specs.Deposits.{shown_path, files_by_path};
 
-use crate::fault::TableFault;
+use crate::fault::{Result, TableFault};
 use crate::kept::{content_of, drop_each_unused, keep_content};
 use crate::run::{ask, change, number_in};
 use sha2::{Digest, Sha256};
@@ -49,7 +47,7 @@ fn add_file<S: Alter>(
     number: u32,
     path: &str,
     id: i64,
-) -> Result<usize, TableFault>
+) -> Result<usize>
     ensures inside { GoesOnInside S.Store tx.old.conn tx.new.conn result }
     ensures added { Does S.Store tx.old.conn.now tx.new.conn.now result (λ old new _.
         IsFileAdded (pos number) path.now id old new) }
@@ -68,10 +66,11 @@ fn put_kept<S: Alter>(
     path: &str,
     mark: &[u8],
     content: &[u8],
-) -> Result<usize, TableFault>
+) -> Result<usize>
     ensures inside { GoesOnInside S.Store tx.old.conn tx.new.conn result }
     ensures put { Does S.Store tx.old.conn.now tx.new.conn.now result (λ old new _.
-        IsMarkedPut (pos number) path.now mark.now content.now old new) }
+        IsMarkedPut (record { deposit = pos number; path = path.now; content = content.now })
+        mark.now old new) }
 {
     let id = keep_content(tx, mark, content)?;
     add_file(tx, number, path, id)
@@ -86,7 +85,7 @@ pub fn put_marked<S: Alter>(
     path: &str,
     mark: &[u8; 32],
     content: &[u8],
-) -> Result<(), TableFault>
+) -> Result<()>
     ensures inside { GoesOnInside S.Store tx.old.conn tx.new.conn result }
     ensures becomes { Writes S.Store tx.old.conn.now tx.new.conn.now result
         (with_file (record { deposit = pos number; path = path.now; content = content.now })) }
@@ -113,7 +112,7 @@ pub fn put_file<S: Alter>(
     number: u32,
     path: &str,
     content: &[u8],
-) -> Result<(), TableFault>
+) -> Result<()>
     ensures inside { GoesOnInside S.Store tx.old.conn tx.new.conn result }
     ensures becomes { Writes S.Store tx.old.conn.now tx.new.conn.now result
         (with_file (record { deposit = pos number; path = path.now; content = content.now })) }
@@ -132,11 +131,7 @@ pub fn put_file<S: Alter>(
 }
 
 /// The row that shows the number of the content of the file of that deposit and path, if there is one.
-fn rows_of_file<S: Alter>(
-    tx: &mut Transaction<'_, S>,
-    number: u32,
-    path: &str,
-) -> Result<Vec<Row>, TableFault>
+fn rows_of_file<S: Alter>(tx: &mut Transaction<'_, S>, number: u32, path: &str) -> Result<Vec<Row>>
     ensures inside { GoesOnInside S.Store tx.old.conn tx.new.conn result }
     ensures found { Does S.Store tx.old.conn.now tx.new.conn.now result (λ old new rows.
         (new ≡ old)
@@ -152,7 +147,7 @@ fn rows_of_file<S: Alter>(
 }
 
 /// The content whose number a row shows.
-fn content_in<S: Alter>(tx: &mut Transaction<'_, S>, row: &Row) -> Result<Vec<u8>, TableFault>
+fn content_in<S: Alter>(tx: &mut Transaction<'_, S>, row: &Row) -> Result<Vec<u8>>
     ensures inside { GoesOnInside S.Store tx.old.conn tx.new.conn result }
     ensures found { Does S.Store tx.old.conn.now tx.new.conn.now result (λ old new content.
         (new ≡ old) × (content.items ≡ bytes_under (contents_of old) (int_at row.now 0))) }
@@ -171,7 +166,7 @@ pub fn file_of<S: Alter>(
     tx: &mut Transaction<'_, S>,
     number: u32,
     path: &str,
-) -> Result<Option<Vec<u8>>, TableFault>
+) -> Result<Option<Vec<u8>>>
     ensures inside { GoesOnInside S.Store tx.old.conn tx.new.conn result }
     ensures same { Keeps S.Store tx.old.conn.now tx.new.conn.now result }
     ensures found { Tells S.Store tx.old.conn.now tx.new.conn.now result (λ tables found.
@@ -185,23 +180,8 @@ pub fn file_of<S: Alter>(
     }
 }
 
-/// Rows that show the numbers of the contents of the deposit's files.
-fn rows_of_ids<S: Alter>(tx: &mut Transaction<'_, S>, number: u32) -> Result<Vec<Row>, TableFault>
-    ensures inside { GoesOnInside S.Store tx.old.conn tx.new.conn result }
-    ensures found { Does S.Store tx.old.conn.now tx.new.conn.now result (λ old new rows.
-        (new ≡ old)
-        × ((r : _) → Has (old.trees 10) r → int_eq (int_at r 1) (pos number) ≡ true
-        → Has (map (λ row. int_at row 0) rows.items) (int_at r 3))) }
-{
-    ask(
-        tx,
-        "SELECT content FROM file WHERE deposit = ?1",
-        params![number],
-    )
-}
-
 /// Takes out the files of the deposit, and leaves their contents.
-fn drop_rows<S: Alter>(tx: &mut Transaction<'_, S>, number: u32) -> Result<usize, TableFault>
+fn drop_rows<S: Alter>(tx: &mut Transaction<'_, S>, number: u32) -> Result<usize>
     ensures inside { GoesOnInside S.Store tx.old.conn tx.new.conn result }
     ensures dropped { Does S.Store tx.old.conn.now tx.new.conn.now result (λ old new _.
         AreFilesDropped (pos number) old new) }
@@ -212,7 +192,7 @@ fn drop_rows<S: Alter>(tx: &mut Transaction<'_, S>, number: u32) -> Result<usize
 /// Drops every file of the deposit of that number, and each of their contents that no other file has.
 ///
 /// Fails with `Memory` or `Store`.
-pub fn drop_files<S: Alter>(tx: &mut Transaction<'_, S>, number: u32) -> Result<(), TableFault>
+pub fn drop_files<S: Alter>(tx: &mut Transaction<'_, S>, number: u32) -> Result<()>
     ensures inside { GoesOnInside S.Store tx.old.conn tx.new.conn result }
     ensures becomes { Writes S.Store tx.old.conn.now tx.new.conn.now result
         (without_files (pos number)) }
@@ -221,14 +201,18 @@ pub fn drop_files<S: Alter>(tx: &mut Transaction<'_, S>, number: u32) -> Result<
         → AreUsed (references_of new) (contents_of new)) }
     ensures once { LeavesOnce S.Store tx.old.conn.now tx.new.conn.now result }
 {
-    let rows = rows_of_ids(tx, number)?;
+    let rows = ask(
+        tx,
+        "SELECT content FROM file WHERE deposit = ?1",
+        params![number],
+    )?;
     drop_rows(tx, number)?;
     drop_each_unused(tx, &rows)?;
     Ok(())
 }
 
 /// The rows that show the paths of the files of the deposit, ascending.
-fn rows_of_paths<S: Alter>(tx: &mut Transaction<'_, S>, number: u32) -> Result<Vec<Row>, TableFault>
+fn rows_of_paths<S: Alter>(tx: &mut Transaction<'_, S>, number: u32) -> Result<Vec<Row>>
     ensures inside { GoesOnInside S.Store tx.old.conn tx.new.conn result }
     ensures found { Shows S.Store tx.old.conn.now tx.new.conn.now result (λ tables rows.
         map (λ f. f.path) (files_by_path (pos number) tables) ≡ map shown_path rows.items) }
@@ -241,11 +225,7 @@ fn rows_of_paths<S: Alter>(tx: &mut Transaction<'_, S>, number: u32) -> Result<V
 }
 
 /// The file of the deposit at the path that a row shows.
-fn file_at<S: Alter>(
-    tx: &mut Transaction<'_, S>,
-    number: u32,
-    row: &Row,
-) -> Result<FileRow, TableFault>
+fn file_at<S: Alter>(tx: &mut Transaction<'_, S>, number: u32, row: &Row) -> Result<FileRow>
     ensures inside { GoesOnInside S.Store tx.old.conn tx.new.conn result }
     ensures same { Keeps S.Store tx.old.conn.now tx.new.conn.now result }
     ensures found { Tells S.Store tx.old.conn.now tx.new.conn.now result (λ tables file.
@@ -269,7 +249,7 @@ fn files_at<S: Alter>(
     tx: &mut Transaction<'_, S>,
     number: u32,
     rows: &[Row],
-) -> Result<Vec<FileRow>, TableFault>
+) -> Result<Vec<FileRow>>
     ensures inside { GoesOnInTurn S.Store tx.old.conn tx.new.conn result }
     ensures found { Shows S.Store tx.old.conn.now tx.new.conn.now result (λ tables files.
         map Some files.items
@@ -289,7 +269,7 @@ pub fn files_of<S: Alter>(
     alloc: Global,
     tx: &mut Transaction<'_, S>,
     number: u32,
-) -> Result<Vec<FileRow>, TableFault>
+) -> Result<Vec<FileRow>>
     ensures inside { GoesOnInside S.Store tx.old.conn tx.new.conn result }
     ensures same { Keeps S.Store tx.old.conn.now tx.new.conn.now result }
     ensures found { Tells S.Store tx.old.conn.now tx.new.conn.now result (λ tables all.

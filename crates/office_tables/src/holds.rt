@@ -1,17 +1,18 @@
 //! Holds.
 
 ghost use Rattle.std.specs.List.{list_any};
-ghost use Rattle.std.specs.Prelude.{◌≡◌, ℕ, IfOk, IfErr, OnOk, pos, Some, None, true, map, filter, ◌++◌, option_map, slice_get};
+ghost use Rattle.std.specs.Prelude.{◌≡◌, ℕ, IfErr, OnOk, pos, Some, None, true, map, filter, ◌++◌, option_map, slice_get};
 ghost use Rattle.sql_meaning.specs.Columns.{int_at};
 ghost use Rattle.office_tables.specs.Faults.{IsFailure};
 ghost use Rattle.office_rows.specs.Rows.{hold_numbered, last_number, with_hold, with_released, live_holds, is_live_on, is_live_within, is_live_of_class};
 ghost use Rattle.office_tables.specs.Contents.{LeavesOnce};
 ghost use Rattle.office_tables.specs.Calls.{GoesOnInside, Keeps, Shows, Tells, Writes};
-ghost use Rattle.office_tables.specs.ShownHolds.{shown_hold, held_deposit, held_collection, held_class, is_on};
-ghost use Rattle.office_tables.specs.Releases.{is_outside_of, is_released_outside};
+ghost use Rattle.office_tables.specs.ShownHolds.{shown_hold, placed_row, is_on};
+ghost use Rattle.office_tables.specs.Releases.{is_outside_of, is_over};
 
-use crate::fault::TableFault;
-use crate::run::{ask, change, number_in};
+use crate::fault::Result;
+use crate::rows::{Shown, first_number, number_shown, read_first};
+use crate::run::{ask, change};
 use sqlite::{Alter, Row, Transaction, params};
 use std::alloc::Global;
 use std::marker::Model;
@@ -68,24 +69,24 @@ impl Model for HoldRow {
     } };
 }
 
-/// The hold in a row that a query shows.
-fn hold_in(row: &Row) -> Result<HoldRow, TableFault>
-    ensures shown { IfOk result (λ hold. hold ≡ shown_hold row.now) }
-    ensures failure { IfErr result IsFailure }
-{
-    Ok(HoldRow {
-        number: row.get(0)?,
-        deposit: row.get(1)?,
-        collection: row.get(2)?,
-        class: row.get(3)?,
-        matter: row.get(4)?,
-        placed: row.get(5)?,
-        released: row.get(6)?,
-    })
+impl Shown for HoldRow {
+    ghost shown_in = { shown_hold };
+
+    fn read(row: &Row) -> Result<HoldRow> {
+        Ok(HoldRow {
+            number: row.get(0)?,
+            deposit: row.get(1)?,
+            collection: row.get(2)?,
+            class: row.get(3)?,
+            matter: row.get(4)?,
+            placed: row.get(5)?,
+            released: row.get(6)?,
+        })
+    }
 }
 
 /// The row that shows the hold of that number, if there is one.
-fn rows_of_hold<S: Alter>(tx: &mut Transaction<'_, S>, number: u32) -> Result<Vec<Row>, TableFault>
+fn rows_of_hold<S: Alter>(tx: &mut Transaction<'_, S>, number: u32) -> Result<Vec<Row>>
     ensures inside { GoesOnInside S.Store tx.old.conn tx.new.conn result }
     ensures found { Shows S.Store tx.old.conn.now tx.new.conn.now result (λ tables rows.
         hold_numbered (pos number) tables.holds ≡ option_map shown_hold (slice_get rows.items 0)) }
@@ -100,24 +101,18 @@ fn rows_of_hold<S: Alter>(tx: &mut Transaction<'_, S>, number: u32) -> Result<Ve
 /// The hold of that number, if there is one.
 ///
 /// Fails with `Memory` or `Store`.
-pub fn hold_row<S: Alter>(
-    tx: &mut Transaction<'_, S>,
-    number: u32,
-) -> Result<Option<HoldRow>, TableFault>
+pub fn hold_row<S: Alter>(tx: &mut Transaction<'_, S>, number: u32) -> Result<Option<HoldRow>>
     ensures inside { GoesOnInside S.Store tx.old.conn tx.new.conn result }
     ensures same { Keeps S.Store tx.old.conn.now tx.new.conn.now result }
     ensures found { Tells S.Store tx.old.conn.now tx.new.conn.now result (λ tables found.
         found ≡ hold_numbered (pos number) tables.holds) }
 {
     let rows = rows_of_hold(tx, number)?;
-    match rows.first() {
-        Some(row) => Ok(Some(hold_in(row)?)),
-        None => Ok(None),
-    }
+    read_first(&rows)
 }
 
 /// The row that shows the number of the last hold, if there is one.
-fn rows_of_last<S: Alter>(tx: &mut Transaction<'_, S>) -> Result<Vec<Row>, TableFault>
+fn rows_of_last<S: Alter>(tx: &mut Transaction<'_, S>) -> Result<Vec<Row>>
     ensures inside { GoesOnInside S.Store tx.old.conn tx.new.conn result }
     ensures found { Shows S.Store tx.old.conn.now tx.new.conn.now result (λ tables rows.
         last_number (λ h. h.number) tables.holds
@@ -130,28 +125,17 @@ fn rows_of_last<S: Alter>(tx: &mut Transaction<'_, S>) -> Result<Vec<Row>, Table
     )
 }
 
-/// A number in the first column of a row.
-fn first_number(row: &Row) -> Result<u32, TableFault>
-    ensures shown { IfOk result (λ number. pos number ≡ int_at row.now 0) }
-    ensures failure { IfErr result IsFailure }
-{
-    Ok(row.get(0)?)
-}
-
 /// The number of the last hold, which is the highest; `None` where there is no hold.
 ///
 /// Fails with `Memory` or `Store`.
-pub fn last_hold<S: Alter>(tx: &mut Transaction<'_, S>) -> Result<Option<u32>, TableFault>
+pub fn last_hold<S: Alter>(tx: &mut Transaction<'_, S>) -> Result<Option<u32>>
     ensures inside { GoesOnInside S.Store tx.old.conn tx.new.conn result }
     ensures same { Keeps S.Store tx.old.conn.now tx.new.conn.now result }
     ensures found { Tells S.Store tx.old.conn.now tx.new.conn.now result (λ tables found.
         option_map pos found ≡ last_number (λ h. h.number) tables.holds) }
 {
     let rows = rows_of_last(tx)?;
-    match rows.first() {
-        Some(row) => Ok(Some(first_number(row)?)),
-        None => Ok(None),
-    }
+    first_number(&rows)
 }
 
 /// What a hold is on.
@@ -174,7 +158,7 @@ fn add_hold<S: Alter>(
     class: Option<&str>,
     matter: &str,
     placed: i64,
-) -> Result<(), TableFault>
+) -> Result<()>
     ensures inside { GoesOnInside S.Store tx.old.conn tx.new.conn result }
     ensures becomes { Writes S.Store tx.old.conn.now tx.new.conn.now result (with_hold (record {
       number = pos number;
@@ -206,17 +190,10 @@ pub fn put_hold<S: Alter>(
     target: HoldTarget<'_>,
     matter: &str,
     placed: i64,
-) -> Result<(), TableFault>
+) -> Result<()>
     ensures inside { GoesOnInside S.Store tx.old.conn tx.new.conn result }
-    ensures becomes { Writes S.Store tx.old.conn.now tx.new.conn.now result (with_hold (record {
-      number = pos number;
-      deposit = held_deposit target.entry;
-      collection = held_collection target.entry;
-      class = held_class target.entry;
-      matter = matter.now;
-      placed = placed;
-      released = None;
-    })) }
+    ensures becomes { Writes S.Store tx.old.conn.now tx.new.conn.now result
+        (with_hold (placed_row target.entry (pos number) matter.now placed)) }
     ensures new_number { Tells S.Store tx.old.conn.now tx.new.conn.now result (λ tables _.
         hold_numbered (pos number) tables.holds ≡ None) }
     ensures once { LeavesOnce S.Store tx.old.conn.now tx.new.conn.now result }
@@ -235,11 +212,7 @@ pub fn put_hold<S: Alter>(
 /// Releases the hold of that number on that day; where there is none, nothing changes.
 ///
 /// Fails with `Memory` or `Store`.
-pub fn end_hold<S: Alter>(
-    tx: &mut Transaction<'_, S>,
-    number: u32,
-    day: i64,
-) -> Result<(), TableFault>
+pub fn end_hold<S: Alter>(tx: &mut Transaction<'_, S>, number: u32, day: i64) -> Result<()>
     ensures inside { GoesOnInside S.Store tx.old.conn tx.new.conn result }
     ensures becomes { Writes S.Store tx.old.conn.now tx.new.conn.now result
         (with_released (pos number) day) }
@@ -254,10 +227,7 @@ pub fn end_hold<S: Alter>(
 }
 
 /// The rows that show the numbers of the live holds on the deposit.
-fn rows_of_holds_on<S: Alter>(
-    tx: &mut Transaction<'_, S>,
-    deposit: u32,
-) -> Result<Vec<Row>, TableFault>
+fn rows_of_holds_on<S: Alter>(tx: &mut Transaction<'_, S>, deposit: u32) -> Result<Vec<Row>>
     ensures inside { GoesOnInside S.Store tx.old.conn tx.new.conn result }
     ensures found { Shows S.Store tx.old.conn.now tx.new.conn.now result (λ tables rows.
         map (λ h. h.number) (filter (is_live_on (pos deposit)) tables.holds)
@@ -275,7 +245,7 @@ fn rows_of_holds_within<S: Alter>(
     tx: &mut Transaction<'_, S>,
     deposit: u32,
     collection: &str,
-) -> Result<Vec<Row>, TableFault>
+) -> Result<Vec<Row>>
     ensures inside { GoesOnInside S.Store tx.old.conn tx.new.conn result }
     ensures found { Shows S.Store tx.old.conn.now tx.new.conn.now result (λ tables rows.
         map (λ h. h.number) (filter (is_live_within (pos deposit) collection.now) tables.holds)
@@ -295,7 +265,7 @@ fn rows_of_holds_of_class<S: Alter>(
     deposit: u32,
     collection: &str,
     class: &str,
-) -> Result<Vec<Row>, TableFault>
+) -> Result<Vec<Row>>
     ensures inside { GoesOnInside S.Store tx.old.conn tx.new.conn result }
     ensures found { Shows S.Store tx.old.conn.now tx.new.conn.now result (λ tables rows.
         map (λ h.
@@ -310,14 +280,14 @@ fn rows_of_holds_of_class<S: Alter>(
 }
 
 /// Adds the numbers in the first column of the rows.
-fn add_numbers(numbers: &mut Vec<u32>, rows: &[Row]) -> Result<(), TableFault>
+fn add_numbers(numbers: &mut Vec<u32>, rows: &[Row]) -> Result<()>
     ensures added { OnOk result
         (map pos numbers.new.items
         ≡ map pos numbers.old.items ++ map (λ row. int_at row 0) rows.now) }
     ensures failure { IfErr result IsFailure }
 {
     for row in rows {
-        numbers.push(first_number(row)?)?;
+        numbers.push(number_shown(row)?)?;
     }
     Ok(())
 }
@@ -332,7 +302,7 @@ pub fn live_holds<S: Alter>(
     deposit: u32,
     collection: &str,
     class: &str,
-) -> Result<Vec<u32>, TableFault>
+) -> Result<Vec<u32>>
     ensures inside { GoesOnInside S.Store tx.old.conn tx.new.conn result }
     ensures same { Keeps S.Store tx.old.conn.now tx.new.conn.now result }
     ensures found { Tells S.Store tx.old.conn.now tx.new.conn.now result (λ tables numbers.
@@ -356,7 +326,7 @@ fn rows_of_releases<S: Alter>(
     target: HoldTarget<'_>,
     first: i64,
     last: i64,
-) -> Result<Vec<Row>, TableFault>
+) -> Result<Vec<Row>>
     ensures inside { GoesOnInside S.Store tx.old.conn tx.new.conn result }
     ensures found { Shows S.Store tx.old.conn.now tx.new.conn.now result (λ tables rows.
         list_any (is_outside_of (is_on target.entry) first last) tables.holds
@@ -387,7 +357,7 @@ fn has_release<S: Alter>(
     target: HoldTarget<'_>,
     first: i64,
     last: i64,
-) -> Result<bool, TableFault>
+) -> Result<bool>
     ensures inside { GoesOnInside S.Store tx.old.conn tx.new.conn result }
     ensures found { Shows S.Store tx.old.conn.now tx.new.conn.now result (λ tables found.
         found ≡ list_any (is_outside_of (is_on target.entry) first last) tables.holds) }
@@ -407,13 +377,14 @@ pub fn has_release_outside<S: Alter>(
     class: &str,
     first: i64,
     last: i64,
-) -> Result<bool, TableFault>
+) -> Result<bool>
     ensures inside { GoesOnInside S.Store tx.old.conn tx.new.conn result }
     ensures same { Keeps S.Store tx.old.conn.now tx.new.conn.now result }
     ensures found { Tells S.Store tx.old.conn.now tx.new.conn.now result (λ tables found.
         found
         ≡ list_any
-        (is_released_outside first last (pos deposit) collection.now class.now) tables.holds) }
+        (is_outside_of (is_over (pos deposit) collection.now class.now) first last)
+        tables.holds) }
 {
     let on_deposit = has_release(tx, HoldTarget::Deposit(deposit), first, last)?;
     let on_collection = has_release(tx, HoldTarget::Collection(collection), first, last)?;

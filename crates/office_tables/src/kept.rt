@@ -1,6 +1,6 @@
 //! The contents of files, each kept once.
 
-ghost use Rattle.std.specs.Prelude.{◌≡◌, ℤ, List, [], ◌∷◌, true, false, IfErr, IfOk, Some, map, filter, not, pos, length, slice_get, option_map};
+ghost use Rattle.std.specs.Prelude.{◌≡◌, ℤ, List, [], ◌∷◌, true, false, IfErr, IfOk, Some, map, filter, not, slice_get, option_map};
 ghost use Rattle.std.specs.List.{list_any};
 ghost use Rattle.std.specs.Ordering.{int_eq};
 ghost use Rattle.sqlite_rules.specs.Lists.{Has};
@@ -11,13 +11,13 @@ ghost use Rattle.office_tables.specs.Tables.{contents_of};
 ghost use Rattle.office_tables.specs.Calls.{GoesOnInTurn, GoesOnInside};
 ghost use Rattle.office_tables.specs.Contents.{Does, KeepsFiles, IsContentAdded, IsNewContent, IsContentKept, IsFoundContent, IsTidied};
 
-use crate::fault::TableFault;
+use crate::fault::{Result, TableFault};
 use crate::run::{ask, change, number_in};
 use sqlite::{Alter, Row, Transaction, params};
 use std::alloc::Global;
 
 /// The row that shows the bytes of the content of that number, if there is one.
-fn rows_of_content<S: Alter>(tx: &mut Transaction<'_, S>, id: i64) -> Result<Vec<Row>, TableFault>
+fn rows_of_content<S: Alter>(tx: &mut Transaction<'_, S>, id: i64) -> Result<Vec<Row>>
     ensures inside { GoesOnInside S.Store tx.old.conn tx.new.conn result }
     ensures found { Does S.Store tx.old.conn.now tx.new.conn.now result (λ old new rows.
         (new ≡ old)
@@ -28,11 +28,7 @@ fn rows_of_content<S: Alter>(tx: &mut Transaction<'_, S>, id: i64) -> Result<Vec
 }
 
 /// Rows that show the numbers of the contents with that mark and these bytes; the store compares the bytes.
-fn rows_alike<S: Alter>(
-    tx: &mut Transaction<'_, S>,
-    mark: &[u8],
-    bytes: &[u8],
-) -> Result<Vec<Row>, TableFault>
+fn rows_alike<S: Alter>(tx: &mut Transaction<'_, S>, mark: &[u8], bytes: &[u8]) -> Result<Vec<Row>>
     ensures inside { GoesOnInside S.Store tx.old.conn tx.new.conn result }
     ensures found { Does S.Store tx.old.conn.now tx.new.conn.now result (λ old new rows.
         (new ≡ old)
@@ -49,17 +45,14 @@ fn rows_alike<S: Alter>(
 }
 
 /// Adds a content at the end, under the next number.
-fn add_content<S: Alter>(
-    tx: &mut Transaction<'_, S>,
-    mark: &[u8],
-    size: i64,
-    bytes: &[u8],
-) -> Result<usize, TableFault>
-    requires sized { size ≡ pos (length bytes.now) }
+fn add_content<S: Alter>(tx: &mut Transaction<'_, S>, mark: &[u8], bytes: &[u8]) -> Result<usize>
     ensures inside { GoesOnInside S.Store tx.old.conn tx.new.conn result }
     ensures added { Does S.Store tx.old.conn.now tx.new.conn.now result (λ old new _.
         IsContentAdded mark.now bytes.now old new) }
 {
+    let Ok(size) = i64::try_from(bytes.len()) else {
+        return Err(TableFault::Store);
+    };
     change(
         tx,
         "INSERT INTO content (mark, size, bytes) VALUES (?1, ?2, ?3)",
@@ -68,7 +61,7 @@ fn add_content<S: Alter>(
 }
 
 /// The row that shows the number of the last content, if there is one.
-fn rows_of_last<S: Alter>(tx: &mut Transaction<'_, S>) -> Result<Vec<Row>, TableFault>
+fn rows_of_last<S: Alter>(tx: &mut Transaction<'_, S>) -> Result<Vec<Row>>
     ensures inside { GoesOnInside S.Store tx.old.conn tx.new.conn result }
     ensures found { Does S.Store tx.old.conn.now tx.new.conn.now result (λ old new rows.
         (new ≡ old)
@@ -79,7 +72,7 @@ fn rows_of_last<S: Alter>(tx: &mut Transaction<'_, S>) -> Result<Vec<Row>, Table
 }
 
 /// A row where some file has the content of that number, and else none.
-fn rows_of_users<S: Alter>(tx: &mut Transaction<'_, S>, id: i64) -> Result<Vec<Row>, TableFault>
+fn rows_of_users<S: Alter>(tx: &mut Transaction<'_, S>, id: i64) -> Result<Vec<Row>>
     ensures inside { GoesOnInside S.Store tx.old.conn tx.new.conn result }
     ensures found { Does S.Store tx.old.conn.now tx.new.conn.now result (λ old new rows.
         (new ≡ old)
@@ -94,7 +87,7 @@ fn rows_of_users<S: Alter>(tx: &mut Transaction<'_, S>, id: i64) -> Result<Vec<R
 }
 
 /// Takes out the content of that number.
-fn remove_content<S: Alter>(tx: &mut Transaction<'_, S>, id: i64) -> Result<usize, TableFault>
+fn remove_content<S: Alter>(tx: &mut Transaction<'_, S>, id: i64) -> Result<usize>
     ensures inside { GoesOnInside S.Store tx.old.conn tx.new.conn result }
     ensures removed { Does S.Store tx.old.conn.now tx.new.conn.now result (λ old new _.
         KeepsFiles old new
@@ -104,7 +97,7 @@ fn remove_content<S: Alter>(tx: &mut Transaction<'_, S>, id: i64) -> Result<usiz
 }
 
 /// The rows that show the number and the size of each content, ascending.
-fn rows_of_contents<S: Alter>(tx: &mut Transaction<'_, S>) -> Result<Vec<Row>, TableFault>
+fn rows_of_contents<S: Alter>(tx: &mut Transaction<'_, S>) -> Result<Vec<Row>>
     ensures inside { GoesOnInside S.Store tx.old.conn tx.new.conn result }
     ensures found { Does S.Store tx.old.conn.now tx.new.conn.now result (λ old new rows.
         (new ≡ old)
@@ -115,10 +108,7 @@ fn rows_of_contents<S: Alter>(tx: &mut Transaction<'_, S>) -> Result<Vec<Row>, T
 }
 
 /// The bytes of the content of that number; `None` where there is no such content.
-pub(crate) fn content_of<S: Alter>(
-    tx: &mut Transaction<'_, S>,
-    id: i64,
-) -> Result<Option<Vec<u8>>, TableFault>
+pub(crate) fn content_of<S: Alter>(tx: &mut Transaction<'_, S>, id: i64) -> Result<Option<Vec<u8>>>
     ensures inside { GoesOnInside S.Store tx.old.conn tx.new.conn result }
     ensures found { Does S.Store tx.old.conn.now tx.new.conn.now result (λ old new found.
         (new ≡ old)
@@ -137,7 +127,7 @@ fn content_alike<S: Alter>(
     tx: &mut Transaction<'_, S>,
     mark: &[u8],
     bytes: &[u8],
-) -> Result<Option<i64>, TableFault>
+) -> Result<Option<i64>>
     ensures inside { GoesOnInside S.Store tx.old.conn tx.new.conn result }
     ensures found { Does S.Store tx.old.conn.now tx.new.conn.now result (λ old new found.
         (new ≡ old) × IsFoundContent mark.now bytes.now old found) }
@@ -150,7 +140,7 @@ fn content_alike<S: Alter>(
 }
 
 /// The number of the last content.
-fn last_content<S: Alter>(tx: &mut Transaction<'_, S>) -> Result<i64, TableFault>
+fn last_content<S: Alter>(tx: &mut Transaction<'_, S>) -> Result<i64>
     ensures inside { GoesOnInside S.Store tx.old.conn tx.new.conn result }
     ensures found { Does S.Store tx.old.conn.now tx.new.conn.now result (λ old new id.
         (new ≡ old) × (last_number (λ c. c.id) (contents_of old) ≡ Some id)) }
@@ -163,19 +153,12 @@ fn last_content<S: Alter>(tx: &mut Transaction<'_, S>) -> Result<i64, TableFault
 }
 
 /// Adds a content at the end, and tells its number.
-fn new_content<S: Alter>(
-    tx: &mut Transaction<'_, S>,
-    mark: &[u8],
-    bytes: &[u8],
-) -> Result<i64, TableFault>
+fn new_content<S: Alter>(tx: &mut Transaction<'_, S>, mark: &[u8], bytes: &[u8]) -> Result<i64>
     ensures inside { GoesOnInside S.Store tx.old.conn tx.new.conn result }
     ensures kept { Does S.Store tx.old.conn.now tx.new.conn.now result (λ old new id.
         IsNewContent mark.now bytes.now id old new) }
 {
-    let Ok(size) = i64::try_from(bytes.len()) else {
-        return Err(TableFault::Store);
-    };
-    add_content(tx, mark, size, bytes)?;
+    add_content(tx, mark, bytes)?;
     last_content(tx)
 }
 
@@ -184,7 +167,7 @@ pub(crate) fn keep_content<S: Alter>(
     tx: &mut Transaction<'_, S>,
     mark: &[u8],
     bytes: &[u8],
-) -> Result<i64, TableFault>
+) -> Result<i64>
     ensures inside { GoesOnInside S.Store tx.old.conn tx.new.conn result }
     ensures kept { Does S.Store tx.old.conn.now tx.new.conn.now result
         (IsContentKept mark.now bytes.now) }
@@ -196,7 +179,7 @@ pub(crate) fn keep_content<S: Alter>(
 }
 
 /// Whether some file has the content of that number.
-fn is_used<S: Alter>(tx: &mut Transaction<'_, S>, id: i64) -> Result<bool, TableFault>
+fn is_used<S: Alter>(tx: &mut Transaction<'_, S>, id: i64) -> Result<bool>
     ensures inside { GoesOnInside S.Store tx.old.conn tx.new.conn result }
     ensures found { Does S.Store tx.old.conn.now tx.new.conn.now result (λ old new used.
         (new ≡ old) × (list_any (λ r. int_eq (int_at r 3) id) (old.trees 10) ≡ used)) }
@@ -206,7 +189,7 @@ fn is_used<S: Alter>(tx: &mut Transaction<'_, S>, id: i64) -> Result<bool, Table
 }
 
 /// Takes out the content of that number unless some file has it.
-fn drop_unused<S: Alter>(tx: &mut Transaction<'_, S>, id: i64) -> Result<(), TableFault>
+fn drop_unused<S: Alter>(tx: &mut Transaction<'_, S>, id: i64) -> Result<()>
     ensures inside { GoesOnInside S.Store tx.old.conn tx.new.conn result }
     ensures tidied { Does S.Store tx.old.conn.now tx.new.conn.now result (λ old new _.
         (ids : List ℤ) → IsTidied (id ∷ ids) ids old new) }
@@ -218,10 +201,7 @@ fn drop_unused<S: Alter>(tx: &mut Transaction<'_, S>, id: i64) -> Result<(), Tab
 }
 
 /// Takes out each content whose number a row shows and which no file has.
-pub(crate) fn drop_each_unused<S: Alter>(
-    tx: &mut Transaction<'_, S>,
-    rows: &[Row],
-) -> Result<(), TableFault>
+pub(crate) fn drop_each_unused<S: Alter>(tx: &mut Transaction<'_, S>, rows: &[Row]) -> Result<()>
     ensures inside { GoesOnInTurn S.Store tx.old.conn tx.new.conn result }
     ensures tidied { Does S.Store tx.old.conn.now tx.new.conn.now result (λ old new _.
         IsTidied (map (λ row. int_at row 0) rows.now) [] old new) }
@@ -241,7 +221,7 @@ pub struct ContentSize {
 }
 
 /// The sizes in the rows that a query shows.
-fn sizes_in(alloc: Global, rows: &[Row]) -> Result<Vec<ContentSize>, TableFault>
+fn sizes_in(alloc: Global, rows: &[Row]) -> Result<Vec<ContentSize>>
     ensures shown { IfOk result (λ sizes.
         map {B = ℤ × ℤ} (λ s. (s.id, s.size)) sizes.items
         ≡ map {B = ℤ × ℤ} (λ row. (int_at row 0, int_at row 1)) rows.now) }
@@ -260,10 +240,7 @@ fn sizes_in(alloc: Global, rows: &[Row]) -> Result<Vec<ContentSize>, TableFault>
 /// The number and the size of each content, ascending.
 ///
 /// Fails with `Memory` or `Store`.
-pub fn contents<S: Alter>(
-    alloc: Global,
-    tx: &mut Transaction<'_, S>,
-) -> Result<Vec<ContentSize>, TableFault>
+pub fn contents<S: Alter>(alloc: Global, tx: &mut Transaction<'_, S>) -> Result<Vec<ContentSize>>
     ensures inside { GoesOnInside S.Store tx.old.conn tx.new.conn result }
     ensures found { Does S.Store tx.old.conn.now tx.new.conn.now result (λ old new sizes.
         (new ≡ old)

@@ -14,6 +14,7 @@ mod moving;
 mod opening;
 mod policy;
 mod recovery;
+mod rows;
 mod run;
 mod store_file;
 mod version;
@@ -28,14 +29,14 @@ pub use dues::{
     ClosingRow, DepositAndDue, DueRow, PlaceRow, add_holds, add_holds_class, deposits_and_dues,
     due_row, due_rows, rows_of_class, set_due, set_holds,
 };
-pub use fault::TableFault;
+pub use fault::{Result, TableFault};
 pub use files::{FileRow, drop_files, file_of, files_of, put_file, put_marked};
 pub use holds::{
     HoldRow, HoldTarget, end_hold, has_release_outside, hold_row, last_hold, live_holds, put_hold,
 };
 pub use kept::{ContentSize, contents};
 pub use moving::{move_holds, renew_fourth};
-pub use opening::{OfficeLimits, limits, open_tables, version_told};
+pub use opening::{OfficeLimits, has_office, limits, open_tables, version_told};
 pub use policy::{CallerRow, RuleRow, match_rule, put_policy, role_of, rules};
 pub use recovery::{adopt, reopen, reopen_files, stop};
 pub use store_file::open_file;

@@ -1,26 +1,51 @@
 //! The tables of an older version: the newer ones are made beside them, and have their rows.
 
-ghost use Rattle.std.specs.Prelude.{pos, OnOk};
+ghost use Rattle.std.specs.Prelude.{pos, OnOk, map};
 ghost use Rattle.sqlite.specs.State.{HasCleanDisk};
 ghost use Rattle.sqlite.specs.Held.{state};
-ghost use Rattle.office_tables.specs.Calls.{GoesOnInTurn, GoesOnInside};
-ghost use Rattle.office_tables.specs.Moving.{AllRows, all_in_version, BecomesAt, Moves};
+ghost use Rattle.office_tables.specs.Calls.{GoesOnInTurn};
+ghost use Rattle.office_tables.specs.Moving.{AllRows, all_in_version, BecomesAt, TakesOver};
 ghost use Rattle.office_tables.specs.declared.version.TableVersion.TheVariants.{Third, Fourth, Fifth};
 
 use crate::creating::define;
-use crate::fault::TableFault;
+use crate::fault::Result;
 use crate::run::change;
 use sqlite::{Alter, Transaction, params};
+
+/// Makes a newer table beside an older one, copies the rows, and empties the older one.
+fn take_over<S: Alter>(
+    tx: &mut Transaction<'_, S>,
+    tables: &[&str],
+    copying: &str,
+    emptying: &str,
+) -> Result<()>
+    ensures inside { GoesOnInTurn S.Store tx.old.conn tx.new.conn result }
+    ensures ran { HasCleanDisk (state S.Store tx.new.conn.now)
+        → OnOk result
+        (TakesOver S.Store
+        (record {
+          tables = map (λ t. t.now) tables.now;
+          copying = copying.now;
+          emptying = emptying.now;
+        }) tx.old.conn.now tx.new.conn.now) }
+{
+    define(tx, tables)?;
+    change(tx, copying, &[])?;
+    change(tx, emptying, &[])?;
+    Ok(())
+}
 
 /// Makes the tables of version 4 of those of version 3: that of holds that may name a class, with the holds. The row of the
 /// office tells the older version still.
 ///
 /// Fails with `Memory` or `Store`.
-pub fn move_holds<S: Alter>(tx: &mut Transaction<'_, S>) -> Result<(), TableFault>
+pub fn move_holds<S: Alter>(tx: &mut Transaction<'_, S>) -> Result<()>
     ensures inside { GoesOnInTurn S.Store tx.old.conn tx.new.conn result }
-    ensures moved { Moves S.Store Third Fourth tx.old.conn.now tx.new.conn.now result }
+    ensures moved { HasCleanDisk (state S.Store tx.new.conn.now) → (rows : AllRows)
+        → BecomesAt Third (state S.Store tx.old.conn.now).now rows
+        → OnOk result (BecomesAt Fourth (state S.Store tx.new.conn.now).now rows) }
 {
-    define(
+    take_over(
         tx,
         &[
             "CREATE TABLE hold_4 (number INTEGER PRIMARY KEY, deposit INTEGER, collection TEXT, class TEXT, matter TEXT NOT NULL, placed INTEGER NOT NULL, released INTEGER) STRICT",
@@ -28,62 +53,34 @@ pub fn move_holds<S: Alter>(tx: &mut Transaction<'_, S>) -> Result<(), TableFaul
             "CREATE INDEX hold_4_collection ON hold_4 (collection)",
             "CREATE INDEX hold_4_class ON hold_4 (class)",
         ],
-    )?;
-    change(
-        tx,
         "INSERT INTO hold_4 (number, deposit, collection, class, matter, placed, released) SELECT number, deposit, collection, NULL, matter, placed, released FROM hold ORDER BY number",
-        &[],
-    )?;
-    change(tx, "DELETE FROM hold", &[])?;
-    Ok(())
+        "DELETE FROM hold",
+    )
 }
 
-/// Makes the table of rules with days, and takes the rules over.
-fn move_rules<S: Alter>(tx: &mut Transaction<'_, S>) -> Result<(), TableFault>
-    ensures inside { GoesOnInTurn S.Store tx.old.conn tx.new.conn result }
-    ensures moved { Moves S.Store Fourth Fifth tx.old.conn.now tx.new.conn.now result }
-{
-    define(
-        tx,
-        &[
-            "CREATE TABLE rule_5 (place INTEGER PRIMARY KEY, effect INTEGER NOT NULL, role TEXT NOT NULL, action TEXT NOT NULL, collection TEXT NOT NULL, class TEXT NOT NULL, first INTEGER NOT NULL, last INTEGER NOT NULL) STRICT",
-        ],
-    )?;
-    change(
-        tx,
-        "INSERT INTO rule_5 (place, effect, role, action, collection, class, first, last) SELECT place, effect, role, action, collection, class, -25567, 2859848 FROM rule ORDER BY place",
-        &[],
-    )?;
-    change(tx, "DELETE FROM rule", &[])?;
-    Ok(())
-}
-
-/// Notes the newest version in the row of the office.
-fn set_version<S: Alter>(tx: &mut Transaction<'_, S>) -> Result<(), TableFault>
-    ensures inside { GoesOnInside S.Store tx.old.conn tx.new.conn result }
-    ensures told { HasCleanDisk (state S.Store tx.new.conn.now) → (rows : AllRows)
-        → BecomesAt Fifth (state S.Store tx.old.conn.now).now rows
-        → OnOk result
-        (BecomesAt Fifth (state S.Store tx.new.conn.now).now (all_in_version (pos 5) rows)) }
-{
-    change(
-        tx,
-        "UPDATE office SET version = ?2 WHERE id = ?1",
-        params![1u32, 5u32],
-    )?;
-    Ok(())
-}
-
-/// Makes the tables of the newest version of those of version 4, and notes it in the row of the office.
+/// Makes the tables of the newest version of those of version 4: that of rules with days, with the rules. Notes the version in
+/// the row of the office.
 ///
 /// Fails with `Memory` or `Store`.
-pub fn renew_fourth<S: Alter>(tx: &mut Transaction<'_, S>) -> Result<(), TableFault>
+pub fn renew_fourth<S: Alter>(tx: &mut Transaction<'_, S>) -> Result<()>
     ensures inside { GoesOnInTurn S.Store tx.old.conn tx.new.conn result }
     ensures renewed { HasCleanDisk (state S.Store tx.new.conn.now) → (rows : AllRows)
         → BecomesAt Fourth (state S.Store tx.old.conn.now).now rows
         → OnOk result
         (BecomesAt Fifth (state S.Store tx.new.conn.now).now (all_in_version (pos 5) rows)) }
 {
-    move_rules(tx)?;
-    set_version(tx)
+    take_over(
+        tx,
+        &[
+            "CREATE TABLE rule_5 (place INTEGER PRIMARY KEY, effect INTEGER NOT NULL, role TEXT NOT NULL, action TEXT NOT NULL, collection TEXT NOT NULL, class TEXT NOT NULL, first INTEGER NOT NULL, last INTEGER NOT NULL) STRICT",
+        ],
+        "INSERT INTO rule_5 (place, effect, role, action, collection, class, first, last) SELECT place, effect, role, action, collection, class, -25567, 2859848 FROM rule ORDER BY place",
+        "DELETE FROM rule",
+    )?;
+    change(
+        tx,
+        "UPDATE office SET version = ?2 WHERE id = ?1",
+        params![1u32, 5u32],
+    )?;
+    Ok(())
 }

@@ -12,7 +12,7 @@ ghost use Rattle.office_tables.specs.Versions.{IsOfficeAt, tables_at};
 ghost use Rattle.office_tables.specs.declared.version.TableVersion.{TableVersion};
 ghost use Rattle.office_tables.specs.Opening.{shows_office, known_row, ShowsVersion, has_office, HasVersion, HasOtherVersion, IsKnownAsOther, NotAnOffice, KeepsTables};
 
-use crate::fault::TableFault;
+use crate::fault::{Result, TableFault};
 use crate::run::ask;
 use office_rows::is_limit;
 use sqlite::types::ValueRef;
@@ -58,7 +58,7 @@ fn version_among(rows: &[Row]) -> Option<i64>
 /// The version that the table `office` shows: that of the first row 1 of whole numbers with limits in range, by version.
 ///
 /// Fails with `Memory` or `Store`.
-pub fn version_told<S: Alter>(tx: &mut Transaction<'_, S>) -> Result<Option<i64>, TableFault>
+pub fn version_told<S: Alter>(tx: &mut Transaction<'_, S>) -> Result<Option<i64>>
     ensures inside { GoesOnInside S.Store tx.old.conn tx.new.conn result }
     ensures same { HasCleanDisk (state S.Store tx.new.conn.now)
         → OnOk result ((state S.Store tx.new.conn.now).now ≡ (state S.Store tx.old.conn.now).now) }
@@ -74,7 +74,7 @@ pub fn version_told<S: Alter>(tx: &mut Transaction<'_, S>) -> Result<Option<i64>
 }
 
 /// Whether the schema has a table `office` with its columns.
-fn has_office(schema: &Schema) -> bool
+pub fn has_office(schema: &Schema) -> bool
     ensures { result ≡ has_office schema.now }
 {
     let Some(at) = schema.table_named(b"office") else {
@@ -95,7 +95,7 @@ fn has_office(schema: &Schema) -> bool
 /// Fails with `NotAnOffice` where there is no table `office` with its columns, or no row 1 in it of whole numbers with limits from
 /// 1 to 1,000,000; with `OtherVersion` where that row has another version (of several, the first by version counts); with `Memory` or
 /// `Store`.
-pub fn open_tables<S: Alter>(conn: &mut Connection<S>) -> Result<(), TableFault>
+pub fn open_tables<S: Alter>(conn: &mut Connection<S>) -> Result<()>
     requires outside { (state S.Store conn.old).in_transaction ≡ false }
     ensures outside { (state S.Store conn.new).in_transaction ≡ false }
     ensures survives { Survives (state S.Store conn.old) (state S.Store conn.new) (λ _. ⊥) }
@@ -150,7 +150,7 @@ pub struct OfficeLimits {
 }
 
 /// The row that shows the limits.
-fn rows_of_limits<S: Alter>(tx: &mut Transaction<'_, S>) -> Result<Vec<Row>, TableFault>
+fn rows_of_limits<S: Alter>(tx: &mut Transaction<'_, S>) -> Result<Vec<Row>>
     ensures inside { GoesOnInside S.Store tx.old.conn tx.new.conn result }
     ensures found { Shows S.Store tx.old.conn.now tx.new.conn.now result (λ tables rows.
         limits_of tables ≡ option_map shown_limits (slice_get rows.items 0)) }
@@ -165,7 +165,7 @@ fn rows_of_limits<S: Alter>(tx: &mut Transaction<'_, S>) -> Result<Vec<Row>, Tab
 /// The limits of the office.
 ///
 /// Fails with `Store` where it has none that fit, and with `Memory` or `Store`.
-pub fn limits<S: Alter>(tx: &mut Transaction<'_, S>) -> Result<OfficeLimits, TableFault>
+pub fn limits<S: Alter>(tx: &mut Transaction<'_, S>) -> Result<OfficeLimits>
     ensures inside { GoesOnInside S.Store tx.old.conn tx.new.conn result }
     ensures same { Keeps S.Store tx.old.conn.now tx.new.conn.now result }
     ensures found { Tells S.Store tx.old.conn.now tx.new.conn.now result (λ tables limits.

@@ -9,7 +9,8 @@ ghost use Rattle.office_rows.specs.Matching.{matching_rule};
 ghost use Rattle.office_tables.specs.Calls.{GoesOnInTurn, GoesOnInside, Keeps, Shows, Tells, Writes};
 ghost use Rattle.office_tables.specs.ShownPolicy.{shown_rule};
 
-use crate::fault::TableFault;
+use crate::fault::Result;
+use crate::rows::{Shown, read_all, read_first};
 use crate::run::{ask, change};
 use sqlite::{Alter, Row, Transaction, params};
 use std::alloc::Global;
@@ -87,7 +88,7 @@ impl Model for RuleRow {
 }
 
 /// The row that shows the role of the caller of that name, if there is one.
-fn rows_of_role<S: Alter>(tx: &mut Transaction<'_, S>, name: &str) -> Result<Vec<Row>, TableFault>
+fn rows_of_role<S: Alter>(tx: &mut Transaction<'_, S>, name: &str) -> Result<Vec<Row>>
     ensures inside { GoesOnInside S.Store tx.old.conn tx.new.conn result }
     ensures found { Shows S.Store tx.old.conn.now tx.new.conn.now result (λ tables rows.
         option_map (λ c. c.role) (caller_named name.now tables.callers)
@@ -97,7 +98,7 @@ fn rows_of_role<S: Alter>(tx: &mut Transaction<'_, S>, name: &str) -> Result<Vec
 }
 
 /// A text in the first column of a row.
-fn first_text(row: &Row) -> Result<String, TableFault>
+fn first_text(row: &Row) -> Result<String>
     ensures shown { IfOk result (λ text. string_bytes text ≡ bytes_at row.now 0) }
     ensures failure { IfErr result IsFailure }
 {
@@ -107,10 +108,7 @@ fn first_text(row: &Row) -> Result<String, TableFault>
 /// The role of the caller of that name, if there is one.
 ///
 /// Fails with `Memory` or `Store`.
-pub fn role_of<S: Alter>(
-    tx: &mut Transaction<'_, S>,
-    name: &str,
-) -> Result<Option<String>, TableFault>
+pub fn role_of<S: Alter>(tx: &mut Transaction<'_, S>, name: &str) -> Result<Option<String>>
     ensures inside { GoesOnInside S.Store tx.old.conn tx.new.conn result }
     ensures same { Keeps S.Store tx.old.conn.now tx.new.conn.now result }
     ensures found { Tells S.Store tx.old.conn.now tx.new.conn.now result (λ tables found.
@@ -125,7 +123,7 @@ pub fn role_of<S: Alter>(
 }
 
 /// The rows that show the rules.
-fn rows_of_rules<S: Alter>(tx: &mut Transaction<'_, S>) -> Result<Vec<Row>, TableFault>
+fn rows_of_rules<S: Alter>(tx: &mut Transaction<'_, S>) -> Result<Vec<Row>>
     ensures inside { GoesOnInside S.Store tx.old.conn tx.new.conn result }
     ensures found { Shows S.Store tx.old.conn.now tx.new.conn.now result (λ tables rows.
         tables.rules ≡ map shown_rule rows.items) }
@@ -137,70 +135,34 @@ fn rows_of_rules<S: Alter>(tx: &mut Transaction<'_, S>) -> Result<Vec<Row>, Tabl
     )
 }
 
-/// The rule in a row that a query shows.
-fn rule_in(row: &Row) -> Result<RuleRow, TableFault>
-    ensures shown { IfOk result (λ rule. rule ≡ shown_rule row.now) }
-    ensures failure { IfErr result IsFailure }
-{
-    Ok(RuleRow {
-        place: row.get(0)?,
-        effect: row.get(1)?,
-        role: row.get(2)?,
-        action: row.get(3)?,
-        collection: row.get(4)?,
-        class: row.get(5)?,
-        first: row.get(6)?,
-        last: row.get(7)?,
-    })
-}
+impl Shown for RuleRow {
+    ghost shown_in = { shown_rule };
 
-/// The rules in the rows that a query shows.
-fn rules_in(alloc: Global, rows: &[Row]) -> Result<Vec<RuleRow>, TableFault>
-    ensures shown { IfOk result (λ rules. rules.items ≡ map shown_rule rows.now) }
-    ensures failure { IfErr result IsFailure }
-{
-    let mut rules = Vec::new(alloc);
-    for row in rows {
-        rules.push(rule_in(row)?)?;
+    fn read(row: &Row) -> Result<RuleRow> {
+        Ok(RuleRow {
+            place: row.get(0)?,
+            effect: row.get(1)?,
+            role: row.get(2)?,
+            action: row.get(3)?,
+            collection: row.get(4)?,
+            class: row.get(5)?,
+            first: row.get(6)?,
+            last: row.get(7)?,
+        })
     }
-    Ok(rules)
 }
 
 /// The rules, ascending by place.
 ///
 /// Fails with `Memory` or `Store`.
-pub fn rules<S: Alter>(
-    alloc: Global,
-    tx: &mut Transaction<'_, S>,
-) -> Result<Vec<RuleRow>, TableFault>
+pub fn rules<S: Alter>(alloc: Global, tx: &mut Transaction<'_, S>) -> Result<Vec<RuleRow>>
     ensures inside { GoesOnInside S.Store tx.old.conn tx.new.conn result }
     ensures same { Keeps S.Store tx.old.conn.now tx.new.conn.now result }
     ensures found { Tells S.Store tx.old.conn.now tx.new.conn.now result (λ tables rules.
         rules.items ≡ tables.rules) }
 {
     let rows = rows_of_rules(tx)?;
-    rules_in(alloc, &rows)
-}
-
-/// The row that shows the rule of the least place that matches, if one does.
-fn rows_of_match<S: Alter>(
-    tx: &mut Transaction<'_, S>,
-    role: &str,
-    action: &str,
-    collection: &str,
-    class: &str,
-    day: i64,
-) -> Result<Vec<Row>, TableFault>
-    ensures inside { GoesOnInside S.Store tx.old.conn tx.new.conn result }
-    ensures found { Shows S.Store tx.old.conn.now tx.new.conn.now result (λ tables rows.
-        matching_rule role.now action.now collection.now class.now day tables.rules
-        ≡ option_map shown_rule (slice_get rows.items 0)) }
-{
-    ask(
-        tx,
-        "SELECT place, effect, role, action, collection, class, first, last FROM rule_5 WHERE role IN ('*', ?1) AND action IN ('*', ?2) AND collection IN ('*', ?3) AND class IN ('*', ?4) AND first <= ?5 AND last >= ?5 ORDER BY place LIMIT 1",
-        params![role, action, collection, class, day],
-    )
+    read_all(alloc, &rows)
 }
 
 /// The rule of the least place whose texts are `*` or these, and that counts on the day of that number; an absent
@@ -214,21 +176,22 @@ pub fn match_rule<S: Alter>(
     collection: &str,
     class: &str,
     day: i64,
-) -> Result<Option<RuleRow>, TableFault>
+) -> Result<Option<RuleRow>>
     ensures inside { GoesOnInside S.Store tx.old.conn tx.new.conn result }
     ensures same { Keeps S.Store tx.old.conn.now tx.new.conn.now result }
     ensures found { Tells S.Store tx.old.conn.now tx.new.conn.now result (λ tables found.
         found ≡ matching_rule role.now action.now collection.now class.now day tables.rules) }
 {
-    let rows = rows_of_match(tx, role, action, collection, class, day)?;
-    match rows.first() {
-        Some(row) => Ok(Some(rule_in(row)?)),
-        None => Ok(None),
-    }
+    let rows = ask(
+        tx,
+        "SELECT place, effect, role, action, collection, class, first, last FROM rule_5 WHERE role IN ('*', ?1) AND action IN ('*', ?2) AND collection IN ('*', ?3) AND class IN ('*', ?4) AND first <= ?5 AND last >= ?5 ORDER BY place LIMIT 1",
+        params![role, action, collection, class, day],
+    )?;
+    read_first(&rows)
 }
 
 /// Takes out each caller.
-fn drop_callers<S: Alter>(tx: &mut Transaction<'_, S>) -> Result<usize, TableFault>
+fn drop_callers<S: Alter>(tx: &mut Transaction<'_, S>) -> Result<usize>
     ensures inside { GoesOnInside S.Store tx.old.conn tx.new.conn result }
     ensures becomes { Writes S.Store tx.old.conn.now tx.new.conn.now result without_callers }
     ensures once { LeavesOnce S.Store tx.old.conn.now tx.new.conn.now result }
@@ -237,7 +200,7 @@ fn drop_callers<S: Alter>(tx: &mut Transaction<'_, S>) -> Result<usize, TableFau
 }
 
 /// Takes out each rule.
-fn drop_rules<S: Alter>(tx: &mut Transaction<'_, S>) -> Result<usize, TableFault>
+fn drop_rules<S: Alter>(tx: &mut Transaction<'_, S>) -> Result<usize>
     ensures inside { GoesOnInside S.Store tx.old.conn tx.new.conn result }
     ensures becomes { Writes S.Store tx.old.conn.now tx.new.conn.now result without_rules }
     ensures once { LeavesOnce S.Store tx.old.conn.now tx.new.conn.now result }
@@ -246,11 +209,7 @@ fn drop_rules<S: Alter>(tx: &mut Transaction<'_, S>) -> Result<usize, TableFault
 }
 
 /// Adds a caller at the end.
-fn add_caller<S: Alter>(
-    tx: &mut Transaction<'_, S>,
-    name: &str,
-    role: &str,
-) -> Result<usize, TableFault>
+fn add_caller<S: Alter>(tx: &mut Transaction<'_, S>, name: &str, role: &str) -> Result<usize>
     ensures inside { GoesOnInside S.Store tx.old.conn tx.new.conn result }
     ensures becomes { Writes S.Store tx.old.conn.now tx.new.conn.now result
         (with_caller (record { name = name.now; role = role.now })) }
@@ -274,7 +233,7 @@ fn add_rule<S: Alter>(
     class: &str,
     first: i64,
     last: i64,
-) -> Result<usize, TableFault>
+) -> Result<usize>
     ensures inside { GoesOnInside S.Store tx.old.conn tx.new.conn result }
     ensures becomes { Writes S.Store tx.old.conn.now tx.new.conn.now result
         (with_rule
@@ -298,10 +257,7 @@ fn add_rule<S: Alter>(
 }
 
 /// Adds these callers in turn.
-fn add_callers<S: Alter>(
-    tx: &mut Transaction<'_, S>,
-    callers: &[CallerRow],
-) -> Result<(), TableFault>
+fn add_callers<S: Alter>(tx: &mut Transaction<'_, S>, callers: &[CallerRow]) -> Result<()>
     ensures inside { GoesOnInTurn S.Store tx.old.conn tx.new.conn result }
     ensures becomes { Writes S.Store tx.old.conn.now tx.new.conn.now result
         (with_callers callers.now) }
@@ -314,7 +270,7 @@ fn add_callers<S: Alter>(
 }
 
 /// Adds these rules in turn, each at its place.
-fn add_rules<S: Alter>(tx: &mut Transaction<'_, S>, rules: &[RuleRow]) -> Result<(), TableFault>
+fn add_rules<S: Alter>(tx: &mut Transaction<'_, S>, rules: &[RuleRow]) -> Result<()>
     ensures inside { GoesOnInTurn S.Store tx.old.conn tx.new.conn result }
     ensures becomes { Writes S.Store tx.old.conn.now tx.new.conn.now result (with_rules rules.now) }
     ensures once { LeavesOnce S.Store tx.old.conn.now tx.new.conn.now result }
@@ -342,7 +298,7 @@ pub fn put_policy<S: Alter>(
     tx: &mut Transaction<'_, S>,
     callers: &[CallerRow],
     rules: &[RuleRow],
-) -> Result<(), TableFault>
+) -> Result<()>
     ensures inside { GoesOnInside S.Store tx.old.conn tx.new.conn result }
     ensures becomes { Writes S.Store tx.old.conn.now tx.new.conn.now result
         (with_policy callers.now rules.now) }

@@ -12,9 +12,8 @@ ghost use Rattle.sqlite.specs.WalFiles.{image_at};
 ghost use Rattle.office_rows.specs.Rows.{Tables, this_version, version_of};
 ghost use Rattle.office_tables.specs.Faults.{IsFailure};
 ghost use Rattle.office_tables.specs.Opening as opening;
-ghost use Rattle.office_tables.specs.Opening.{HasOtherVersion, HasVersion, KeepsTables, IsKnownAsOther, IsLeft, has_office};
-ghost use Rattle.office_tables.specs.Versions.{IsOfficeAt, tables_at};
-ghost use Rattle.office_tables.specs.declared.version.TableVersion.{TableVersion};
+ghost use Rattle.office_tables.specs.Opening.{HasOtherVersion, HasVersion, IfRefused, IfTaken, KeepsTables, IsKnownAsOther, IsLeft, has_office};
+ghost use Rattle.office_tables.specs.Versions.{IfKnownOffice};
 ghost use Rattle.office_tables.specs.declared.fault.TableFault.TheVariants.{NotAnOffice, OtherVersion};
 ghost use Rattle.office_tables.specs.Found.{GoesOnAs, HoldsWhere, PicksUp};
 
@@ -35,55 +34,42 @@ pub fn adopt<S: Alter>(
     requires outside { (state S.Store conn).in_transaction ≡ false }
     // The tables are as they were.
     ensures outside { IfOk result (λ office. (state S.Store office).in_transaction ≡ false) }
-    ensures same { IfOk result (λ office.
-        HasCleanDisk (state S.Store office)
-        → KeepsTables (state S.Store conn) (state S.Store office)) }
+    ensures same { IfTaken S.Store result (KeepsTables (state S.Store conn)) }
     ensures survives { IfOk result (λ office.
         Survives (state S.Store conn) (state S.Store office) (λ _. ⊥)) }
-    ensures version { IfOk result (λ office.
-        HasCleanDisk (state S.Store office) → HasVersion (state S.Store conn).now this_version) }
-    ensures has_table { IfOk result (λ office.
-        HasCleanDisk (state S.Store office) → IsTrue (has_office (state S.Store conn).now.schema)) }
-    ensures known_as_this { IfOk result (λ office.
-        HasCleanDisk (state S.Store office) → (version : TableVersion)
-        → IsOfficeAt version (state S.Store conn).now
-        → version_of (tables_at version (state S.Store conn).now) ≡ Some this_version) }
+    ensures version { IfTaken S.Store result (λ _.
+        HasVersion (state S.Store conn).now this_version) }
+    ensures has_table { IfTaken S.Store result (λ _.
+        IsTrue (has_office (state S.Store conn).now.schema)) }
+    ensures known_as_this { IfTaken S.Store result (λ _.
+        IfKnownOffice (state S.Store conn).now (λ t. version_of t ≡ Some this_version)) }
     // What was left of an office goes on as that office.
-    ensures found { IfOk result (λ office.
-        HasCleanDisk (state S.Store office)
-        → GoesOnAs (state S.Store conn) (state S.Store office)) }
+    ensures found { IfTaken S.Store result (GoesOnAs (state S.Store conn)) }
 
     // A refusal leaves them so too.
     ensures refused_outside { IfErr result (λ e. (state S.Store e.0).in_transaction ≡ false) }
-    ensures refused_same { IfErr result (λ e.
-        HasCleanDisk (state S.Store e.0) → KeepsTables (state S.Store conn) (state S.Store e.0)) }
+    ensures refused_same { IfRefused S.Store result (λ s _. KeepsTables (state S.Store conn) s) }
     ensures refused_survives { IfErr result (λ e.
         Survives (state S.Store conn) (state S.Store e.0) (λ _. ⊥)) }
-    ensures refused { IfErr result (λ e.
-        HasCleanDisk (state S.Store e.0) → GoesOnAs (state S.Store conn) (state S.Store e.0)) }
+    ensures refused { IfRefused S.Store result (λ s _. GoesOnAs (state S.Store conn) s) }
     // It is no office, or one of another version, exactly where `open_tables` says so.
-    ensures not_office { IfErr result (λ e.
-        HasCleanDisk (state S.Store e.0) → e.1 ≡ NotAnOffice
-        → opening.NotAnOffice (state S.Store conn).now) }
-    ensures other_version { IfErr result (λ e.
-        HasCleanDisk (state S.Store e.0) → e.1 ≡ OtherVersion
-        → HasOtherVersion (state S.Store conn).now this_version) }
+    ensures not_office { IfRefused S.Store result (λ _ fault.
+        fault ≡ NotAnOffice → opening.NotAnOffice (state S.Store conn).now) }
+    ensures other_version { IfRefused S.Store result (λ _ fault.
+        fault ≡ OtherVersion → HasOtherVersion (state S.Store conn).now this_version) }
     ensures no_table { has_office (state S.Store conn).now.schema ≡ false
         → result ≡ Err (conn, NotAnOffice) }
     // Where the tables are an office's of any known version, it says so of what they tell.
-    ensures unknown { IfErr result (λ e.
-        HasCleanDisk (state S.Store e.0) → (version : TableVersion)
-        → IsOfficeAt version (state S.Store conn).now → e.1 ≡ NotAnOffice
-        → version_of (tables_at version (state S.Store conn).now) ≡ None) }
-    ensures known_as_other { IfErr result (λ e.
-        HasCleanDisk (state S.Store e.0) → (version : TableVersion)
-        → IsOfficeAt version (state S.Store conn).now → e.1 ≡ OtherVersion
-        → IsKnownAsOther (tables_at version (state S.Store conn).now) this_version) }
+    ensures unknown { IfRefused S.Store result (λ _ fault. IfKnownOffice (state S.Store conn).now
+        (λ t. fault ≡ NotAnOffice → version_of t ≡ None)) }
+    ensures known_as_other { IfRefused S.Store result (λ _ fault.
+        IfKnownOffice (state S.Store conn).now
+        (λ t. fault ≡ OtherVersion → IsKnownAsOther t this_version)) }
     // Of what was left of an office of this version it says neither.
-    ensures failure { IfErr result (λ e.
-        HasCleanDisk (state S.Store e.0) → IsTrue (state S.Store conn).is_open → (tables : Tables)
+    ensures failure { IfRefused S.Store result (λ _ fault.
+        IsTrue (state S.Store conn).is_open → (tables : Tables)
         → IsLeft tables (state S.Store conn).now.trees → version_of tables ≡ Some this_version
-        → IsFailure e.1) }
+        → IsFailure fault) }
 {
     // What the connection says of its state, and of its schema.
     let _is_settled = conn.is_autocommit();

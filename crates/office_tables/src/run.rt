@@ -8,7 +8,7 @@ ghost use Rattle.sql_meaning.specs.Columns.{int_at};
 ghost use Rattle.office_tables.specs.Calls.{GoesOnInside};
 ghost use Rattle.office_tables.specs.Faults.{IsFailure};
 
-use crate::fault::TableFault;
+use crate::fault::{Result, TableFault};
 use sqlite::types::ValueRef;
 use sqlite::{Alter, Row, Transaction};
 
@@ -17,7 +17,7 @@ pub(crate) fn change<S: Alter>(
     tx: &mut Transaction<'_, S>,
     sql: &str,
     values: &[ValueRef<'_>],
-) -> Result<usize, TableFault>
+) -> Result<usize>
     ensures inside { GoesOnInside S.Store tx.old.conn tx.new.conn result }
     ensures ran { HasCleanDisk (state S.Store tx.new.conn.now)
         → IfOk result (λ count.
@@ -35,7 +35,7 @@ pub(crate) fn ask<S: Alter>(
     tx: &mut Transaction<'_, S>,
     sql: &str,
     values: &[ValueRef<'_>],
-) -> Result<Vec<Row>, TableFault>
+) -> Result<Vec<Row>>
     ensures inside { GoesOnInside S.Store tx.old.conn tx.new.conn result }
     ensures shown { HasCleanDisk (state S.Store tx.new.conn.now)
         → IfOk result (λ rows.
@@ -49,7 +49,7 @@ pub(crate) fn ask<S: Alter>(
 }
 
 /// The whole number in that column of a row.
-pub(crate) fn number_in(row: &Row, at: usize) -> Result<i64, TableFault>
+pub(crate) fn number_in(row: &Row, at: usize) -> Result<i64>
     ensures shown { IfOk result (λ number. number ≡ int_at row.now at) }
     ensures failure { IfErr result IsFailure }
 {

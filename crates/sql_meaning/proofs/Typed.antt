@@ -1,5 +1,6 @@
 -- What a STRICT table's rules say of the columns of its rows.
-use Rattle.std.proofs.Common.{◌≡◌, ◌||◌, ◌⊎◌, not, ℕ, zero, suc, ◌+◌, List, [], ◌∷◌, drop, slice_get, slice_index_or, true, false, Some, Option, refl, sym, ap, subst, ◌∙◌, inl, inr, if◌then◌else◌, arith}
+use Rattle.std.proofs.Common.{◌≡◌, ◌&&◌, ◌||◌, ◌⊎◌, Bool, not, ℕ, zero, suc, ◌+◌, List, [], ◌∷◌, drop, slice_get, slice_index_or, true, false, None, Some, Option, refl, sym, ap, subst, ◌∙◌, inl, inr, if◌then◌else◌, arith}
+use Rattle.std.specs.Prelude.{⊤}
 use Rattle.std.specs.List.{AllByRecursion}
 use Rattle.std.proofs.lemmas.Bool.{not-true, and_parts}
 use Rattle.sqlite.specs.declared.types.Value.{Value}
@@ -7,6 +8,7 @@ use Rattle.sqlite.specs.declared.types.Value.TheVariants.{Null, Int, Text, Blob,
 use Rattle.sqlite.specs.Order.{Row, column, bytes}
 use Rattle.sqlite.specs.Ops.{is_null}
 use Rattle.sqlite.specs.Edit.{id_in}
+use Rattle.sqlite.specs.Kind.{Kind}
 use Rattle.sqlite.specs.Kind.TheVariants as kind
 use Rattle.sqlite.specs.Table.{Table}
 use Rattle.sqlite.specs.Schema.{Schema}
@@ -15,7 +17,6 @@ use Rattle.sqlite_schema.specs.declared.schema.Column.{Column}
 use Rattle.sqlite_schema.specs.declared.schema.Constraint.TheVariants.{Datatype, NotNull}
 use Rattle.sqlite_schema.specs.Names.{is_key}
 use Rattle.sqlite_schema.specs.Rules.{are_typed, are_present, suits, is_of, passes}
-use Rattle.sql_meaning.specs.Columns.{int_at, bytes_at}
 
 pub all_both : {X : Type 0} {P Q R : X → Type 0} → ((x : X) → P x → Q x → R x) → (xs : List X) → AllByRecursion P xs → AllByRecursion Q xs → AllByRecursion R xs
 all_both f [] p q = tt
@@ -83,19 +84,41 @@ is_blob (Real x) h k = absurd cc
 is_blob (Text t) h k = absurd cc
 is_blob (Blob b) h k = refl
 
-or_int : (v : Value) → is_of kind.Integer v ≡ true → (v ≡ Null) ⊎ (v ≡ Int (id_in v))
-or_int Null h = inl refl
-or_int (Int n) h = inr refl
-or_int (Real x) h = absurd cc
-or_int (Text t) h = absurd cc
-or_int (Blob b) h = absurd cc
+null_or : (v : Value) → (v ≡ Null) ⊎ (is_null v ≡ false)
+null_or Null = inl refl
+null_or (Int n) = inr refl
+null_or (Real x) = inr refl
+null_or (Text t) = inr refl
+null_or (Blob b) = inr refl
 
-or_text : (v : Value) → is_of kind.Text v ≡ true → (v ≡ Null) ⊎ (v ≡ Text (bytes v))
-or_text Null h = inl refl
-or_text (Int n) h = absurd cc
-or_text (Real x) h = absurd cc
-or_text (Text t) h = inr refl
-or_text (Blob b) h = absurd cc
+-- a value of this kind; of a kind that no column here has, nothing is said
+abbrev pub IsGiven : Kind → Value → Type 0
+IsGiven kind.Integer v = v ≡ Int (id_in v)
+IsGiven kind.Real v = ⊤
+IsGiven kind.Text v = v ≡ Text (bytes v)
+IsGiven kind.Blob v = v ≡ Blob (bytes v)
+IsGiven kind.Any v = ⊤
+
+given : (k : Kind) (v : Value) → is_of k v ≡ true → is_null v ≡ false → IsGiven k v
+given kind.Integer v h some = is_int v h some
+given kind.Real v h some = tt
+given kind.Text v h some = is_text v h some
+given kind.Blob v h some = is_blob v h some
+given kind.Any v h some = tt
+
+-- what is said of the value of a column: where it is not NOT NULL, it may be NULL
+abbrev pub IsAllowed : Bool → Kind → Value → Type 0
+IsAllowed true k v = IsGiven k v
+IsAllowed false k v = (v ≡ Null) ⊎ IsGiven k v
+
+abbrev pub IsTyped : Option Column → Value → Type 0
+IsTyped None v = ⊤
+IsTyped (Some c) v = IsAllowed c.not_null c.kind v
+
+-- a column of a STRICT table that is not the key
+abbrev pub is_plain : Option ℕ → ℕ → Option Column → Bool
+is_plain key i None = false
+is_plain key i (Some c) = c.is_strict && not (is_key key (0 + i))
 
 module _ (schema : Schema) (db : Trees) (table : Table) (row : Row) (typed : passes Datatype schema db table row ≡ true) (present : passes NotNull schema db table row ≡ true) where
   suited : (i : ℕ) (c : Column) → slice_get table.columns i ≡ Some c → c.is_strict ≡ true → is_key table.key (0 + i) ≡ false → suits c (column row (i + 1)) ≡ true
@@ -109,24 +132,17 @@ module _ (schema : Schema) (db : Trees) (table : Table) (row : Row) (typed : pas
       let same : 0 + i + 1 ≡ i + 1 = omega arith in
       subst (λ n. is_null (column row n) ≡ false) same (present_at table.key 0 table.columns row present i c found needed free)
 
-  -- a column that is strict and NOT NULL has a value of its kind
-  pub text_at : (i : ℕ) (c : Column) → slice_get table.columns i ≡ Some c → c.is_strict ≡ true → c.not_null ≡ true → c.kind ≡ kind.Text → is_key table.key (0 + i) ≡ false
-      → column row (i + 1) ≡ Text (bytes_at row (i + 1))
-  text_at i c found strict needed is free = is_text (column row (i + 1)) (subst (λ k. is_of k (column row (i + 1)) ≡ true) is (of_kind i c found strict free)) (filled i c found needed free)
+  allowed : (i : ℕ) (c : Column) → slice_get table.columns i ≡ Some c → c.is_strict ≡ true → is_key table.key (0 + i) ≡ false → IsAllowed c.not_null c.kind (column row (i + 1))
+  allowed i c found strict free = by c.not_null refl
+    where
+      by : (needed : Bool) → c.not_null ≡ needed → IsAllowed needed c.kind (column row (i + 1))
+      by true is = given c.kind (column row (i + 1)) (of_kind i c found strict free) (filled i c found is free)
+      by false is = elim (null_or (column row (i + 1))) [ inl none ↦ inl none | inr some ↦ inr (given c.kind (column row (i + 1)) (of_kind i c found strict free) some) ]
 
-  pub int_in : (i : ℕ) (c : Column) → slice_get table.columns i ≡ Some c → c.is_strict ≡ true → c.not_null ≡ true → c.kind ≡ kind.Integer → is_key table.key (0 + i) ≡ false
-      → column row (i + 1) ≡ Int (int_at row (i + 1))
-  int_in i c found strict needed is free = is_int (column row (i + 1)) (subst (λ k. is_of k (column row (i + 1)) ≡ true) is (of_kind i c found strict free)) (filled i c found needed free)
-
-  -- a column that may be NULL
-  pub maybe_int_at : (i : ℕ) (c : Column) → slice_get table.columns i ≡ Some c → c.is_strict ≡ true → c.kind ≡ kind.Integer → is_key table.key (0 + i) ≡ false
-      → (column row (i + 1) ≡ Null) ⊎ (column row (i + 1) ≡ Int (int_at row (i + 1)))
-  maybe_int_at i c found strict is free = or_int (column row (i + 1)) (subst (λ k. is_of k (column row (i + 1)) ≡ true) is (of_kind i c found strict free))
-
-  pub maybe_text_at : (i : ℕ) (c : Column) → slice_get table.columns i ≡ Some c → c.is_strict ≡ true → c.kind ≡ kind.Text → is_key table.key (0 + i) ≡ false
-      → (column row (i + 1) ≡ Null) ⊎ (column row (i + 1) ≡ Text (bytes_at row (i + 1)))
-  maybe_text_at i c found strict is free = or_text (column row (i + 1)) (subst (λ k. is_of k (column row (i + 1)) ≡ true) is (of_kind i c found strict free))
-
-  pub blob_at : (i : ℕ) (c : Column) → slice_get table.columns i ≡ Some c → c.is_strict ≡ true → c.not_null ≡ true → c.kind ≡ kind.Blob → is_key table.key (0 + i) ≡ false
-      → column row (i + 1) ≡ Blob (bytes_at row (i + 1))
-  blob_at i c found strict needed is free = is_blob (column row (i + 1)) (subst (λ k. is_of k (column row (i + 1)) ≡ true) is (of_kind i c found strict free)) (filled i c found needed free)
+  -- what is known of the value in the column at that place
+  pub typed_at : (i : ℕ) → is_plain table.key i (slice_get table.columns i) ≡ true → IsTyped (slice_get table.columns i) (column row (i + 1))
+  typed_at i plain = by (slice_get table.columns i) refl plain
+    where
+      by : (o : Option Column) → slice_get table.columns i ≡ o → is_plain table.key i o ≡ true → IsTyped o (column row (i + 1))
+      by None is plain = absurd cc
+      by (Some c) is plain = let parts = and_parts _ _ plain in allowed i c is parts.0 (not-true (is_key table.key (0 + i)) parts.1)

@@ -1,4 +1,4 @@
-use Rattle.std.proofs.Common.{List, [], ℤ, map, pos, rules, sym, subst}
+use Rattle.std.proofs.Common.{List, [], ℤ, map, pos, rules, sym, subst, ◌∙◌}
 use Rattle.sqlite.specs.Effect.{Database}
 use Rattle.sqlite.specs.State.{HasCleanDisk}
 use Rattle.sqlite.specs.Held.{state}
@@ -7,6 +7,7 @@ use Rattle.sql_meaning.specs.Columns.{int_at}
 use Rattle.office_tables.specs.Tables.{IsOffice}
 use Rattle.office_tables.specs.Contents.{AreFilesDropped, IsTidied}
 use Rattle.office_tables.proofs.ContentLemmas.{drop_once, drop_used}
+use Rattle.office_tables.proofs.FileLemmas.{finds_contents}
 use Rattle.office_tables.proofs.InTurn.{clean_first}
 use Rattle.office_tables.proofs.files.drop_files.Goals as goal
 
@@ -18,7 +19,8 @@ returns g c =
     let n = pos c.args.number in
     let ids : List ℤ = map (λ (row : Row). int_at row 0) c.in_ok-rows.rows.items in
     let early : HasCleanDisk new → HasCleanDisk mid = λ clean. clean_first c.drop_each_unused.ensures.inside.stays clean in
-    let shown = λ (clean : HasCleanDisk new) (office : IsOffice old.now). c.in_ok-rows.ensures.found (clean_first c.drop_rows.ensures.inside.stays (early clean)) office in
+    let shown = λ (clean : HasCleanDisk new) (office : IsOffice old.now).
+    finds_contents _ _ n c.in_ok-rows.rows.items office (rw c.params-to_sql.ensures at (c.in_ok-rows.ensures.shown (clean_first c.drop_rows.ensures.inside.stays (early clean)))) in
     let dropped : HasCleanDisk new → IsOffice old.now → AreFilesDropped n old.now mid.now = λ clean office.
     let same = (shown clean office).0 in
     subst (λ (db : Database). AreFilesDropped n db mid.now) same (c.in_ok-drop_rows.ensures.dropped (early clean) (subst IsOffice (sym same) office)) in
@@ -26,7 +28,10 @@ returns g c =
     rw c.deref.ensures.value at (c.in_ok-drop_each_unused.ensures.tidied clean (dropped clean office).becomes.office) in
     record {
       inside = search rules;
-      becomes = search rules;
+      becomes = λ clean office. record {
+        office = (tidied clean office).keeps.becomes.office;
+        are = (tidied clean office).keeps.becomes.are ∙ (dropped clean office).becomes.are;
+      };
       used = λ clean office. drop_used n ids old.now mid.now new.now (shown clean office).1 (dropped clean office) (tidied clean office);
       once = λ clean office. drop_once n ids old.now mid.now new.now (shown clean office).1 (dropped clean office) (tidied clean office);
     }

@@ -1,6 +1,7 @@
 use Rattle.std.proofs.Common.{◌≡◌, List, ℕ, pos, rules, subst}
 use Rattle.sha2.specs.Sha256.{sha256}
 use Rattle.sqlite.specs.Held.{state}
+use Rattle.office_rows.specs.Rows.{FileRow}
 use Rattle.office_tables.specs.Contents.{IsMarkedPut}
 use Rattle.office_tables.proofs.ContentLemmas.{put_once}
 use Rattle.office_tables.proofs.files.put_file.Goals as goal
@@ -10,5 +11,6 @@ returns-clause-once g c clean office kept =
     let old = (state g.S.Store c.args.tx.now.conn.now).now in
     let new = (state g.S.Store c.put_kept.new.tx.conn.now).now in
     let mark : c.digest-mark.result ≡ sha256 c.args.content.now = search rules in
-    let put = subst (λ (m : List ℕ). IsMarkedPut (pos c.args.number) c.args.path.now m c.args.content.now old new) mark (c.in_ok-put_kept.ensures.put clean office) in
+    let file : FileRow = record { deposit = pos c.args.number; path = c.args.path.now; content = c.args.content.now } in
+    let put = subst (λ (m : List ℕ). IsMarkedPut file m old new) mark (c.in_ok-put_kept.ensures.put clean office) in
     put_once c.args.path.now c.args.content.now (pos c.args.number) old new put kept

@@ -1,4 +1,4 @@
-use Rattle.std.proofs.Common.{w64}
+use Rattle.std.proofs.Common.{length, pos, rules, w64, ◌≡◌}
 use Rattle.std.proofs.lemmas.Int.{to_z-of_z}
 use Rattle.std.proofs.lemmas.Result.{IfOk-weaker}
 use Rattle.office_tables.proofs.ContentLemmas.{adds_content}
@@ -6,6 +6,7 @@ use Rattle.office_tables.proofs.kept.add_content.Goals as goal
 
 pub returns-clause-added : goal.returns-clause-added
 returns-clause-added g c clean office =
-    let size = to_z-of_z w64 c.args.size c.ranges.size in
-    let ran = rw (c.params-to_sql.ensures, c.params-to_sql-2.ensures, c.params-to_sql-3.ensures, size, c.requires.sized) at (c.change.ensures.ran clean) in
+    let size = to_z-of_z w64 c.in-Ok.size (search rules) in
+    let sized : c.in-Ok.size ≡ pos (length c.args.bytes.now) = search rules in
+    let ran = rw (c.params-to_sql.ensures, c.params-to_sql-2.ensures, c.params-to_sql-3.ensures, size, sized) at (c.change.ensures.ran clean) in
     IfOk-weaker c.change.result _ _ (λ count h. adds_content _ _ c.args.mark.now c.args.bytes.now count office h) ran

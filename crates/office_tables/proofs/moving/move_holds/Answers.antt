@@ -1,13 +1,12 @@
+use Rattle.std.proofs.lemmas.Result.{on_ok_weaker}
 use Rattle.office_tables.specs.Versions.{schema_at}
 use Rattle.office_tables.specs.declared.version.TableVersion.TheVariants.{Third, Fourth}
 use Rattle.office_tables.proofs.CreateTexts.{builds_hold_4}
-use Rattle.office_tables.proofs.InTurn.{clean_first}
 use Rattle.office_tables.proofs.MovedHolds.{copies_holds, empties_holds, holds_moved, new_is_empty}
 use Rattle.office_tables.proofs.moving.move_holds.Goals as goal
 
 pub returns-clause-moved : goal.returns-clause-moved
 returns-clause-moved g c clean rows was =
-    let early = clean_first c.in_ok-change-2.ensures.inside.stays clean in
-    let grown = c.in_ok-define.ensures.grown (clean_first c.in_ok-change.ensures.inside.stays early) (schema_at Third) (schema_at Fourth) builds_hold_4 was.office.whole in
-    let copied = copies_holds _ _ _ (grown.whole was.office.whole) (new_is_empty _ _ grown) (c.in_ok-change.ensures.ran early) in
-    holds_moved _ _ grown rows _ _ was copied (empties_holds _ _ _ copied.whole (c.in_ok-change-2.ensures.ran clean))
+    on_ok_weaker c.take_over.result (λ it. let grown = it.4 (schema_at Third) (schema_at Fourth) builds_hold_4 was.office.whole in
+    let copied = copies_holds _ _ _ (grown.whole was.office.whole) (new_is_empty _ _ grown) it.5 in
+    holds_moved _ _ grown rows _ _ was copied (empties_holds _ _ _ copied.whole it.6)) (c.take_over.ensures.ran clean)
