@@ -1,16 +1,16 @@
 //! An office that is opened, whatever known version its tables have.
 
 ghost use Rattle.std.specs.Prelude.{Err, None, Some, ◌≡◌, false, IfOk, IfErr, IsTrue};
-ghost use Rattle.sqlite.specs.State.{HasCleanDisk, Survives};
+ghost use Rattle.sqlite.specs.State.{Survives};
 ghost use Rattle.sqlite.specs.Held.{state};
 ghost use Rattle.office_rows.specs.Rows.{this_version, version_of};
 ghost use Rattle.office_tables.specs.Faults.{IsFailure};
 ghost use Rattle.office_tables.specs.Tables.{IsOffice, tables_of};
 ghost use Rattle.office_tables.specs.Opening as opening;
-ghost use Rattle.office_tables.specs.Opening.{KeepsTables, HasVersion, has_office};
+ghost use Rattle.office_tables.specs.Opening.{IfRefused, IfTaken, KeepsTables, HasVersion, has_office};
 ghost use Rattle.office_tables.specs.declared.fault.TableFault.TheVariants.{NotAnOffice, OtherVersion};
 ghost use Rattle.office_tables.specs.Moving.{AllRows, BecomesAt};
-ghost use Rattle.office_tables.specs.Versions.{IsOfficeAt, tables_at, version_number};
+ghost use Rattle.office_tables.specs.Versions.{IfKnownOffice, version_number};
 ghost use Rattle.office_upgrade.specs.Upgrading.{IsOlder, IsUpgrade, IsLeftAt, TellsVersion, TellsKnown, TellsUnknown, Upgrades, UpgradeLasts, TakesUp, KeepsOffice, LeavesOffice, GoesBack, OpensOlder, NewestSurvives, HasUnknownVersion};
 ghost use Rattle.office_tables.specs.declared.version.TableVersion.{TableVersion as Version};
 
@@ -28,52 +28,35 @@ pub fn upgrade_office<S: Alter>(
 ) -> Result<Connection<S>, (Connection<S>, TableFault)>
     requires outside { (state S.Store conn).in_transaction ≡ false }
     ensures outside { IfOk result (λ office. (state S.Store office).in_transaction ≡ false) }
-    ensures was_open { IfOk result (λ office.
-        HasCleanDisk (state S.Store office) → IsTrue (state S.Store conn).is_open) }
+    ensures was_open { IfTaken S.Store result (λ _. IsTrue (state S.Store conn).is_open) }
     // Of an office of an older version the store is open.
-    ensures is_open { IfOk result (λ office. HasCleanDisk (state S.Store office)
-        → OpensOlder (state S.Store conn) (state S.Store office)) }
+    ensures is_open { IfTaken S.Store result (OpensOlder (state S.Store conn)) }
     // Tables that show no older version stay as they are, those that are the newest among them.
-    ensures kept { IfOk result (λ office.
-        HasCleanDisk (state S.Store office) → (IsOlder (state S.Store conn).now → ⊥)
-        → KeepsTables (state S.Store conn) (state S.Store office)) }
-    ensures newest { IfOk result (λ office.
-        HasCleanDisk (state S.Store office) → IsOffice (state S.Store conn).now
+    ensures kept { IfTaken S.Store result (λ s.
+        (IsOlder (state S.Store conn).now → ⊥) → KeepsTables (state S.Store conn) s) }
+    ensures newest { IfTaken S.Store result (λ s. IsOffice (state S.Store conn).now
         → version_of (tables_of (state S.Store conn).now) ≡ Some this_version
-        → KeepsTables (state S.Store conn) (state S.Store office)) }
+        → KeepsTables (state S.Store conn) s) }
     ensures newest_survives { IfOk result (λ office.
         NewestSurvives (state S.Store conn) (state S.Store office)) }
-    ensures upgraded { IfOk result (λ office.
-        HasCleanDisk (state S.Store office)
-        → Upgrades (state S.Store conn) (state S.Store office)) }
-    ensures found { IfOk result (λ office.
-        HasCleanDisk (state S.Store office) → TakesUp (state S.Store conn) (state S.Store office)) }
-    ensures version { IfOk result (λ office.
-        HasCleanDisk (state S.Store office)
-        → IsTrue (has_office (state S.Store conn).now.schema)
+    ensures upgraded { IfTaken S.Store result (Upgrades (state S.Store conn)) }
+    ensures found { IfTaken S.Store result (TakesUp (state S.Store conn)) }
+    ensures version { IfTaken S.Store result (λ _.
+        IsTrue (has_office (state S.Store conn).now.schema)
         × ((known : Version) × HasVersion (state S.Store conn).now (version_number known))) }
     // Where the tables are an office's, their own version is known.
-    ensures known_as_one { IfOk result (λ office.
-        HasCleanDisk (state S.Store office) → (version : Version)
-        → IsOfficeAt version (state S.Store conn).now
-        → TellsKnown (tables_at version (state S.Store conn).now)) }
+    ensures known_as_one { IfTaken S.Store result (λ _.
+        IfKnownOffice (state S.Store conn).now TellsKnown) }
     ensures survives { IfOk result (λ office.
         Survives (state S.Store conn) (state S.Store office) (IsUpgrade (state S.Store conn).now)) }
-    ensures leaves { IfOk result (λ office.
-        HasCleanDisk (state S.Store office)
-        → LeavesOffice (state S.Store conn) (state S.Store office)) }
-    ensures durable { IfOk result (λ office.
-        HasCleanDisk (state S.Store office)
-        → UpgradeLasts (state S.Store conn) (state S.Store office)) }
+    ensures leaves { IfTaken S.Store result (LeavesOffice (state S.Store conn)) }
+    ensures durable { IfTaken S.Store result (UpgradeLasts (state S.Store conn)) }
 
     // A refusal leaves the office as it was.
     ensures refused_outside { IfErr result (λ e. (state S.Store e.0).in_transaction ≡ false) }
-    ensures refused_same { IfErr result (λ e.
-        HasCleanDisk (state S.Store e.0) → KeepsTables (state S.Store conn) (state S.Store e.0)) }
-    ensures refused { IfErr result (λ e.
-        HasCleanDisk (state S.Store e.0) → KeepsOffice (state S.Store conn) (state S.Store e.0)) }
-    ensures goes_back { IfErr result (λ e.
-        HasCleanDisk (state S.Store e.0) → GoesBack (state S.Store conn) (state S.Store e.0)) }
+    ensures refused_same { IfRefused S.Store result (λ s _. KeepsTables (state S.Store conn) s) }
+    ensures refused { IfRefused S.Store result (λ s _. KeepsOffice (state S.Store conn) s) }
+    ensures goes_back { IfRefused S.Store result (λ s _. GoesBack (state S.Store conn) s) }
     ensures refused_newest_survives { IfErr result (λ e.
         NewestSurvives (state S.Store conn) (state S.Store e.0)) }
     // `NotAnOffice` and `OtherVersion` leave no other trees than those that were there.
@@ -81,33 +64,25 @@ pub fn upgrade_office<S: Alter>(
         (IsFailure e.1 → ⊥) → Survives (state S.Store conn) (state S.Store e.0) (λ _. ⊥)) }
     ensures refused_survives { IfErr result (λ e.
         Survives (state S.Store conn) (state S.Store e.0) (IsUpgrade (state S.Store conn).now)) }
-    ensures refused_leaves { IfErr result (λ e.
-        HasCleanDisk (state S.Store e.0) → LeavesOffice (state S.Store conn) (state S.Store e.0)) }
-    ensures not_office { IfErr result (λ e.
-        HasCleanDisk (state S.Store e.0) → e.1 ≡ NotAnOffice
-        → opening.NotAnOffice (state S.Store conn).now) }
-    ensures other_version { IfErr result (λ e.
-        HasCleanDisk (state S.Store e.0) → e.1 ≡ OtherVersion
-        → HasUnknownVersion (state S.Store conn).now) }
+    ensures refused_leaves { IfRefused S.Store result (λ s _. LeavesOffice (state S.Store conn) s) }
+    ensures not_office { IfRefused S.Store result (λ _ fault.
+        fault ≡ NotAnOffice → opening.NotAnOffice (state S.Store conn).now) }
+    ensures other_version { IfRefused S.Store result (λ _ fault.
+        fault ≡ OtherVersion → HasUnknownVersion (state S.Store conn).now) }
     ensures no_table { has_office (state S.Store conn).now.schema ≡ false
         → result ≡ Err (conn, NotAnOffice) }
     // Where the tables are an office's, it says so of their own version.
-    ensures unknown { IfErr result (λ e.
-        HasCleanDisk (state S.Store e.0) → (version : Version)
-        → IsOfficeAt version (state S.Store conn).now → e.1 ≡ NotAnOffice
-        → version_of (tables_at version (state S.Store conn).now) ≡ None) }
-    ensures known_as_other { IfErr result (λ e.
-        HasCleanDisk (state S.Store e.0) → (version : Version)
-        → IsOfficeAt version (state S.Store conn).now → e.1 ≡ OtherVersion
-        → TellsUnknown (tables_at version (state S.Store conn).now)) }
+    ensures unknown { IfRefused S.Store result (λ _ fault. IfKnownOffice (state S.Store conn).now
+        (λ t. fault ≡ NotAnOffice → version_of t ≡ None)) }
+    ensures known_as_other { IfRefused S.Store result (λ _ fault.
+        IfKnownOffice (state S.Store conn).now (λ t. fault ≡ OtherVersion → TellsUnknown t)) }
     // Of an office that tells its version, and of what was left of one, it says neither.
-    ensures failure { IfErr result (λ e.
-        HasCleanDisk (state S.Store e.0) → (version : Version) (rows : AllRows)
-        → BecomesAt version (state S.Store conn).now rows → TellsVersion version rows → IsFailure e.1) }
-    ensures left_failure { IfErr result (λ e.
-        HasCleanDisk (state S.Store e.0) → IsTrue (state S.Store conn).is_open
+    ensures failure { IfRefused S.Store result (λ _ fault. (version : Version) (rows : AllRows)
+        → BecomesAt version (state S.Store conn).now rows → TellsVersion version rows
+        → IsFailure fault) }
+    ensures left_failure { IfRefused S.Store result (λ _ fault. IsTrue (state S.Store conn).is_open
         → (version : Version) (rows : AllRows) → TellsVersion version rows
-        → IsLeftAt version rows (state S.Store conn).now.trees → IsFailure e.1) }
+        → IsLeftAt version rows (state S.Store conn).now.trees → IsFailure fault) }
 {
     // What the connection says of its state, and of its schema.
     let _is_settled = conn.is_autocommit();

@@ -1,16 +1,14 @@
 //! Opening a store whose office may have the tables of an older version.
 
-ghost use Rattle.std.specs.Prelude.{◌⊎◌, Ok, Err, ◌≡◌, ◌≢◌, true, false, MatchOption, IfOk, IfErr, OnOk, OnErr, IsTrue, Some, None};
+ghost use Rattle.std.specs.Prelude.{◌⊎◌, Ok, Err, ◌≡◌, ◌≢◌, true, false, IfErr, OnOk, OnErr, IsTrue, Some, None};
 ghost use Rattle.sqlite.specs.State.{HasCleanDisk, Survives};
 ghost use Rattle.sqlite.specs.Held.{state};
-ghost use Rattle.sqlite.specs.Order.{Row as SqlRow, column};
 ghost use Rattle.sqlite.specs.Tree.{Trees};
-ghost use Rattle.sqlite.specs.declared.types.Value.TheVariants.{Int};
 ghost use Rattle.office_rows.specs.Rows.{this_version, version_of};
 ghost use Rattle.office_tables.specs.Faults.{IsFailure};
 ghost use Rattle.office_tables.specs.Tables.{IsOffice, tables_of};
-ghost use Rattle.office_tables.specs.Calls.{CommitsNothing, Continues, ContinuesInTurn};
-ghost use Rattle.office_tables.specs.Opening.{shows_office, known_row, ShowsVersion, has_office, HasVersion, NotAnOffice, KeepsTables};
+ghost use Rattle.office_tables.specs.Calls.{CommitsNothing, ContinuesInTurn};
+ghost use Rattle.office_tables.specs.Opening.{ShowsVersion, has_office, HasVersion, NotAnOffice, KeepsTables};
 ghost use Rattle.office_tables.specs.declared.fault.TableFault.TheVariants as fault;
 ghost use Rattle.office_tables.specs.Moving.{AllRows, BecomesAt, renewed};
 ghost use Rattle.office_tables.specs.Versions.{version_number};
@@ -18,25 +16,8 @@ ghost use Rattle.office_upgrade.specs.Upgrading.{IsOfficeOf, IsOlder, IsUpgrade,
 ghost use Rattle.office_tables.specs.declared.version.TableVersion.{TableVersion as Version};
 ghost use Rattle.office_tables.specs.declared.version.TableVersion.TheVariants.{Fifth};
 
-use office_tables::{TableFault, move_holds, renew_fourth, version_told};
+use office_tables::{TableFault, has_office, move_holds, renew_fourth, version_told};
 use sqlite::{Alter, Connection, Transaction};
-use sqlite_schema::schema::Schema;
-
-/// Whether the schema has a table `office` with its columns.
-fn has_office(schema: &Schema) -> bool
-    ensures { result ≡ has_office schema.now }
-{
-    let Some(at) = schema.table_named(b"office") else {
-        return false;
-    };
-    let Some(table) = schema.tables.as_slice().get(at) else {
-        return false;
-    };
-    table.column_named(b"id").is_some()
-        && table.column_named(b"version").is_some()
-        && table.column_named(b"max_deposits").is_some()
-        && table.column_named(b"max_holds").is_some()
-}
 
 /// Makes the tables of the newest version of those of this one, and says whether there was anything to do.
 fn renew<S: Alter>(tx: &mut Transaction<'_, S>, version: i64) -> Result<bool, TableFault>

@@ -39,17 +39,11 @@ returns-in-Ok-clause-durable g c clean =
 
 pub returns-in-Ok-clause-leaves : goal.returns-in-Ok-clause-leaves
 returns-in-Ok-clause-leaves g c clean =
-    let before = state g.S.Store c.args.conn in
-    let after = state g.S.Store c.upgrade.new.conn in
-    let outside : IsTrue before.is_open → before.now ≡ before.committed = search rules in
-    leaves_office before after c.schema-schema.ensures.live outside c.upgrade.ensures.survives clean (λ db is_open left. g.met.S.Store.settled c.args.conn.store db is_open left)
+    leaves_office (state g.S.Store c.args.conn) (state g.S.Store c.upgrade.new.conn) c.schema-schema.ensures.live (search rules) c.upgrade.ensures.survives clean (λ db is_open left. g.met.S.Store.settled c.args.conn.store db is_open left)
 
 pub returns-in-Err-clause-refused_leaves : goal.returns-in-Err-clause-refused_leaves
 returns-in-Err-clause-refused_leaves g c clean =
-    let before = state g.S.Store c.args.conn in
-    let after = state g.S.Store c.upgrade.new.conn in
-    let outside : IsTrue before.is_open → before.now ≡ before.committed = search rules in
-    leaves_office before after c.schema-schema.ensures.live outside c.upgrade.ensures.survives clean (λ db is_open left. g.met.S.Store.settled c.args.conn.store db is_open left)
+    leaves_office (state g.S.Store c.args.conn) (state g.S.Store c.upgrade.new.conn) c.schema-schema.ensures.live (search rules) c.upgrade.ensures.survives clean (λ db is_open left. g.met.S.Store.settled c.args.conn.store db is_open left)
 
 pub returns-in-Err-clause-refused_newest_survives : goal.returns-in-Err-clause-refused_newest_survives
 returns-in-Err-clause-refused_newest_survives g c =
