@@ -119,12 +119,12 @@ module _ {S : Type 0} (g : Ghosts S) (day : Date) where
   by_office old new held holds whole bytes answer it written =
       record { connection = served bytes it.2.item answer whole; after = (it.0, it.1, it.2, refl); whole_is = refl; done_is = refl; heard = refl; written = written }
 
-  whole : (old new : Held S) (held holds : Option (List ℕ)) (done : Bool) (bytes text : List ℕ) → IsAnswered g done day bytes old new text → Appends held holds text → Came old new held holds bytes true done
+  whole : (old new : Held S) (held holds : Option (List ℕ)) (done : Bool) (bytes text : List ℕ) → IsAnswered g (record { day = day; bytes = bytes }) (record { text = text; done = done }) old new → Appends held holds text → Came old new held holds bytes true done
   whole old new held holds true bytes text it appends = by_office old new held holds true bytes it.0 it.1 (subst (Appends held holds) it.2 appends)
   whole old new held holds false bytes text it appends =
       record { connection = refused bytes it.0; after = (it.1, it.2); whole_is = refl; done_is = refl; heard = refl; written = subst (Appends held holds) it.3 appends }
 
-  cut : (old new : Held S) (held holds : Option (List ℕ)) (done : Bool) (bytes text : List ℕ) → IsAnswered g done day bytes old new text → WritesBeginning held holds text → Came old new held holds bytes false done
+  cut : (old new : Held S) (held holds : Option (List ℕ)) (done : Bool) (bytes text : List ℕ) → IsAnswered g (record { day = day; bytes = bytes }) (record { text = text; done = done }) old new → WritesBeginning held holds text → Came old new held holds bytes false done
   cut old new held holds true bytes text it begins = by_office old new held holds false bytes it.0 it.1 (subst (WritesBeginning held holds) it.2 begins)
   cut old new held holds false bytes text it begins = nothing old new held holds bytes it.2 (it.0, subst (WritesBeginning held holds) it.3 begins)
 
@@ -140,23 +140,23 @@ module _ {S : Type 0} (g : Ghosts S) (day : Date) where
 
     -- what was answered, and written of it, over some bytes
     abbrev pub Written : List ℕ → Type 0
-    Written bytes = (text : List ℕ) × (done : Bool) × IsAnswered g done day bytes old new text × Appends (contents (device_of writer)) (contents (device_of writer')) text
+    Written bytes = (text : List ℕ) × (done : Bool) × IsAnswered g (record { day = day; bytes = bytes }) (record { text = text; done = done }) old new × Appends (contents (device_of writer)) (contents (device_of writer')) text
 
     abbrev pub Begun : Bool → List ℕ → Type 0
-    Begun done bytes = (text : List ℕ) × (count : ℕ) × IsAnswered g done day bytes old new text × (count < length text) × Appends (contents (device_of writer)) (contents (device_of writer')) (take count text)
+    Begun done bytes = (text : List ℕ) × (count : ℕ) × IsAnswered g (record { day = day; bytes = bytes }) (record { text = text; done = done }) old new × (count < length text) × Appends (contents (device_of writer)) (contents (device_of writer')) (take count text)
 
     abbrev pub Unwritten : List ℕ → Type 0
     Unwritten bytes = (answer : Answer) × ServesBytes day bytes (state g old) (state g new) answer
 
     abbrev pub Answers : Type 0
-    Answers = (given text : List ℕ) × (done : Bool) × Consumes reader reader' given × IsAnswered g done day given old new text × Appends (contents (device_of writer)) (contents (device_of writer')) text
+    Answers = (given text : List ℕ) × (done : Bool) × Consumes reader reader' given × IsAnswered g (record { day = day; bytes = given }) (record { text = text; done = done }) old new × Appends (contents (device_of writer)) (contents (device_of writer')) text
         × (Hears given (Err Truncated) → IsAtEnd reader')
 
     abbrev pub Fails : Type 0
     Fails = (given : List ℕ) × Consumes reader reader' given × Hears given (Err Truncated) × failed × (new ≡ old) × (writer' ≡ writer)
 
     abbrev pub Stops : Bool → Type 0
-    Stops done = (given text : List ℕ) × (count : ℕ) × Consumes reader reader' given × IsAnswered g done day given old new text × (count < length text)
+    Stops done = (given text : List ℕ) × (count : ℕ) × Consumes reader reader' given × IsAnswered g (record { day = day; bytes = given }) (record { text = text; done = done }) old new × (count < length text)
         × Appends (contents (device_of writer)) (contents (device_of writer')) (take count text) × failed' × (Hears given (Err Truncated) → IsAtEnd reader')
 
     abbrev pub Wants : Type 0

@@ -13,7 +13,7 @@ use Rattle.desk_answers.specs.Answers.{refusal_text}
 use Rattle.desk_serving.specs.Serving.{IsAnswered}
 
 pub refused : {S : Type 0} (g : Ghosts S) (done : Bool) (day : Date) (bytes text : List ℕ) (refusal : DeskRefusal) (old new : Held S)
-    → Hears bytes (Err refusal) → IsAnswered g done day bytes old new text → (new ≡ old) × (text ≡ refusal_text refusal)
+    → Hears bytes (Err refusal) → IsAnswered g (record { day = day; bytes = bytes }) (record { text = text; done = done }) old new → (new ≡ old) × (text ≡ refusal_text refusal)
 refused g true day bytes text refusal old new hears answered =
     let same = one_hearing bytes (Ok answered.1.0) (Err refusal) answered.1.1 hears in
     search rules

@@ -1,6 +1,6 @@
 -- What serving one request does: what is heard of its bytes, what the office does, and the text that answers. `old` is the office before a
 -- call and `new` the office after it. The rules are Depot's own.
-use Rattle.std.specs.Prelude.{◌≡◌, ℕ, List, Bool, true, false, Ok, Err}
+use Rattle.std.specs.Prelude.{◌≡◌, ℕ, List, Bool, MatchBool, Ok, Err}
 use Rattle.jiff.specs.Types.{Date}
 use Rattle.sqlite.specs.Held.{Held, state}
 use Rattle.sqlite.specs.State.{State, HasCleanDisk, Survives}
@@ -32,7 +32,19 @@ pub record IsHeardServed (day : Date) (heard : HeardValue) (old new : State) (an
 abbrev pub ServesBytes : Date → List ℕ → State → State → Answer → Type 0
 ServesBytes day bytes old new answer = (heard : HeardValue) × Hears bytes (Ok heard) × IsHeardServed day heard old new answer
 
--- the bytes are answered with this text by the office, or, where the desk refuses them, by the desk, and then the office is as it was
-abbrev pub IsAnswered : {S : Type 0} → Ghosts S → Bool → Date → List ℕ → Held S → Held S → List ℕ → Type 0
-IsAnswered g true day bytes old new text = (answer : Answer) × ServesBytes day bytes (state g old) (state g new) answer × (text ≡ answer_text answer)
-IsAnswered g false day bytes old new text = (refusal : DeskRefusal) × Hears bytes (Err refusal) × (new ≡ old) × (text ≡ refusal_text refusal)
+-- a request as it comes to the desk: the day on which it is served, and its bytes
+pub record DeskRequest : Type 0 where
+  pub day : Date
+  pub bytes : List ℕ
+
+-- what answers it: a text, and whether the office served the request, or else the desk refused it
+pub record DeskReply : Type 0 where
+  pub text : List ℕ
+  pub done : Bool
+
+-- the request is answered with this text by the office, or, where the desk refuses it, by the desk, and then the office is as it was
+abbrev pub IsAnswered : {S : Type 0} → Ghosts S → DeskRequest → DeskReply → Held S → Held S → Type 0
+IsAnswered g request reply old new =
+    MatchBool reply.done
+    ((answer : Answer) × ServesBytes request.day request.bytes (state g old) (state g new) answer × (reply.text ≡ answer_text answer))
+    ((refusal : DeskRefusal) × Hears request.bytes (Err refusal) × (new ≡ old) × (reply.text ≡ refusal_text refusal))

@@ -83,7 +83,8 @@ pub fn respond<S: Alter, R: Read>(
     ensures answered { IfOk result (λ response.
         (given : List ℕ)
         × Consumes (R.remaining (device_of reader.old)) (R.remaining (device_of reader.new)) given
-        × IsAnswered S.Store response.done day given office.old office.new response.bytes.items
+        × IsAnswered S.Store (record { day = day; bytes = given })
+        (record { text = response.bytes.items; done = response.done }) office.old office.new
         × (Hears given (Err DeskRefusal.Truncated)
         → IsAtEnd (R.remaining (device_of reader.new)))) }
     ensures read { result ≡ Err Unanswered.Read
@@ -98,7 +99,8 @@ pub fn respond<S: Alter, R: Read>(
     ensures calm { result ≢ Err Unanswered.Read → failures_of reader.new ≡ failures_of reader.old }
     // Where all that the reader has is known, it is all that is heard.
     ensures whole { IfSome (R.remaining (device_of reader.old)) (λ input. IfOk result (λ response.
-        IsAnswered S.Store response.done day input office.old office.new response.bytes.items)) }
+        IsAnswered S.Store (record { day = day; bytes = input })
+        (record { text = response.bytes.items; done = response.done }) office.old office.new)) }
     ensures whole_served { result ≡ Err (Unanswered.Memory true)
         → IfSome (R.remaining (device_of reader.old)) (λ input.
         (answer : Answer)
@@ -133,7 +135,8 @@ pub fn serve_one<S: Alter, R: Read, W: Write>(
     ensures answered { OnOk result
         ((given text : List ℕ) × (done : Bool)
         × Consumes (R.remaining (device_of reader.old)) (R.remaining (device_of reader.new)) given
-        × IsAnswered S.Store done day given office.old office.new text
+        × IsAnswered S.Store (record { day = day; bytes = given })
+        (record { text = text; done = done }) office.old office.new
         × Appends (W.contents (device_of writer.old)) (W.contents (device_of writer.new)) text
         × (Hears given (Err DeskRefusal.Truncated)
         → IsAtEnd (R.remaining (device_of reader.new)))) }
@@ -148,7 +151,8 @@ pub fn serve_one<S: Alter, R: Read, W: Write>(
     ensures write { (done : Bool) → result ≡ Err (DeskFault.Write done)
         → (given text : List ℕ) × (count : ℕ)
         × Consumes (R.remaining (device_of reader.old)) (R.remaining (device_of reader.new)) given
-        × IsAnswered S.Store done day given office.old office.new text × (count < length text)
+        × IsAnswered S.Store (record { day = day; bytes = given })
+        (record { text = text; done = done }) office.old office.new × (count < length text)
         × Appends (W.contents (device_of writer.old)) (W.contents (device_of writer.new))
         (take count text) × HasFailed (failures_of writer.old) (failures_of writer.new)
         × (Hears given (Err DeskRefusal.Truncated) → IsAtEnd (R.remaining (device_of reader.new))) }
@@ -164,12 +168,13 @@ pub fn serve_one<S: Alter, R: Read, W: Write>(
     ensures whole { OnOk result
         (IfSome (R.remaining (device_of reader.old)) (λ input.
         (text : List ℕ) × (done : Bool)
-        × IsAnswered S.Store done day input office.old office.new text
+        × IsAnswered S.Store (record { day = day; bytes = input })
+        (record { text = text; done = done }) office.old office.new
         × Appends (W.contents (device_of writer.old)) (W.contents (device_of writer.new)) text)) }
     ensures whole_write { (done : Bool) → result ≡ Err (DeskFault.Write done)
         → IfSome (R.remaining (device_of reader.old)) (λ input.
-        (text : List ℕ) × (count : ℕ) × IsAnswered S.Store done day input office.old office.new text
-        × (count < length text)
+        (text : List ℕ) × (count : ℕ) × IsAnswered S.Store (record { day = day; bytes = input })
+        (record { text = text; done = done }) office.old office.new × (count < length text)
         × Appends (W.contents (device_of writer.old)) (W.contents (device_of writer.new))
         (take count text)) }
     ensures whole_memory_done { result ≡ Err (DeskFault.Memory true)

@@ -2,14 +2,15 @@
 use Rattle.std.proofs.Common.{◌≡◌, ℕ, zero, suc, ◌+◌, ◌<◌, ◌≤◌, List, [], ◌∷◌, ◌++◌, length, refl, sym, ap, ◌∙◌, arith, append_assoc, length-append}
 use Rattle.jiff.specs.Types.{Date}
 use Rattle.http_desk.specs.Records.{line_text, record_text}
-use Rattle.http_desk.specs.RecordLists.{RequestRecord, IsSplit, AreRecords, request_texts}
+use Rattle.http_desk.specs.RecordLists.{IsSplit, AreRecords, request_texts}
+use Rattle.desk_serving.specs.Serving.{DeskRequest}
 use Rattle.http_desk.proofs.FoundLemmas.{one_record, spelled_out}
 
-same_item : (x y : RequestRecord) → x.day ≡ y.day → x.bytes ≡ y.bytes → x ≡ y
+same_item : (x y : DeskRequest) → x.day ≡ y.day → x.bytes ≡ y.bytes → x ≡ y
 same_item x y d b = λ i. record { day = d i; bytes = b i }
 
 -- after the first record the others are read
-later : (most : ℕ) (input : List ℕ) (x : RequestRecord) (xs : List RequestRecord) (rest all : List ℕ) → IsSplit (suc most) input (x ∷ xs) rest → all ≡ request_texts xs ++ rest → IsSplit most all xs rest
+later : (most : ℕ) (input : List ℕ) (x : DeskRequest) (xs : List DeskRequest) (rest all : List ℕ) → IsSplit (suc most) input (x ∷ xs) rest → all ≡ request_texts xs ++ rest → IsSplit most all xs rest
 later most input x xs rest all s e = record {
   text = e;
   each = s.each.1;
@@ -17,14 +18,14 @@ later most input x xs rest all s e = record {
   ends = λ l. s.ends (omega arith);
 }
 
-first_out : (most : ℕ) (input : List ℕ) (x : RequestRecord) (xs : List RequestRecord) (rest : List ℕ) → IsSplit most input (x ∷ xs) rest → input ≡ record_text x.day x.bytes ++ (request_texts xs ++ rest)
+first_out : (most : ℕ) (input : List ℕ) (x : DeskRequest) (xs : List DeskRequest) (rest : List ℕ) → IsSplit most input (x ∷ xs) rest → input ≡ record_text x.day x.bytes ++ (request_texts xs ++ rest)
 first_out most input x xs rest s = s.text ∙ append_assoc (record_text x.day x.bytes) (request_texts xs) rest
 
-none_before : (most : ℕ) (input rest rest' : List ℕ) (y : RequestRecord) (ys : List RequestRecord) → IsSplit most input [] rest → IsSplit most input (y ∷ ys) rest' → ⊥
+none_before : (most : ℕ) (input rest rest' : List ℕ) (y : DeskRequest) (ys : List DeskRequest) → IsSplit most input [] rest → IsSplit most input (y ∷ ys) rest' → ⊥
 none_before most input rest rest' y ys s t =
     s.ends (let f = t.few in omega arith) y.day y.bytes (request_texts ys ++ rest') t.each.0 (sym s.text ∙ first_out most input y ys rest' t)
 
-pub one_split : (most : ℕ) (input rest rest' : List ℕ) (xs ys : List RequestRecord) → IsSplit most input xs rest → IsSplit most input ys rest' → (xs ≡ ys) × (rest ≡ rest')
+pub one_split : (most : ℕ) (input rest rest' : List ℕ) (xs ys : List DeskRequest) → IsSplit most input xs rest → IsSplit most input ys rest' → (xs ≡ ys) × (rest ≡ rest')
 one_split most input rest rest' [] [] s t = (refl, sym s.text ∙ t.text)
 one_split most input rest rest' [] (y ∷ ys) s t = absurd (none_before most input rest rest' y ys s t)
 one_split most input rest rest' (x ∷ xs) [] s t = absurd (none_before most input rest' rest x xs t s)
@@ -35,16 +36,16 @@ one_split (suc most) input rest rest' (x ∷ xs) (y ∷ ys) s t =
     (ap (λ z. z ∷ xs) (same_item x y h.0 h.1) ∙ ap (λ zs. y ∷ zs) others.0, others.1)
 
 -- one record more
-pub texts_more : (items : List RequestRecord) (item : RequestRecord) (rest : List ℕ) → request_texts (items ++ item ∷ []) ++ rest ≡ request_texts items ++ (record_text item.day item.bytes ++ rest)
+pub texts_more : (items : List DeskRequest) (item : DeskRequest) (rest : List ℕ) → request_texts (items ++ item ∷ []) ++ rest ≡ request_texts items ++ (record_text item.day item.bytes ++ rest)
 texts_more [] item rest = append_assoc (record_text item.day item.bytes) [] rest
 texts_more (first ∷ items) item rest = append_assoc (record_text first.day first.bytes) (request_texts (items ++ item ∷ [])) rest ∙ ap (λ l. record_text first.day first.bytes ++ l) (texts_more items item rest) ∙ sym (append_assoc (record_text first.day first.bytes) (request_texts items) (record_text item.day item.bytes ++ rest))
 
 -- records and more records
-pub texts_all : (a b : List RequestRecord) (rest : List ℕ) → request_texts (a ++ b) ++ rest ≡ request_texts a ++ (request_texts b ++ rest)
+pub texts_all : (a b : List DeskRequest) (rest : List ℕ) → request_texts (a ++ b) ++ rest ≡ request_texts a ++ (request_texts b ++ rest)
 texts_all [] b rest = refl
 texts_all (first ∷ a) b rest = append_assoc (record_text first.day first.bytes) (request_texts (a ++ b)) rest ∙ ap (λ l. record_text first.day first.bytes ++ l) (texts_all a b rest) ∙ sym (append_assoc (record_text first.day first.bytes) (request_texts a) (request_texts b ++ rest))
 
-pub are_all : (a b : List RequestRecord) → AreRecords a → AreRecords b → AreRecords (a ++ b)
+pub are_all : (a b : List DeskRequest) → AreRecords a → AreRecords b → AreRecords (a ++ b)
 are_all [] b x y = y
 are_all (first ∷ a) b x y = (x.0, are_all a b x.1 y)
 
@@ -56,7 +57,7 @@ rest_shorter input day bytes rest e =
     omega arith
 
 -- each record has bytes
-pub texts_long : (items : List RequestRecord) → length items ≤ length (request_texts items)
+pub texts_long : (items : List DeskRequest) → length items ≤ length (request_texts items)
 texts_long [] = omega arith
 texts_long (item ∷ items) =
     let some = rest_shorter (record_text item.day item.bytes ++ request_texts items) item.day item.bytes (request_texts items) refl in

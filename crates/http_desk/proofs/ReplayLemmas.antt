@@ -7,7 +7,7 @@ use Rattle.sqlite.specs.Held.{Held, state}
 use Rattle.sqlite.specs.Store.{Ghosts}
 use Rattle.jiff.specs.Types.{Date}
 use Rattle.http_desk.specs.Records.{IsRecord, record_text, answer_record, BeginsWithNone, CanNotBegin, WantsMore}
-use Rattle.http_desk.specs.RecordLists.{RequestRecord, AreRecords, request_texts, answer_texts, max_records}
+use Rattle.http_desk.specs.RecordLists.{AreRecords, request_texts, answer_texts, max_records}
 use Rattle.http_desk.proofs.FoundLemmas.{wanted_none}
 use Rattle.http_desk.proofs.ListLemmas.{texts_more, are_all, rest_shorter}
 use Rattle.http_desk.specs.Replaying.{AnswersRecord, AnswersEach, HasAnswered, HasDone, Replayed}
@@ -19,18 +19,18 @@ use Rattle.http_desk.specs.declared.replaying.ReplayStop.TheVariants as stops
 use Rattle.http_desk.specs.declared.replaying.ReplayFault.{ReplayFault}
 use Rattle.office_core.specs.declared.answer.Answer.{Answer}
 use Rattle.desk_answers.specs.Answers.{answer_text}
-use Rattle.desk_serving.specs.Serving.{ServesBytes}
+use Rattle.desk_serving.specs.Serving.{DeskRequest, IsAnswered, ServesBytes}
 
 -- ---- lists
 
-answers_more : {S : Type 0} (g : Ghosts S) (old now new : Held S) (items : List RequestRecord) (item : RequestRecord) (texts : List (List ℕ)) (text : List ℕ)
+answers_more : {S : Type 0} (g : Ghosts S) (old now new : Held S) (items : List DeskRequest) (item : DeskRequest) (texts : List (List ℕ)) (text : List ℕ)
     → AnswersEach g old items texts now → AnswersRecord g now item text new → AnswersEach g old (items ++ item ∷ []) (texts ++ text ∷ []) new
 answers_more g old now new [] item [] text each a = (new, subst (λ o. AnswersRecord g o item text new) each a, refl)
 answers_more g old now new [] item (first ∷ texts) text each a = absurd each
 answers_more g old now new (i ∷ items) item [] text each a = absurd each
 answers_more g old now new (i ∷ items) item (first ∷ texts) text each a = (each.0, each.1, answers_more g each.0 now new items item texts text each.2 a)
 
-same_count : {S : Type 0} (g : Ghosts S) (old new : Held S) (items : List RequestRecord) (texts : List (List ℕ)) → AnswersEach g old items texts new → length texts ≡ length items
+same_count : {S : Type 0} (g : Ghosts S) (old new : Held S) (items : List DeskRequest) (texts : List (List ℕ)) → AnswersEach g old items texts new → length texts ≡ length items
 same_count g old new [] [] each = refl
 same_count g old new [] (first ∷ texts) each = absurd each
 same_count g old new (i ∷ items) [] each = absurd each
@@ -52,7 +52,7 @@ not_empty day bytes rest all e none = let h = rest_shorter all day bytes rest e 
 
 -- so many records were done, the answers are written, and these bytes are pending
 pub record Progress {S : Type 0} (g : Ghosts S) (old now : Held S) (input left output written : Option (List ℕ)) (pending : List ℕ) (count : ℕ) : Type 0 where
-  pub items : List RequestRecord
+  pub items : List DeskRequest
   pub texts : List (List ℕ)
   pub reads : Consumes input left (request_texts items ++ pending)
   pub each : AreRecords items
@@ -86,7 +86,7 @@ read_on g old now input left next output written pending more all count p c e = 
   few = p.few;
 }
 
-pub answered_on : {S : Type 0} (g : Ghosts S) (old now new : Held S) (input left output written more : Option (List ℕ)) (pending rest : List ℕ) (count : ℕ) (item : RequestRecord) (text : List ℕ)
+pub answered_on : {S : Type 0} (g : Ghosts S) (old now new : Held S) (input left output written more : Option (List ℕ)) (pending rest : List ℕ) (count : ℕ) (item : DeskRequest) (text : List ℕ)
     → Progress g old now input left output written pending count → IsRecord item.day item.bytes → pending ≡ record_text item.day item.bytes ++ rest → count < max_records
     → AnswersRecord g now item text new → Appends written more (answer_record text) → Progress g old new input left output more rest (count + 1)
 answered_on g old now new input left output written more pending rest count item text p is e low a w = record {
@@ -184,7 +184,7 @@ unread g old now input left next output written pending after count stops.Write 
 unread g old now input left next output written pending after count (stops.BadRecord index) p wants c = absurd c
 
 -- one record more is done, and of its answer's record so much is written
-done_one : {S : Type 0} (g : Ghosts S) (old now new : Held S) (input left output written more : Option (List ℕ)) (pending rest : List ℕ) (count : ℕ) (item : RequestRecord) (text part : List ℕ)
+done_one : {S : Type 0} (g : Ghosts S) (old now new : Held S) (input left output written more : Option (List ℕ)) (pending rest : List ℕ) (count : ℕ) (item : DeskRequest) (text part : List ℕ)
     → (p : Progress g old now input left output written pending count) → IsRecord item.day item.bytes → pending ≡ record_text item.day item.bytes ++ rest → count < max_records
     → AnswersRecord g now item text new → Appends written more part → HasDone g old new input left output more (p.items ++ item ∷ []) (p.texts ++ text ∷ []) count part
 done_one g old now new input left output written more pending rest count item text part p is e low a w = record {
@@ -198,11 +198,11 @@ done_one g old now new input left output written more pending rest count item te
       subst (λ ts. Appends output more (answer_texts ts ++ part)) (sym same) (Appends-trans output written more (answer_texts p.texts) part p.writes w);
 }
 
-more_items : (items : List RequestRecord) (item : RequestRecord) (count : ℕ) → count ≡ length items → count + 1 ≡ length (items ++ item ∷ [])
+more_items : (items : List DeskRequest) (item : DeskRequest) (count : ℕ) → count ≡ length items → count + 1 ≡ length (items ++ item ∷ [])
 more_items items item count e = let l = length-append items (item ∷ []) in omega arith
 
 -- an answer was not written whole
-pub unwritten_stop : {S : Type 0} (g : Ghosts S) (old now new : Held S) (input left output written more : Option (List ℕ)) (pending rest : List ℕ) (count : ℕ) (item : RequestRecord) (fault : Unwritten) (T : Type 0)
+pub unwritten_stop : {S : Type 0} (g : Ghosts S) (old now new : Held S) (input left output written more : Option (List ℕ)) (pending rest : List ℕ) (count : ℕ) (item : DeskRequest) (fault : Unwritten) (T : Type 0)
     → Progress g old now input left output written pending count → IsRecord item.day item.bytes → pending ≡ record_text item.day item.bytes ++ rest → count < max_records
     → AnswersNext {S = S} {T = T} g now new item written more (Err fault) → Replayed g old new input left output more (Err (fault_behind count fault))
 unwritten_stop g old now new input left output written more pending rest count item unwritten.Write T p is e low a = (
@@ -221,7 +221,7 @@ unwritten_stop {S} g old now new input left output written more pending rest cou
     unremembered g old new input left left output written more pending [] count (subst P (sym a.0) p) (Consumes-nil left) a.1
 
 -- no bytes answer: the office may have served the request before
-pub unserved : {S : Type 0} (g : Ghosts S) (T : Type 0) (old new : Held S) (item : RequestRecord) (output : Option (List ℕ)) (told done : Bool) → told ≡ done
+pub unserved : {S : Type 0} (g : Ghosts S) (T : Type 0) (old new : Held S) (item : DeskRequest) (output : Option (List ℕ)) (told done : Bool) → told ≡ done
     → (done ≡ true → (answer : Answer) × ServesBytes item.day item.bytes (state g old) (state g new) answer) → (done ≡ false → new ≡ old)
     → AnswersNext {S = S} {T = T} g old new item output output (Err (unwritten.Memory told))
 unserved {S} g T old new item output told done e served kept = let P : Bool → Type 0 = λ d. AnswersNext {S = S} {T = T} g old new item output output (Err (unwritten.Memory d)) in subst P (sym e) (by done served kept)
@@ -229,3 +229,8 @@ unserved {S} g T old new item output told done e served kept = let P : Bool → 
     by : (d : Bool) → (d ≡ true → (answer : Answer) × ServesBytes item.day item.bytes (state g old) (state g new) answer) → (d ≡ false → new ≡ old) → AnswersNext {S = S} {T = T} g old new item output output (Err (unwritten.Memory d))
     by true served kept = let a = served refl in (answer_text a.0, (true, (a.0, a.1, refl)), Appends-nil output)
     by false served kept = (kept refl, Appends-nil output)
+
+-- the bytes of a record are heard as they are
+pub heard_as : {S : Type 0} (g : Ghosts S) (old new : Held S) (day : Date) (given bytes text : List ℕ) (done : Bool) → given ≡ bytes
+    → IsAnswered g (record { day = day; bytes = given }) (record { text = text; done = done }) old new → AnswersRecord g old (record { day = day; bytes = bytes }) text new
+heard_as g old new day given bytes text done same it = (done, subst (λ (l : List ℕ). IsAnswered g (record { day = day; bytes = l }) (record { text = text; done = done }) old new) same it)

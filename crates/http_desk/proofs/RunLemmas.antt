@@ -5,25 +5,24 @@ use Rattle.sqlite.specs.Held.{Held, state}
 use Rattle.sqlite.specs.State.{HasCleanDisk}
 use Rattle.sqlite.specs.Store.{Ghosts}
 use Rattle.office_engine.specs.Keeping.{IsKeptBy}
-use Rattle.http_desk.specs.RecordLists.{RequestRecord}
-use Rattle.desk_serving.specs.Serving.{IsAnswered}
+use Rattle.desk_serving.specs.Serving.{DeskRequest, IsAnswered}
 use Rattle.http_desk.specs.Replaying.{AnswersEach}
 use Rattle.http_desk.specs.ReplayRuns.{IsRunOf, none, served, refused, RunsEach}
 
 -- a disk that is honest after an answer, and after records, was so before them
-pub was_clean : {S : Type 0} (g : Ghosts S) (done : Bool) (day : Date) (bytes text : List ℕ) (old new : Held S) → IsAnswered g done day bytes old new text
+pub was_clean : {S : Type 0} (g : Ghosts S) (done : Bool) (day : Date) (bytes text : List ℕ) (old new : Held S) → IsAnswered g (record { day = day; bytes = bytes }) (record { text = text; done = done }) old new
     → HasCleanDisk (state g new) → HasCleanDisk (state g old)
 was_clean g true day bytes text old new is clean = is.1.2.clean clean
 was_clean g false day bytes text old new is clean = subst (λ o. HasCleanDisk (state g o)) is.2 clean
 
-pub clean_at : {S : Type 0} (g : Ghosts S) (old new : Held S) (items : List RequestRecord) (texts : List (List ℕ)) → AnswersEach g old items texts new → HasCleanDisk (state g new) → HasCleanDisk (state g old)
+pub clean_at : {S : Type 0} (g : Ghosts S) (old new : Held S) (items : List DeskRequest) (texts : List (List ℕ)) → AnswersEach g old items texts new → HasCleanDisk (state g new) → HasCleanDisk (state g old)
 clean_at g old new [] [] each clean = subst (λ o. HasCleanDisk (state g o)) each clean
 clean_at g old new [] (text ∷ texts) each clean = absurd each
 clean_at g old new (item ∷ items) [] each clean = absurd each
 clean_at g old new (item ∷ items) (text ∷ texts) each clean = was_clean g each.1.0 item.day item.bytes text old each.0 each.1.1 (clean_at g each.0 new items texts each.2 clean)
 
-one_more : {S : Type 0} (g : Ghosts S) (done : Bool) (old mid new : Held S) (item : RequestRecord) (text : List ℕ) (items : List RequestRecord) (texts : List (List ℕ))
-    → IsAnswered g done item.day item.bytes old mid text → HasCleanDisk (state g mid) → RunsEach g mid new items texts → RunsEach g old new (item ∷ items) (text ∷ texts)
+one_more : {S : Type 0} (g : Ghosts S) (done : Bool) (old mid new : Held S) (item : DeskRequest) (text : List ℕ) (items : List DeskRequest) (texts : List (List ℕ))
+    → IsAnswered g item (record { text = text; done = done }) old mid → HasCleanDisk (state g mid) → RunsEach g mid new items texts → RunsEach g old new (item ∷ items) (text ∷ texts)
 one_more g true old mid new item text items texts a at_mid later clean h legal kept =
     let s = a.1.2 in
     let step = (s.turn at_mid).served h legal kept in
@@ -33,7 +32,7 @@ one_more g false old mid new item text items texts a at_mid later clean h legal 
     let run = later clean h legal (subst (λ o. IsKeptBy h (state g o)) (sym a.2) kept) in
     (run.0, run.1, run.2, subst (λ t. IsRunOf (item ∷ items) (t ∷ texts) run.0 run.1) (sym a.3) (refused item a.0 items texts run.0 run.1 a.1 run.3), run.4, run.5)
 
-pub runs_each : {S : Type 0} (g : Ghosts S) (old new : Held S) (items : List RequestRecord) (texts : List (List ℕ)) → AnswersEach g old items texts new → RunsEach g old new items texts
+pub runs_each : {S : Type 0} (g : Ghosts S) (old new : Held S) (items : List DeskRequest) (texts : List (List ℕ)) → AnswersEach g old items texts new → RunsEach g old new items texts
 runs_each g old new [] [] each clean h legal kept = ([], [], h, none, refl, record { legal = legal; kept = subst (λ o. IsKeptBy h (state g o)) (sym each) kept })
 runs_each g old new [] (text ∷ texts) each clean h legal kept = absurd each
 runs_each g old new (item ∷ items) [] each clean h legal kept = absurd each

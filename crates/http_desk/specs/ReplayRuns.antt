@@ -7,25 +7,24 @@ use Rattle.office_core.specs.declared.answer.Answer.{Answer}
 use Rattle.office_history.specs.Histories.{History}
 use Rattle.office_history.specs.Runs.{IsLegal, Item, Run}
 use Rattle.office_engine.specs.Keeping.{IsKeptBy, IsLegalAndKept}
-use Rattle.http_desk.specs.RecordLists.{RequestRecord}
 use Rattle.desk_routes.specs.declared.refusal.DeskRefusal.{DeskRefusal}
 use Rattle.desk_hearing.specs.Asked.{HeardValue}
 use Rattle.desk_hearing.specs.Hearing.{Hears}
 use Rattle.desk_answers.specs.Answers.{answer_text, refusal_text}
-use Rattle.desk_serving.specs.Serving.{IsItemOf}
+use Rattle.desk_serving.specs.Serving.{DeskRequest, IsItemOf}
 
 -- the run asks what is heard of the records, in their order; each text is that of its answer, or of the desk's refusal
-pub data IsRunOf : List RequestRecord → List (List ℕ) → List Item → List Answer → Type 0 where
+pub data IsRunOf : List DeskRequest → List (List ℕ) → List Item → List Answer → Type 0 where
   none : IsRunOf [] [] [] []
-  served : (item : RequestRecord) (heard : HeardValue) (asked : Item) (answer : Answer) (items : List RequestRecord) (texts : List (List ℕ)) (run : List Item) (answers : List Answer)
+  served : (item : DeskRequest) (heard : HeardValue) (asked : Item) (answer : Answer) (items : List DeskRequest) (texts : List (List ℕ)) (run : List Item) (answers : List Answer)
       → Hears item.bytes (Ok heard) → IsItemOf item.day heard asked → IsRunOf items texts run answers
       → IsRunOf (item ∷ items) (answer_text answer ∷ texts) (asked ∷ run) (answer ∷ answers)
-  refused : (item : RequestRecord) (refusal : DeskRefusal) (items : List RequestRecord) (texts : List (List ℕ)) (run : List Item) (answers : List Answer)
+  refused : (item : DeskRequest) (refusal : DeskRefusal) (items : List DeskRequest) (texts : List (List ℕ)) (run : List Item) (answers : List Answer)
       → Hears item.bytes (Err refusal) → IsRunOf items texts run answers → IsRunOf (item ∷ items) (refusal_text refusal ∷ texts) run answers
 
 -- whichever legal history was kept, the texts are those of a run from it that asks what is heard of the records, and the history that it
 -- leads to is kept
-abbrev pub RunsEach : {S : Type 0} → Ghosts S → Held S → Held S → List RequestRecord → List (List ℕ) → Type 0
+abbrev pub RunsEach : {S : Type 0} → Ghosts S → Held S → Held S → List DeskRequest → List (List ℕ) → Type 0
 RunsEach g old new items texts =
     HasCleanDisk (state g new) → (h : History) → IsLegal h → IsKeptBy h (state g old)
     → (run : List Item) × (answers : List Answer) × (next : History) × IsRunOf items texts run answers × Run h run answers next × IsLegalAndKept next (state g new)

@@ -5,7 +5,8 @@ use Rattle.std.specs.Io.KnownBytes.{Appends, Consumes, IsAtEnd}
 use Rattle.sqlite.specs.Held.{Held}
 use Rattle.sqlite.specs.Store.{Ghosts}
 use Rattle.http_desk.specs.Records.{IsRecord, record_text, answer_record, CanNotBegin, WantsMore}
-use Rattle.http_desk.specs.RecordLists.{RequestRecord, max_records}
+use Rattle.http_desk.specs.RecordLists.{max_records}
+use Rattle.desk_serving.specs.Serving.{DeskRequest}
 use Rattle.http_desk.specs.declared.record.Found.{Found}
 use Rattle.http_desk.specs.declared.record.Found.TheVariants as found
 use Rattle.http_desk.specs.Replaying.{AnswersRecord}
@@ -31,7 +32,7 @@ ReadsMore input left pending now (Err stops.Write) = ⊥
 ReadsMore input left pending now (Err (stops.BadRecord index)) = ⊥
 
 -- one record: its answer is written whole, or a beginning of it, or nothing
-abbrev pub AnswersNext : {S T : Type 0} → Ghosts S → Held S → Held S → RequestRecord → Option (List ℕ) → Option (List ℕ) → Result T Unwritten → Type 0
+abbrev pub AnswersNext : {S T : Type 0} → Ghosts S → Held S → Held S → DeskRequest → Option (List ℕ) → Option (List ℕ) → Result T Unwritten → Type 0
 AnswersNext g old new item output written (Ok _) = (text : List ℕ) × AnswersRecord g old item text new × Appends output written (answer_record text)
 AnswersNext g old new item output written (Err unwritten.Write) =
     (text : List ℕ) × (n : ℕ) × AnswersRecord g old item text new × (n < length (answer_record text)) × Appends output written (take n (answer_record text))

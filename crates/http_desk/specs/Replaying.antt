@@ -6,8 +6,8 @@ use Rattle.std.specs.Io.KnownBytes.{Appends, Consumes, IsAtEnd}
 use Rattle.sqlite.specs.Held.{Held}
 use Rattle.sqlite.specs.Store.{Ghosts}
 use Rattle.http_desk.specs.Records.{answer_record, BeginsWithNone, CanNotBegin}
-use Rattle.http_desk.specs.RecordLists.{RequestRecord, AreRecords, HasRecords, request_texts, answer_texts, max_records}
-use Rattle.desk_serving.specs.Serving.{IsAnswered}
+use Rattle.http_desk.specs.RecordLists.{AreRecords, HasRecords, request_texts, answer_texts, max_records}
+use Rattle.desk_serving.specs.Serving.{DeskRequest, IsAnswered}
 use Rattle.http_desk.specs.declared.replaying.ReplayStop.{ReplayStop}
 use Rattle.http_desk.specs.declared.replaying.ReplayStop.TheVariants as stops
 use Rattle.http_desk.specs.declared.replaying.ReplayFault.{ReplayFault}
@@ -15,11 +15,11 @@ use Rattle.http_desk.specs.declared.replaying.ReplayFault.{ReplayFault}
 -- ---- records that are answered
 
 -- a record is answered with this text: by the office, or by the desk, which refuses what it asks
-abbrev pub AnswersRecord : {S : Type 0} → Ghosts S → Held S → RequestRecord → List ℕ → Held S → Type 0
-AnswersRecord g old item text new = (done : Bool) × IsAnswered g done item.day item.bytes old new text
+abbrev pub AnswersRecord : {S : Type 0} → Ghosts S → Held S → DeskRequest → List ℕ → Held S → Type 0
+AnswersRecord g old item text new = (done : Bool) × IsAnswered g item (record { text = text; done = done }) old new
 
 -- records are answered one after the other, with these texts
-abbrev pub AnswersEach : {S : Type 0} → Ghosts S → Held S → List RequestRecord → List (List ℕ) → Held S → Type 0
+abbrev pub AnswersEach : {S : Type 0} → Ghosts S → Held S → List DeskRequest → List (List ℕ) → Held S → Type 0
 AnswersEach g old [] [] new = new ≡ old
 AnswersEach {S} g old (item ∷ items) (text ∷ texts) new = (mid : Held S) × AnswersRecord g old item text mid × AnswersEach g mid items texts new
 AnswersEach g old [] (text ∷ texts) new = ⊥
@@ -28,7 +28,7 @@ AnswersEach g old (item ∷ items) [] new = ⊥
 -- ---- what a replay comes to
 
 -- these are the records of what was read, `rest` follows them, and exactly the records of their answers were written
-pub record HasAnswered {S : Type 0} (g : Ghosts S) (old new : Held S) (input left output written : Option (List ℕ)) (items : List RequestRecord) (rest : List ℕ) : Type 0 where
+pub record HasAnswered {S : Type 0} (g : Ghosts S) (old new : Held S) (input left output written : Option (List ℕ)) (items : List DeskRequest) (rest : List ℕ) : Type 0 where
   pub given : List ℕ
   pub texts : List (List ℕ)
   pub reads : Consumes input left given
@@ -38,7 +38,7 @@ pub record HasAnswered {S : Type 0} (g : Ghosts S) (old new : Held S) (input lef
 
 -- what was read begins with these records, which are no more than there may be; all are done, and of their answers' records the first
 -- `answered` were written, and `part` after them
-pub record HasDone {S : Type 0} (g : Ghosts S) (old new : Held S) (input left output written : Option (List ℕ)) (items : List RequestRecord) (texts : List (List ℕ)) (answered : ℕ) (part : List ℕ) : Type 0 where
+pub record HasDone {S : Type 0} (g : Ghosts S) (old new : Held S) (input left output written : Option (List ℕ)) (items : List DeskRequest) (texts : List (List ℕ)) (answered : ℕ) (part : List ℕ) : Type 0 where
   pub rest : List ℕ
   pub reads : Consumes input left (request_texts items ++ rest)
   pub each : AreRecords items
@@ -58,20 +58,20 @@ IsBegun texts part = (before : List (List ℕ)) × (last : List ℕ) × (n : ℕ
 -- a replay stopped: of a bad record, a reader, a writer, or memory that failed
 abbrev pub Stopped : {S : Type 0} → Ghosts S → Held S → Held S → Option (List ℕ) → Option (List ℕ) → Option (List ℕ) → Option (List ℕ) → ReplayFault → ReplayStop → Type 0
 Stopped g old new input left output written fault (stops.BadRecord index) =
-    (items : List RequestRecord) × (rest : List ℕ) × HasAnswered g old new input left output written items rest × IsNoRecord left (length items) rest
+    (items : List DeskRequest) × (rest : List ℕ) × HasAnswered g old new input left output written items rest × IsNoRecord left (length items) rest
     × (index ≡ length items + 1) × (fault.done ≡ length items) × (fault.answered ≡ length items)
 Stopped g old new input left output written fault stops.Read =
-    (items : List RequestRecord) × (rest : List ℕ) × HasAnswered g old new input left output written items rest × BeginsWithNone rest
+    (items : List DeskRequest) × (rest : List ℕ) × HasAnswered g old new input left output written items rest × BeginsWithNone rest
     × (fault.done ≡ length items) × (fault.answered ≡ length items)
 Stopped g old new input left output written fault stops.Write =
-    (items : List RequestRecord) × (texts : List (List ℕ)) × (part : List ℕ) × HasDone g old new input left output written items texts fault.answered part × IsBegun texts part
+    (items : List DeskRequest) × (texts : List (List ℕ)) × (part : List ℕ) × HasDone g old new input left output written items texts fault.answered part × IsBegun texts part
     × (fault.done ≡ length items) × (fault.done ≡ fault.answered + 1)
 Stopped g old new input left output written fault stops.Memory =
-    (items : List RequestRecord) × (texts : List (List ℕ)) × HasDone g old new input left output written items texts fault.answered []
+    (items : List DeskRequest) × (texts : List (List ℕ)) × HasDone g old new input left output written items texts fault.answered []
     × (fault.done ≡ length items) × ((fault.done ≡ fault.answered) ⊎ (fault.done ≡ fault.answered + 1))
 
 -- a replay came to the end of the input, or stopped
 abbrev pub Replayed : {S : Type 0} → Ghosts S → Held S → Held S → Option (List ℕ) → Option (List ℕ) → Option (List ℕ) → Option (List ℕ) → Result ℕ ReplayFault → Type 0
 Replayed g old new input left output written (Ok count) =
-    (items : List RequestRecord) × HasAnswered g old new input left output written items [] × IsAtEnd left × (count ≡ length items)
+    (items : List DeskRequest) × HasAnswered g old new input left output written items [] × IsAtEnd left × (count ≡ length items)
 Replayed g old new input left output written (Err fault) = Stopped g old new input left output written fault fault.stop

@@ -4,7 +4,8 @@ ghost use Rattle.std.specs.Prelude.{◌≡◌, ◌++◌, ◌≤◌, ℕ, List, l
 ghost use Rattle.jiff.specs.Types.{Date};
 ghost use Rattle.sqlite.specs.Held.{Held};
 ghost use Rattle.http_desk.specs.Records.{IsRecord, record_text, HasLine, WantsMore, BeginsWithNone, CanNotBegin};
-ghost use Rattle.http_desk.specs.RecordLists.{RequestRecord, AreRecords, HasRecords, request_texts, max_records};
+ghost use Rattle.http_desk.specs.RecordLists.{AreRecords, HasRecords, request_texts, max_records};
+ghost use Rattle.desk_serving.specs.Serving.{DeskRequest};
 ghost use Rattle.http_desk.specs.Replaying.{AnswersEach};
 ghost use Rattle.http_desk.specs.ReplayRuns.{RunsEach};
 
@@ -31,7 +32,7 @@ pub fn wanted_bytes()
 
 /// An input has one list of records.
 pub fn one_list()
-    ensures { (input rest rest' : List ℕ) (items items' : List RequestRecord)
+    ensures { (input rest rest' : List ℕ) (items items' : List DeskRequest)
         → HasRecords input items rest → HasRecords input items' rest'
         → (items ≡ items') × (rest ≡ rest') }
 {}
@@ -39,13 +40,13 @@ pub fn one_list()
 /// Records, and what can't begin one, whatever follows; or as many records as an input may have,
 /// and anything: these are the records of the input, whatever is still to be read.
 pub fn last_record()
-    ensures bad { (items : List RequestRecord) (rest others : List ℕ)
+    ensures bad { (items : List DeskRequest) (rest others : List ℕ)
         → AreRecords items → length items ≤ max_records → CanNotBegin rest
         → HasRecords (request_texts items ++ (rest ++ others)) items (rest ++ others) }
-    ensures full { (items : List RequestRecord) (rest : List ℕ)
+    ensures full { (items : List DeskRequest) (rest : List ℕ)
         → AreRecords items → length items ≡ max_records
         → HasRecords (request_texts items ++ rest) items rest }
-    ensures end { (items : List RequestRecord) (rest : List ℕ)
+    ensures end { (items : List DeskRequest) (rest : List ℕ)
         → AreRecords items → length items ≤ max_records → WantsMore rest
         → HasRecords (request_texts items ++ rest) items rest }
 {}
@@ -54,6 +55,6 @@ pub fn last_record()
 /// them: whichever legal history the tables picture before, they picture the history that this run
 /// makes of it after the last record.
 pub fn replays_are_runs<S: Alter>()
-    ensures { (old new : Held S) (items : List RequestRecord) (texts : List (List ℕ))
+    ensures { (old new : Held S) (items : List DeskRequest) (texts : List (List ℕ))
         → AnswersEach S.Store old items texts new → RunsEach S.Store old new items texts }
 {}

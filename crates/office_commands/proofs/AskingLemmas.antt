@@ -24,7 +24,7 @@ use Rattle.office_commands.proofs.PrintingLemmas.{appends_nothing}
 
 -- the bytes that the input gives, and no fewer than it had, are answered with this text
 abbrev pub IsHeard : {S : Type 0} → Ghosts S → Date → Held S → Held S → Option (List ℕ) → Option (List ℕ) → List ℕ → Type 0
-IsHeard g day old new was_left left text = (given : List ℕ) × (done : Bool) × Consumes was_left left given × IsAnswered g done day (all_input was_left given) old new text
+IsHeard g day old new was_left left text = (given : List ℕ) × (done : Bool) × Consumes was_left left given × IsAnswered g (record { day = day; bytes = all_input was_left given }) (record { text = text; done = done }) old new
 
 -- and the text is written
 abbrev pub Whole : {S : Type 0} → Ghosts S → Date → Held S → Held S → Option (List ℕ) → Option (List ℕ) → Option (List ℕ) → Option (List ℕ) → Type 0
@@ -39,11 +39,11 @@ module _ {S : Type 0} (g : Ghosts S) (day : Date) (old new : Held S) (was_left l
   Comes r held holds = (deeds : List Deed) × ComesOfAsk day r deeds (record { input = was_left; output = held }) (record { input = left; output = holds }) × AreDone g deeds old new
 
   -- what the input gave is answered, and all that it had
-  pub asks : (held holds : Option (List ℕ)) (given text : List ℕ) (done : Bool) → Consumes was_left left given → IsAnswered g done day given old new text → Appends held holds text
-      → IfSome was_left (λ input. (text : List ℕ) × (done : Bool) × IsAnswered g done day input old new text × Appends held holds text) → Whole g day old new was_left left held holds
+  pub asks : (held holds : Option (List ℕ)) (given text : List ℕ) (done : Bool) → Consumes was_left left given → IsAnswered g (record { day = day; bytes = given }) (record { text = text; done = done }) old new → Appends held holds text
+      → IfSome was_left (λ input. (text : List ℕ) × (done : Bool) × IsAnswered g (record { day = day; bytes = input }) (record { text = text; done = done }) old new × Appends held holds text) → Whole g day old new was_left left held holds
   asks held holds given text done reads answered writes all = go was_left reads all
     where
-      go : (known : Option (List ℕ)) → Consumes known left given → IfSome known (λ input. (text : List ℕ) × (done : Bool) × IsAnswered g done day input old new text × Appends held holds text)
+      go : (known : Option (List ℕ)) → Consumes known left given → IfSome known (λ input. (text : List ℕ) × (done : Bool) × IsAnswered g (record { day = day; bytes = input }) (record { text = text; done = done }) old new × Appends held holds text)
           → Whole g day old new known left held holds
       go None reads all = (text, (given, done, reads, answered), writes)
       go (Some input) reads all = (all.0, (given, all.1, reads, all.2), all.3)
@@ -73,13 +73,13 @@ module _ {S : Type 0} (g : Ghosts S) (day : Date) (old new : Held S) (was_left l
       go (Some input) reads all = (answer_text all.0, (given, true, reads, (all.0, all.1, refl)))
 
   -- the output failed in the answer
-  begun : (held holds : Option (List ℕ)) (given text : List ℕ) (count : ℕ) (done : Bool) → Consumes was_left left given → IsAnswered g done day given old new text → Appends held holds (take count text)
-      → IfSome was_left (λ input. (text : List ℕ) × (count : ℕ) × IsAnswered g done day input old new text × (count < length text) × Appends held holds (take count text))
+  begun : (held holds : Option (List ℕ)) (given text : List ℕ) (count : ℕ) (done : Bool) → Consumes was_left left given → IsAnswered g (record { day = day; bytes = given }) (record { text = text; done = done }) old new → Appends held holds (take count text)
+      → IfSome was_left (λ input. (text : List ℕ) × (count : ℕ) × IsAnswered g (record { day = day; bytes = input }) (record { text = text; done = done }) old new × (count < length text) × Appends held holds (take count text))
       → Begun g day old new was_left left held holds
   begun held holds given text count done reads answered writes all = go was_left reads all
     where
       go : (known : Option (List ℕ)) → Consumes known left given
-          → IfSome known (λ input. (text : List ℕ) × (count : ℕ) × IsAnswered g done day input old new text × (count < length text) × Appends held holds (take count text))
+          → IfSome known (λ input. (text : List ℕ) × (count : ℕ) × IsAnswered g (record { day = day; bytes = input }) (record { text = text; done = done }) old new × (count < length text) × Appends held holds (take count text))
           → Begun g day old new known left held holds
       go None reads all = (text, count, (given, done, reads, answered), writes)
       go (Some input) reads all = (all.0, all.1, (given, done, reads, all.2), all.4)
@@ -90,8 +90,8 @@ module _ {S : Type 0} (g : Ghosts S) (day : Date) (old new : Held S) (was_left l
       → (r ≡ Err (Memory false) → (new ≡ old) × (now ≡ was))
       → (r ≡ Err (Memory true) → (given : List ℕ) × (answer : Answer) × Consumes was_left left given × ServesBytes day given (state g old) (state g new) answer × (now ≡ was))
       → (r ≡ Err (Memory true) → IfSome was_left (λ input. (answer : Answer) × ServesBytes day input (state g old) (state g new) answer))
-      → ((done : Bool) → r ≡ Err (Write done) → (given text : List ℕ) × (count : ℕ) × Consumes was_left left given × IsAnswered g done day given old new text × Appends (contents was) (contents now) (take count text))
-      → ((done : Bool) → r ≡ Err (Write done) → IfSome was_left (λ input. (text : List ℕ) × (count : ℕ) × IsAnswered g done day input old new text × (count < length text)
+      → ((done : Bool) → r ≡ Err (Write done) → (given text : List ℕ) × (count : ℕ) × Consumes was_left left given × IsAnswered g (record { day = day; bytes = given }) (record { text = text; done = done }) old new × Appends (contents was) (contents now) (take count text))
+      → ((done : Bool) → r ≡ Err (Write done) → IfSome was_left (λ input. (text : List ℕ) × (count : ℕ) × IsAnswered g (record { day = day; bytes = input }) (record { text = text; done = done }) old new × (count < length text)
       × Appends (contents was) (contents now) (take count text)))
       → Comes {T = T'} (Err (desk_failure fault)) (contents was) (contents now)
   in_part T' was now contents r Read is read unserved served all written all_written =

@@ -11,8 +11,7 @@ use Rattle.office_history.specs.Runs.{IsLegal, Item, Run}
 use Rattle.office_asking.specs.Pictures.{Pictures}
 use Rattle.office_engine.specs.Keeping.{IsKeptBy, IsLegalAndKept, KeepsTables, after_policy}
 use Rattle.desk_listening.specs.Listening.{Connection, IsAfterAll, lost, refused, served}
-use Rattle.http_desk.specs.RecordLists.{RequestRecord}
-use Rattle.desk_serving.specs.Serving.{IsAnswered}
+use Rattle.desk_serving.specs.Serving.{DeskRequest, IsAnswered}
 use Rattle.http_desk.specs.Replaying.{AnswersEach}
 use Rattle.http_desk.specs.ReplayRuns as runs
 use Rattle.http_desk.specs.ReplayRuns.{IsRunOf}
@@ -42,7 +41,7 @@ unchanged h old new legal same kept = record {
   kept = λ is_open. let it = same is_open in let keeps = kept it.0 in (subst (Pictures h) (sym it.1) keeps.0, it.2 ∙ sym it.1);
 }
 
-pub answered_from : {S : Type 0} (g : Ghosts S) (done : Bool) (day : Date) (bytes text : List ℕ) (old new : Held S) → IsAnswered g done day bytes old new text
+pub answered_from : {S : Type 0} (g : Ghosts S) (done : Bool) (day : Date) (bytes text : List ℕ) (old new : Held S) → IsAnswered g (record { day = day; bytes = bytes }) (record { text = text; done = done }) old new
     → HasCleanDisk (state g new) → (h : History) → IsLegal h → IsKeptBy h (state g old) → (next : History) × IsAnsweredFrom h day bytes text next × IsLegalAndKept next (state g new)
 answered_from g true day bytes text old new is clean h legal kept =
     let it = is.1.2 in
@@ -68,14 +67,14 @@ deeds_lead g (deed ∷ deeds) old new are clean h legal kept =
 
 -- ---- records and connections
 
-pub records_are_done : {S : Type 0} (g : Ghosts S) (items : List RequestRecord) (texts : List (List ℕ)) (old new : Held S) → AnswersEach g old items texts new → AreDone g (deeds_of_records items texts) old new
+pub records_are_done : {S : Type 0} (g : Ghosts S) (items : List DeskRequest) (texts : List (List ℕ)) (old new : Held S) → AnswersEach g old items texts new → AreDone g (deeds_of_records items texts) old new
 records_are_done g [] [] old new each = each
 records_are_done g (item ∷ items) (text ∷ texts) old new each = (each.0, each.1, records_are_done g items texts each.0 new each.2)
 records_are_done g [] (text ∷ texts) old new each = absurd each
 records_are_done g (item ∷ items) [] old new each = absurd each
 
 -- each record has a text
-pub as_many : {S : Type 0} (g : Ghosts S) (items : List RequestRecord) (texts : List (List ℕ)) (old new : Held S) → AnswersEach g old items texts new → length texts ≡ length items
+pub as_many : {S : Type 0} (g : Ghosts S) (items : List DeskRequest) (texts : List (List ℕ)) (old new : Held S) → AnswersEach g old items texts new → length texts ≡ length items
 as_many g [] [] old new each = refl
 as_many g (item ∷ items) (text ∷ texts) old new each = let more = as_many g items texts each.0 new each.2 in omega arith
 as_many g [] (text ∷ texts) old new each = absurd each
@@ -93,7 +92,7 @@ connections_are_done g day (lost ∷ more) old new all =
 
 -- ---- records are a run
 
-one_more : (item : RequestRecord) (text : List ℕ) (items : List RequestRecord) (texts : List (List ℕ)) (h mid next : History) → IsAnsweredFrom h item.day item.bytes text mid
+one_more : (item : DeskRequest) (text : List ℕ) (items : List DeskRequest) (texts : List (List ℕ)) (h mid next : History) → IsAnsweredFrom h item.day item.bytes text mid
     → ((run : List Item) × (answers : List Answer) × IsRunOf items texts run answers × Run mid run answers next)
     → (run : List Item) × (answers : List Answer) × IsRunOf (item ∷ items) (text ∷ texts) run answers × Run h run answers next
 one_more item text items texts h mid next (by_office heard asked answer hears asks step is) rest = (
@@ -109,7 +108,7 @@ one_more item text items texts h mid next (by_desk refusal hears same is) rest =
   subst (λ (x : History). Run x rest.0 rest.1 next) same rest.3,
 )
 
-pub answers_are_runs : (items : List RequestRecord) (texts : List (List ℕ)) (h next : History) → length texts ≡ length items → LeadOn (deeds_of_records items texts) h next
+pub answers_are_runs : (items : List DeskRequest) (texts : List (List ℕ)) (h next : History) → length texts ≡ length items → LeadOn (deeds_of_records items texts) h next
     → (run : List Item) × (answers : List Answer) × IsRunOf items texts run answers × Run h run answers next
 answers_are_runs [] [] h next same leads = ([], [], runs.none, leads)
 answers_are_runs (item ∷ items) (text ∷ texts) h next same leads =

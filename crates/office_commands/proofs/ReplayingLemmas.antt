@@ -5,7 +5,8 @@ use Rattle.std.proofs.lemmas.List.{append-nil}
 use Rattle.std.specs.Io.KnownBytes.{Appends, Consumes, IsAtEnd, Keeps}
 use Rattle.sqlite.specs.Held.{Held}
 use Rattle.sqlite.specs.Store.{Ghosts}
-use Rattle.http_desk.specs.RecordLists.{RequestRecord, answer_texts}
+use Rattle.http_desk.specs.RecordLists.{answer_texts}
+use Rattle.desk_serving.specs.Serving.{DeskRequest}
 use Rattle.http_desk.specs.Replaying.{HasAnswered, HasDone, Stopped}
 use Rattle.http_desk.specs.declared.replaying.ReplayFault.{ReplayFault}
 use Rattle.http_desk.specs.declared.replaying.ReplayStop.{ReplayStop}
@@ -25,7 +26,7 @@ abbrev pub Comes : {S T : Type 0} → Ghosts S → Held S → Held S → Result 
 Comes g first last r was now = (deeds : List Deed) × ComesOfReplay r deeds was now × AreDone g deeds first last
 
 -- memory ran out after the last answer, or before it was printed
-so_many : (fault : ReplayFault) (items : List RequestRecord) (texts : List (List ℕ)) → length texts ≡ length items → fault.done ≡ length items → (fault.done ≡ fault.answered) ⊎ (fault.done ≡ fault.answered + 1)
+so_many : (fault : ReplayFault) (items : List DeskRequest) (texts : List (List ℕ)) → length texts ≡ length items → fault.done ≡ length items → (fault.done ≡ fault.answered) ⊎ (fault.done ≡ fault.answered + 1)
     → (fault.answered ≡ length texts) ⊎ (fault.answered + 1 ≡ length texts)
 so_many fault items texts many done (inl same) = inl (sym same ∙ (done ∙ sym many))
 so_many fault items texts many done (inr more) = inr (sym more ∙ (done ∙ sym many))
@@ -37,7 +38,7 @@ module _ {S : Type 0} (g : Ghosts S) (first last : Held S) (was_left left held h
   abbrev pub now : Traffic
   now = record { input = left; output = holds }
 
-  answered : (items : List RequestRecord) (rest : List ℕ) (has : HasAnswered g first last was_left left held holds items rest) → AreAsked items has.texts rest (deeds_of_records items has.texts) was now
+  answered : (items : List DeskRequest) (rest : List ℕ) (has : HasAnswered g first last was_left left held holds items rest) → AreAsked items has.texts rest (deeds_of_records items has.texts) was now
   answered items rest has = record {
     gives = subst (Consumes was_left left) has.records.text has.reads;
     each = has.records.each;
@@ -47,7 +48,7 @@ module _ {S : Type 0} (g : Ghosts S) (first last : Held S) (was_left left held h
   }
 
   -- the answers are written, and then the output hands them on or fails to
-  pub ended : {T : Type 0} (r : Result T CommandFault) (mid : Option (List ℕ)) (items : List RequestRecord) → IfErr r (λ fault. fault ≡ Failed Device (Some Output))
+  pub ended : {T : Type 0} (r : Result T CommandFault) (mid : Option (List ℕ)) (items : List DeskRequest) → IfErr r (λ fault. fault ≡ Failed Device (Some Output))
       → HasAnswered g first last was_left left held mid items [] → IsAtEnd left → Keeps mid holds → Comes g first last r was now
   ended {T} r mid items fails has at_end kept = go r fails
     where
@@ -70,7 +71,7 @@ module _ {S : Type 0} (g : Ghosts S) (first last : Held S) (was_left left held h
       → Stopped g first last was_left left held holds fault fault.stop → Comes {T = T} g first last (Err named) was now
   stopped T fault named is stop = subst (λ (f : CommandFault). Comes {T = T} g first last (Err f) was now) (sym is) (go fault.stop stop)
     where
-      part_asked : (items : List RequestRecord) (texts : List (List ℕ)) (part : List ℕ) (has : HasDone g first last was_left left held holds items texts fault.answered part)
+      part_asked : (items : List DeskRequest) (texts : List (List ℕ)) (part : List ℕ) (has : HasDone g first last was_left left held holds items texts fault.answered part)
           → AreAsked items texts has.rest (deeds_of_records items texts) was now
       part_asked items texts part has = record {
         gives = has.reads;

@@ -15,8 +15,7 @@ use Rattle.desk_hearing.specs.Asked.{HeardValue}
 use Rattle.desk_hearing.specs.Hearing.{Hears}
 use Rattle.desk_answers.specs.Answers.{answer_text, refusal_text}
 use Rattle.desk_listening.specs.Listening.{Connection, lost, refused, served}
-use Rattle.http_desk.specs.RecordLists.{RequestRecord}
-use Rattle.desk_serving.specs.Serving.{IsAnswered, IsItemOf}
+use Rattle.desk_serving.specs.Serving.{DeskRequest, IsAnswered, IsItemOf}
 
 pub data Deed : Type 0 where
   -- the policy is installed
@@ -37,7 +36,7 @@ IsDone g (installs policy) old new =
 IsDone g (fails policy) old new =
     Survives (state g old) (state g new) (CommitsTo (state g old) (after_policy policy))
     × (HasCleanDisk (state g new) → KeepsTables (state g old) (state g new))
-IsDone g (answers day bytes text) old new = (done : Bool) × IsAnswered g done day bytes old new text
+IsDone g (answers day bytes text) old new = (done : Bool) × IsAnswered g (record { day = day; bytes = bytes }) (record { text = text; done = done }) old new
 
 abbrev pub AreDone : {S : Type 0} → Ghosts S → List Deed → Held S → Held S → Type 0
 AreDone g [] old new = new ≡ old
@@ -64,12 +63,12 @@ LeadOn (deed ∷ deeds) h next = (mid : History) × Leads deed h mid × LeadOn d
 -- ---- the deeds of records and of connections
 
 -- each record is answered with its text
-abbrev pub deeds_of_records : List RequestRecord → List (List ℕ) → List Deed
+abbrev pub deeds_of_records : List DeskRequest → List (List ℕ) → List Deed
 deeds_of_records (item ∷ items) (text ∷ texts) = answers item.day item.bytes text ∷ deeds_of_records items texts
 deeds_of_records _ _ = []
 
 -- what was heard over each connection, as a record of that day; one that was lost is none
-abbrev pub records_of_connections : Date → List Connection → List RequestRecord
+abbrev pub records_of_connections : Date → List Connection → List DeskRequest
 records_of_connections day [] = []
 records_of_connections day (served bytes item answer whole ∷ more) = record { day = day; bytes = bytes } ∷ records_of_connections day more
 records_of_connections day (refused bytes refusal ∷ more) = record { day = day; bytes = bytes } ∷ records_of_connections day more

@@ -9,7 +9,8 @@ use Rattle.desk_routes.specs.declared.refusal.DeskRefusal.TheVariants.{Truncated
 use Rattle.desk_hearing.specs.Hearing.{Hears}
 use Rattle.desk_listening.specs.Listening.{Connection}
 use Rattle.http_desk.specs.Records.{BeginsWithNone}
-use Rattle.http_desk.specs.RecordLists.{AreRecords, RequestRecord, answer_texts, max_records, request_texts}
+use Rattle.http_desk.specs.RecordLists.{AreRecords, answer_texts, max_records, request_texts}
+use Rattle.desk_serving.specs.Serving.{DeskRequest}
 use Rattle.http_desk.specs.Replaying.{IsBegun, IsNoRecord}
 use Rattle.streams.specs.Writing.{IsCutShort}
 use Rattle.office_commands.specs.Deeds.{Deed, answers, deeds_of_connections, deeds_of_records, fails, installs}
@@ -83,7 +84,7 @@ ComesOfAsk day (Err (faults.Policy refused)) deeds was now = ⊥
 -- ---- records of requests
 
 -- What the input gives begins with these records, `rest` follows them, and each is answered with its text.
-pub record AreAsked (items : List RequestRecord) (texts : List (List ℕ)) (rest : List ℕ) (deeds : List Deed) (was now : Traffic) : Type 0 where
+pub record AreAsked (items : List DeskRequest) (texts : List (List ℕ)) (rest : List ℕ) (deeds : List Deed) (was now : Traffic) : Type 0 where
   pub gives : InputGives (request_texts items ++ rest) was now
   pub each : AreRecords items
   pub few : length items ≤ max_records
@@ -103,7 +104,7 @@ PrintsAllOrBut texts was now =
 
 -- Where the input fails, each whole record that it gave is answered, and the answer written. Where the output fails, the last answer isn't handed on, or
 -- a beginning of it is written. Where memory runs out, the last answer may not be written.
-abbrev pub ReplaysInPart : StoreFault → Option Cause → List RequestRecord → List (List ℕ) → List ℕ → Traffic → Traffic → Type 0
+abbrev pub ReplaysInPart : StoreFault → Option Cause → List DeskRequest → List (List ℕ) → List ℕ → Traffic → Traffic → Type 0
 ReplaysInPart Device (Some Input) items texts rest was now = BeginsWithNone rest × WritesText (answer_texts texts) was now
 ReplaysInPart Device (Some Output) items texts rest was now = PrintsAllOrBegins texts was now
 ReplaysInPart Memory None items texts rest was now = PrintsAllOrBut texts was now
@@ -113,14 +114,14 @@ ReplaysInPart fault cause items texts rest was now = ⊥
 -- are written. Where a device or memory fails, that was so up to some record.
 abbrev pub ComesOfReplay : {T : Type 0} → Result T CommandFault → List Deed → Traffic → Traffic → Type 0
 ComesOfReplay (Ok _) deeds was now =
-    (items : List RequestRecord) × (texts : List (List ℕ)) × AreAsked items texts [] deeds was now
+    (items : List DeskRequest) × (texts : List (List ℕ)) × AreAsked items texts [] deeds was now
     × IsAtEnd now.input × WritesText (answer_texts texts) was now
 ComesOfReplay (Err (BadRecord index)) deeds was now =
-    (items : List RequestRecord) × (texts : List (List ℕ)) × (rest : List ℕ) × AreAsked items texts rest deeds was now
+    (items : List DeskRequest) × (texts : List (List ℕ)) × (rest : List ℕ) × AreAsked items texts rest deeds was now
     × IsNoRecord now.input (length items) rest × (length items < max_records → BeginsWithNone rest)
     × (index ≡ length items + 1) × WritesText (answer_texts texts) was now
 ComesOfReplay (Err (Failed fault cause)) deeds was now =
-    (items : List RequestRecord) × (texts : List (List ℕ)) × (rest : List ℕ) × AreAsked items texts rest deeds was now
+    (items : List DeskRequest) × (texts : List (List ℕ)) × (rest : List ℕ) × AreAsked items texts rest deeds was now
     × ReplaysInPart fault cause items texts rest was now
 ComesOfReplay (Err (faults.Policy refused)) deeds was now = ⊥
 

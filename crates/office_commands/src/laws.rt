@@ -15,7 +15,7 @@ ghost use Rattle.office_tables.specs.Found.{HoldsWhere};
 ghost use Rattle.office_engine.specs.Keeping.{IsKeptBy, IsLeftAt, IsLegalAndKept};
 ghost use Rattle.office_tables.specs.declared.version.TableVersion.{TableVersion as Version};
 ghost use Rattle.desk_listening.specs.Listening.{Connection};
-ghost use Rattle.http_desk.specs.RecordLists.{RequestRecord};
+ghost use Rattle.desk_serving.specs.Serving.{DeskRequest};
 ghost use Rattle.http_desk.specs.ReplayRuns.{IsRunOf};
 ghost use Rattle.office_commands.specs.Deeds.{AreDone, Deed, LeadOn, deeds_of_connections, deeds_of_records, records_of_connections, texts_of_connections};
 ghost use Rattle.office_commands.specs.Stores.{InFile, InMemory, LeadsInto, made_office};
@@ -52,7 +52,7 @@ pub fn files_lead_on<D: Disk>()
 /// Where records are answered, or what is heard over connections, the texts are those of a run of the office
 /// that asks what is heard, and of the desk's refusals.
 pub fn answers_are_runs()
-    ensures records { (items : List RequestRecord) (texts : List (List ℕ)) (h next : History)
+    ensures records { (items : List DeskRequest) (texts : List (List ℕ)) (h next : History)
         → length texts ≡ length items → LeadOn (deeds_of_records items texts) h next
         → (run : List Item) × (answers : List Answer) × IsRunOf items texts run answers
         × Run h run answers next }
