@@ -10,7 +10,10 @@ use Rattle.office_history.specs.Runs.{Item}
 use Rattle.office_engine.specs.Keeping.{IsKeptBy, Runs, Serves}
 use Rattle.std.proofs.lemmas.List.Sums.{sum_by-append}
 use Rattle.std.proofs.lemmas.Option.{IfSome_then}
+use Rattle.std.specs.Prelude.{MatchBool}
 use Rattle.std.specs.Io.KnownBytes.{Appends, Consumes, IsAtEnd}
+use Rattle.std.specs.declared.io.Read.{Ghosts as Reads}
+use Rattle.std.specs.declared.io.Write.{Ghosts as Writes}
 use Rattle.desk_devices.specs.Devices.{device_of}
 use Rattle.desk_devices.specs.declared.counted.Counted.{Counted}
 use Rattle.desk_routes.specs.declared.refusal.DeskRefusal.TheVariants.{Truncated}
@@ -25,9 +28,11 @@ use Rattle.desk_serving.specs.declared.serving.DeskFault.TheVariants.{Read, Writ
 use Rattle.desk_serving.specs.Serving.{IsAnswered, ServesBytes}
 use Rattle.desk_listening.specs.Listening.{Connection, served, refused, lost, IsAfter, IsAfterAll, IsOf, IsRun, Tells, answers_of, is_answered, is_served, items_of}
 use Rattle.desk_listening.specs.Accepting.{Takes, TakesAll}
-use Rattle.desk_listening.specs.Peers.{WritesBeginning, IsWritten}
+use Rattle.desk_listening.specs.Peers.{IsWritten, Leaves, Link, WritesBeginning}
 use Rattle.desk_listening.specs.declared.draining.Drained.{Drained}
 use Rattle.desk_listening.specs.declared.listener.Listener.{Ghosts as Listeners}
+use Rattle.desk_listening.specs.declared.patience.Patience.{Patience}
+use Rattle.desk_listening.specs.declared.peer.Peer.{Ghosts as Peers}
 
 -- ---- how many were answered
 
@@ -55,6 +60,18 @@ small false = omega arith
 pub left_so : {E A C D : Type 0} (B : Drained → Type 0) (result : Result Drained E) → OnOk result A → IfOk result B → OnErr result C → OnErr result D → ((drained : Drained) × A × B drained) ⊎ (C × D)
 left_so B (Ok drained) shut dropped failed kept = inl (drained, shut, dropped)
 left_so B (Err e) shut dropped failed kept = inr (failed, kept)
+
+module _ {P R W : Type 0} (p : Peers P R W) (r : Reads R) (w : Writes W) (patience : Patience) (old new : Link P R W) where
+  abbrev pub LeavesAfter : Bool → Type 0
+  LeavesAfter whole = MatchBool whole (Leaves (record { peer = p; reads = r; writes = w }) patience old new) (new.peer ≡ old.peer)
+
+  -- after a whole answer
+  pub left_whole : (whole : Bool) → whole ≡ true → Leaves (record { peer = p; reads = r; writes = w }) patience old new → LeavesAfter whole
+  left_whole whole is left = subst LeavesAfter (sym is) left
+
+  -- after any other
+  pub left_alone : (whole : Bool) → whole ≡ false → new.peer ≡ old.peer → LeavesAfter whole
+  left_alone whole is left = subst LeavesAfter (sym is) left
 
 -- ---- one more connection is taken
 

@@ -1,5 +1,5 @@
 -- What is done with the connection to a peer. `old` is its state before and `new` its state after. The rules are Depot's own.
-use Rattle.std.specs.Prelude.{◌≡◌, ◌≤◌, ◌<◌, ◌⊎◌, ℕ, List, [], ◌∷◌, Bool, true, false, Option, Result, Ok, Err, IfSome, length, take}
+use Rattle.std.specs.Prelude.{◌≡◌, ◌≤◌, ◌<◌, ◌⊎◌, ℕ, List, [], ◌∷◌, Bool, true, false, MatchBool, MatchResult, Option, Result, Ok, Err, IfSome, length, take}
 use Rattle.std.specs.Io.KnownBytes.{Appends, Consumes, IsAtEnd}
 use Rattle.std.specs.declared.io.Error.{Error}
 use Rattle.std.specs.declared.io.Read.{Ghosts as Reads}
@@ -46,18 +46,18 @@ Opens {P} p wait old (Err error) new = Fails p.does (waits wait) old new ⊎ ((m
 
 -- ---- what still comes
 
--- why no more was read: the input was at its end, so many bytes had come, or a read failed
-abbrev pub Stops : {R : Type 0} → Reads R → ℕ → List ℕ → Counted R → Counted R → Drained → Type 0
-Stops r most bytes old new End = IsAtEnd (r.remaining (device_of new)) × (failures_of new ≡ failures_of old)
-Stops r most bytes old new Enough = (length bytes ≡ most) × (failures_of new ≡ failures_of old)
-Stops r most bytes old new Failed = failures_of new ≡ one_more (failures_of old)
+-- why no more was read: the input was at its end, enough had come, or a read failed
+abbrev pub Stops : {R : Type 0} → Reads R → Type 0 → Counted R → Counted R → Drained → Type 0
+Stops r enough old new End = IsAtEnd (r.remaining (device_of new)) × (failures_of new ≡ failures_of old)
+Stops r enough old new Enough = enough × (failures_of new ≡ failures_of old)
+Stops r enough old new Failed = failures_of new ≡ one_more (failures_of old)
 
 -- it was read and dropped, so many bytes at most
 pub record Drops {R : Type 0} (r : Reads R) (most : ℕ) (old new : Counted R) (drained : Drained) : Type 0 where
   pub bytes : List ℕ
   pub came : Consumes (r.remaining (device_of old)) (r.remaining (device_of new)) bytes
   pub few : length bytes ≤ most
-  pub stops : Stops r most bytes old new drained
+  pub stops : Stops r (length bytes ≡ most) old new drained
 
 -- ---- what is written
 
@@ -73,32 +73,36 @@ IsWritten lost held holds = (refusal : DeskRefusal) × WritesBeginning held hold
 
 -- ---- a whole connection
 
-module _ {P R W : Type 0} (p : Peers P R W) (r : Reads R) (w : Writes W) (patience : Patience) where
-  -- a peer that got its whole answer: the writing side alone was shut, the wait of a read set anew, and what still came was dropped; or
-  -- one of the two calls failed, and nothing came after it
-  pub record Leaves (reader after : Counted R) (old new : P) : Type 0 where
-    pub heard : Counted R
-    pub given : List ℕ
-    pub came : Consumes (r.remaining (device_of reader)) (r.remaining (device_of heard)) given
-    pub left : ((drained : Drained) × Works p.does (leaving patience.rest) old new × Drops r patience.rest_bytes heard after drained)
-        ⊎ (Fails p.does (leaving patience.rest) old new × (after ≡ heard))
+-- the calls on a peer, on what reads from it and on what writes to it
+pub record Calls (P R W : Type 0) : Type 1 where
+  pub peer : Peers P R W
+  pub reads : Reads R
+  pub writes : Writes W
 
-  -- with any other peer nothing more was done
-  abbrev pub IsLeft : Bool → Counted R → Counted R → P → P → Type 0
-  IsLeft true reader after old new = Leaves reader after old new
-  IsLeft false reader after old new = new ≡ old
+-- a connection at some moment: its peer, and its ends
+pub record Link (P R W : Type 0) : Type 0 where
+  pub peer : P
+  pub ends : Ends R W
 
-  -- what came over these ends: where all that there was to read is known, it is what was heard
-  pub record Talks (ends after : Ends R W) (connection : Connection) (old new : P) : Type 0 where
-    pub heard : IfSome (r.remaining (device_of ends.reader)) (λ input. IsOf input connection)
-    pub written : IsWritten connection (w.contents (device_of ends.writer)) (w.contents (device_of after.writer))
-    pub left : IsLeft (is_answered connection) ends.reader after.reader old new
+-- a peer that got its whole answer: the writing side alone was shut, the wait of a read set anew, and what still came was dropped; or
+-- one of the two calls failed, and nothing came after it
+pub record Leaves {P R W : Type 0} (calls : Calls P R W) (patience : Patience) (old new : Link P R W) : Type 0 where
+  pub heard : Counted R
+  pub given : List ℕ
+  pub came : Consumes (calls.reads.remaining (device_of old.ends.reader)) (calls.reads.remaining (device_of heard)) given
+  pub left : ((drained : Drained) × Works calls.peer.does (leaving patience.rest) old.peer new.peer × Drops calls.reads patience.rest_bytes heard new.ends.reader drained)
+      ⊎ (Fails calls.peer.does (leaving patience.rest) old.peer new.peer × (new.ends.reader ≡ heard))
 
-  -- without ends nothing comes
-  abbrev pub TalksOver : Result (Ends R W) Error → Connection → P → P → Type 0
-  TalksOver (Ok ends) connection old new = (after : Ends R W) × Talks ends after connection old new
-  TalksOver (Err error) connection old new = (connection ≡ lost) × (new ≡ old)
+-- What came over a connection: where all that there was to read is known, it is what was heard. With a peer that did not get its
+-- whole answer nothing more was done.
+pub record Talks {P R W : Type 0} (calls : Calls P R W) (patience : Patience) (old : Link P R W) (connection : Connection) (new : Link P R W) : Type 0 where
+  pub heard : IfSome (calls.reads.remaining (device_of old.ends.reader)) (λ input. IsOf input connection)
+  pub written : IsWritten connection (calls.writes.contents (device_of old.ends.writer)) (calls.writes.contents (device_of new.ends.writer))
+  pub left : MatchBool (is_answered connection) (Leaves calls patience old new) (new.peer ≡ old.peer)
 
-  -- a connection was opened, served and left so
-  abbrev pub Treats : P → Connection → P → Type 0
-  Treats old connection new = (ends : Result (Ends R W) Error) × (mid : P) × Opens p patience.talk old ends mid × TalksOver ends connection mid new
+-- a connection was opened, served and left so; without ends nothing comes
+abbrev pub Treats : {P R W : Type 0} → Calls P R W → Patience → P → Connection → P → Type 0
+Treats {P} {R} {W} calls patience old connection new =
+    (ends : Result (Ends R W) Error) × (mid : P) × Opens calls.peer patience.talk old ends mid
+    × MatchResult ends (λ opened. (after : Ends R W) × Talks calls patience (record { peer = mid; ends = opened }) connection (record { peer = new; ends = after }))
+    (λ _. (connection ≡ lost) × (new ≡ mid))

@@ -28,10 +28,10 @@ fn serve_ends<S: Alter, P: Peer>(
     patience: &Patience,
 ) -> Result<(), DeskFault>
     ensures { (connection : Connection)
-        × IsAfter S.Store day connection office.old office.new
-        × Tells result connection
-        × Talks P.Peer P.Reader.Read P.Writer.Write patience.now ends.old ends.new connection
-        peer.old peer.new }
+        × IsAfter S.Store day connection office.old office.new × Tells result connection
+        × Talks (record { peer = P.Peer; reads = P.Reader.Read; writes = P.Writer.Write })
+        patience.now (record { peer = peer.old; ends = ends.old }) connection
+        (record { peer = peer.new; ends = ends.new }) }
 {
     match serve_one(alloc, office, day, &mut ends.reader, &mut ends.writer) {
         Ok(()) => {
@@ -53,9 +53,9 @@ pub fn serve_peer<S: Alter, P: Peer>(
     patience: &Patience,
 ) -> Result<(), DeskFault>
     ensures { (connection : Connection)
-        × IsAfter S.Store day connection office.old office.new
-        × Tells result connection
-        × Treats P.Peer P.Reader.Read P.Writer.Write patience.now peer.old connection peer.new }
+        × IsAfter S.Store day connection office.old office.new × Tells result connection
+        × Treats (record { peer = P.Peer; reads = P.Reader.Read; writes = P.Writer.Write })
+        patience.now peer.old connection peer.new }
 {
     match open(peer, patience.talk) {
         Ok(mut ends) => serve_ends(alloc, office, day, peer, &mut ends, patience),
@@ -75,8 +75,9 @@ fn serve_next<S: Alter, P: Peer, L: Listener<Stream = P>>(
     ensures served { IfOk result (λ answered. (connection : Connection)
         × (is_answered connection ≡ answered)
         × IsAfter S.Store day connection office.old office.new
-        × Takes L.Listener (Treats P.Peer P.Reader.Read P.Writer.Write patience.now) connection
-        listener.old listener.new) }
+        × Takes L.Listener
+        (Treats (record { peer = P.Peer; reads = P.Reader.Read; writes = P.Writer.Write })
+        patience.now) connection listener.old listener.new) }
     ensures failed { IfErr result (λ error. ¬ EndsAlone (error_kind error)) }
     ensures accepts { IfErr result (λ error. L.accepts listener.old (Err error) listener.new) }
     ensures same { IfErr result (λ _. office.new ≡ office.old) }
@@ -109,8 +110,9 @@ pub fn serve_connections<S: Alter, P: Peer, L: Listener<Stream = P>>(
         × CountsAs connections (served_of result)
         × IsAfterAll S.Store day connections office.old office.new
         × IsRun S.Store connections office.old office.new
-        × TakesAll L.Listener (Treats P.Peer P.Reader.Read P.Writer.Write patience.now) connections
-        listener.old last
+        × TakesAll L.Listener
+        (Treats (record { peer = P.Peer; reads = P.Reader.Read; writes = P.Writer.Write })
+        patience.now) connections listener.old last
         × EndsAt L.Listener result last listener.new }
 {
     let mut answered = 0;

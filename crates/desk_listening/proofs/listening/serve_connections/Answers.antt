@@ -11,7 +11,7 @@ loop-taken-preserved g c =
     let came = c.loop-taken.invariant.came in
     let one = c.in-Ok.ensures.served in
     let added : c.from-answered.result ≡ bool_byte c.in-Ok.whole = c.from-answered.ensures in
-    let treats = Treats g.P.Peer g.P.Reader.Read g.P.Writer.Write c.args.patience.now in
+    let treats = Treats (record { peer = g.P.Peer; reads = g.P.Reader.Read; writes = g.P.Writer.Write }) c.args.patience.now in
     record {
       came = (
         came.0 ++ one.0 ∷ [],

@@ -8,6 +8,6 @@ abbrev pub invariant-loop-taken : goal.invariant-loop-taken
 invariant-loop-taken g l = record {
   came : (connections : List Connection) × (length connections ≡ l.taken) × (count_by is_answered connections ≡ l.answered)
       × IsAfterAll g.S.Store l.day connections l.fn.office l.office
-      × TakesAll g.L.Listener (Treats g.P.Peer g.P.Reader.Read g.P.Writer.Write l.patience) connections l.fn.listener l.listener;
+      × TakesAll g.L.Listener (Treats (record { peer = g.P.Peer; reads = g.P.Reader.Read; writes = g.P.Writer.Write }) l.patience) connections l.fn.listener l.listener;
   few : l.answered ≤ l.taken;
 }

@@ -1,7 +1,7 @@
-use Rattle.std.proofs.Common.{Bool, Ok, Err, refl, sym, subst}
+use Rattle.std.proofs.Common.{Ok, Err, refl}
 use Rattle.desk_devices.specs.Devices.{device_of}
-use Rattle.desk_listening.specs.Peers.{Drops, IsLeft}
-use Rattle.desk_listening.proofs.Connections.{left_so, told}
+use Rattle.desk_listening.specs.Peers.{Drops}
+use Rattle.desk_listening.proofs.Connections.{left_alone, left_so, left_whole, told}
 use Rattle.desk_listening.proofs.listening.serve_ends.Goals as goal
 
 pub returns-in-Ok : goal.returns-in-Ok
@@ -19,12 +19,13 @@ returns-in-Ok g c =
       record {
         heard = it.heard;
         written = it.written;
-        left = subst (λ (whole : Bool). IsLeft g.P.Peer g.P.Reader.Read g.P.Writer.Write c.args.patience.now whole ends.reader after.reader c.args.peer.now after.peer) (sym it.tells) (record {
-          heard = one.reader;
-          given = at.answered.0;
-          came = at.answered.3;
-          left = left_so (Drops g.P.Reader.Read c.args.patience.now.rest_bytes one.reader after.reader) c.hang_up-left.result left.shut left.dropped left.failed left.kept;
-        });
+        left = left_whole g.P.Peer g.P.Reader.Read g.P.Writer.Write c.args.patience.now (record { peer = c.args.peer.now; ends = ends })
+            (record { peer = after.peer; ends = record ends { reader = after.reader; writer = one.writer } }) _ it.tells (record {
+              heard = one.reader;
+              given = at.answered.0;
+              came = at.answered.3;
+              left = left_so (Drops g.P.Reader.Read c.args.patience.now.rest_bytes one.reader after.reader) c.hang_up-left.result left.shut left.dropped left.failed left.kept;
+            });
       },
     )
 
@@ -41,6 +42,7 @@ returns-in-Err g c =
       record {
         heard = it.heard;
         written = it.written;
-        left = subst (λ (whole : Bool). IsLeft g.P.Peer g.P.Reader.Read g.P.Writer.Write c.args.patience.now whole ends.reader one.reader c.args.peer.now c.args.peer.now) (sym it.tells.0) refl;
+        left = left_alone g.P.Peer g.P.Reader.Read g.P.Writer.Write c.args.patience.now (record { peer = c.args.peer.now; ends = ends })
+            (record { peer = c.args.peer.now; ends = record ends { reader = one.reader; writer = one.writer } }) _ it.tells.0 refl;
       },
     )
