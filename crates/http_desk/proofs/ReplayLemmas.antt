@@ -10,7 +10,7 @@ use Rattle.http_desk.specs.Records.{IsRecord, record_text, answer_record, Begins
 use Rattle.http_desk.specs.RecordLists.{AreRecords, request_texts, answer_texts, max_records}
 use Rattle.http_desk.proofs.FoundLemmas.{wanted_none}
 use Rattle.http_desk.proofs.ListLemmas.{texts_more, are_all, rest_shorter}
-use Rattle.http_desk.specs.Replaying.{AnswersRecord, AnswersEach, HasAnswered, HasDone, Replayed}
+use Rattle.http_desk.specs.Replaying.{AnswersRecord, AnswersEach, HasAnswered, HasDone, HasWritten, Moment, Replayed}
 use Rattle.http_desk.specs.ReplaySteps.{AnswersNext, ReadsMore, fault_behind}
 use Rattle.http_desk.specs.declared.answering.Unwritten.{Unwritten}
 use Rattle.http_desk.specs.declared.answering.Unwritten.TheVariants as unwritten
@@ -24,8 +24,8 @@ use Rattle.desk_serving.specs.Serving.{DeskRequest, IsAnswered, ServesBytes}
 -- ---- lists
 
 answers_more : {S : Type 0} (g : Ghosts S) (old now new : Held S) (items : List DeskRequest) (item : DeskRequest) (texts : List (List ℕ)) (text : List ℕ)
-    → AnswersEach g old items texts now → AnswersRecord g now item text new → AnswersEach g old (items ++ item ∷ []) (texts ++ text ∷ []) new
-answers_more g old now new [] item [] text each a = (new, subst (λ o. AnswersRecord g o item text new) each a, refl)
+    → AnswersEach g old items texts now → AnswersRecord g item now new text → AnswersEach g old (items ++ item ∷ []) (texts ++ text ∷ []) new
+answers_more g old now new [] item [] text each a = (new, subst (λ o. AnswersRecord g item o new text) each a, refl)
 answers_more g old now new [] item (first ∷ texts) text each a = absurd each
 answers_more g old now new (i ∷ items) item [] text each a = absurd each
 answers_more g old now new (i ∷ items) item (first ∷ texts) text each a = (each.0, each.1, answers_more g each.0 now new items item texts text each.2 a)
@@ -50,18 +50,22 @@ not_empty day bytes rest all e none = let h = rest_shorter all day bytes rest e 
 
 -- ---- so far
 
+-- a moment of these parts
+abbrev pub moment : {S : Type 0} → Held S → Option (List ℕ) → Option (List ℕ) → Moment S
+moment office input output = record { office = office; input = input; output = output }
+
 -- so many records were done, the answers are written, and these bytes are pending
-pub record Progress {S : Type 0} (g : Ghosts S) (old now : Held S) (input left output written : Option (List ℕ)) (pending : List ℕ) (count : ℕ) : Type 0 where
+pub record Progress {S : Type 0} (g : Ghosts S) (old now : Moment S) (pending : List ℕ) (count : ℕ) : Type 0 where
   pub items : List DeskRequest
   pub texts : List (List ℕ)
-  pub reads : Consumes input left (request_texts items ++ pending)
+  pub reads : Consumes old.input now.input (request_texts items ++ pending)
   pub each : AreRecords items
-  pub answers : AnswersEach g old items texts now
-  pub writes : Appends output written (answer_texts texts)
+  pub answers : AnswersEach g old.office items texts now.office
+  pub writes : Appends old.output now.output (answer_texts texts)
   pub counted : count ≡ length items
   pub few : count ≤ max_records
 
-pub started : {S : Type 0} (g : Ghosts S) (old : Held S) (input output : Option (List ℕ)) (pending : List ℕ) → pending ≡ [] → Progress g old old input input output output pending 0
+pub started : {S : Type 0} (g : Ghosts S) (old : Held S) (input output : Option (List ℕ)) (pending : List ℕ) → pending ≡ [] → Progress g (moment old input output) (moment old input output) pending 0
 started g old input output pending none = record {
   items = [];
   texts = [];
@@ -74,7 +78,7 @@ started g old input output pending none = record {
 }
 
 pub read_on : {S : Type 0} (g : Ghosts S) (old now : Held S) (input left next output written : Option (List ℕ)) (pending more all : List ℕ) (count : ℕ)
-    → Progress g old now input left output written pending count → Consumes left next more → all ≡ pending ++ more → Progress g old now input next output written all count
+    → Progress g (moment old input output) (moment now left written) pending count → Consumes left next more → all ≡ pending ++ more → Progress g (moment old input output) (moment now next written) all count
 read_on g old now input left next output written pending more all count p c e = record {
   items = p.items;
   texts = p.texts;
@@ -87,8 +91,8 @@ read_on g old now input left next output written pending more all count p c e = 
 }
 
 pub answered_on : {S : Type 0} (g : Ghosts S) (old now new : Held S) (input left output written more : Option (List ℕ)) (pending rest : List ℕ) (count : ℕ) (item : DeskRequest) (text : List ℕ)
-    → Progress g old now input left output written pending count → IsRecord item.day item.bytes → pending ≡ record_text item.day item.bytes ++ rest → count < max_records
-    → AnswersRecord g now item text new → Appends written more (answer_record text) → Progress g old new input left output more rest (count + 1)
+    → Progress g (moment old input output) (moment now left written) pending count → IsRecord item.day item.bytes → pending ≡ record_text item.day item.bytes ++ rest → count < max_records
+    → AnswersRecord g item now new text → Appends written more (answer_record text) → Progress g (moment old input output) (moment new left more) rest (count + 1)
 answered_on g old now new input left output written more pending rest count item text p is e low a w = record {
   items = p.items ++ item ∷ [];
   texts = p.texts ++ text ∷ [];
@@ -103,12 +107,12 @@ answered_on g old now new input left output written more pending rest count item
 -- ---- ends
 
 pub stopped_by : {S : Type 0} (g : Ghosts S) (old now : Held S) (input left output written : Option (List ℕ)) (fault told : ReplayFault) → fault ≡ told
-    → Replayed g old now input left output written (Err told) → Replayed g old now input left output written (Err fault)
-stopped_by g old now input left output written fault told e h = subst (λ f. Replayed g old now input left output written (Err f)) (sym e) h
+    → Replayed g (moment old input output) (moment now left written) (Err told) → Replayed g (moment old input output) (moment now left written) (Err fault)
+stopped_by g old now input left output written fault told e h = subst (λ f. Replayed g (moment old input output) (moment now left written) (Err f)) (sym e) h
 
 -- what follows the records is no whole record, or there are as many as there may be
 answered_all : {S : Type 0} (g : Ghosts S) (old now : Held S) (input left output written : Option (List ℕ)) (pending : List ℕ) (count : ℕ)
-    → (p : Progress g old now input left output written pending count) → (count < max_records → BeginsWithNone pending) → HasAnswered g old now input left output written p.items pending
+    → (p : Progress g (moment old input output) (moment now left written) pending count) → (count < max_records → BeginsWithNone pending) → HasAnswered g (moment old input output) (moment now left written) p.items pending
 answered_all g old now input left output written pending count p none = record {
   given = request_texts p.items ++ pending;
   texts = p.texts;
@@ -119,16 +123,16 @@ answered_all g old now input left output written pending count p none = record {
 }
 
 pub ended : {S : Type 0} (g : Ghosts S) (old now : Held S) (input left next output written : Option (List ℕ)) (pending : List ℕ) (count : ℕ)
-    → Progress g old now input left output written pending count → WantsMore pending → pending ≡ [] → Consumes left next [] → IsAtEnd next
-    → Replayed g old now input next output written (Ok count)
+    → Progress g (moment old input output) (moment now left written) pending count → WantsMore pending → pending ≡ [] → Consumes left next [] → IsAtEnd next
+    → Replayed g (moment old input output) (moment now next written) (Ok count)
 ended g old now input left next output written pending count p wants none c at_end =
     let q = read_on g old now input left next output written pending [] pending count p c (sym (append-nil pending)) in
-    let P : List ℕ → Type 0 = λ l. HasAnswered g old now input next output written q.items l in
+    let P : List ℕ → Type 0 = λ l. HasAnswered g (moment old input output) (moment now next written) q.items l in
     (q.items, subst P none (answered_all g old now input next output written pending count q (λ _. wanted_none pending wants)), at_end, q.counted)
 
 pub bad_at_end : {S : Type 0} (g : Ghosts S) (old now : Held S) (input left next output written : Option (List ℕ)) (pending : List ℕ) (count : ℕ)
-    → Progress g old now input left output written pending count → WantsMore pending → pending ≢ [] → Consumes left next [] → IsAtEnd next
-    → Replayed g old now input next output written (Err (record { stop = stops.BadRecord (count + 1); done = count; answered = count }))
+    → Progress g (moment old input output) (moment now left written) pending count → WantsMore pending → pending ≢ [] → Consumes left next [] → IsAtEnd next
+    → Replayed g (moment old input output) (moment now next written) (Err (record { stop = stops.BadRecord (count + 1); done = count; answered = count }))
 bad_at_end g old now input left next output written pending count p wants some c at_end =
     let q = read_on g old now input left next output written pending [] pending count p c (sym (append-nil pending)) in
     (q.items, pending, answered_all g old now input next output written pending count q (λ _. wanted_none pending wants), (some, inl at_end), ap (λ n. n + 1) q.counted, q.counted, q.counted)
@@ -142,8 +146,8 @@ why_bad count n left pending e (inl bad) = inr (inl bad)
 why_bad count n left pending e (inr full) = inr (inr (sym e ∙ full))
 
 pub bad_stop : {S : Type 0} (g : Ghosts S) (old now : Held S) (input left output written : Option (List ℕ)) (pending : List ℕ) (count : ℕ)
-    → Progress g old now input left output written pending count → (pending ≢ []) × (CanNotBegin pending ⊎ (count ≡ max_records))
-    → Replayed g old now input left output written (Err (record { stop = stops.BadRecord (count + 1); done = count; answered = count }))
+    → Progress g (moment old input output) (moment now left written) pending count → (pending ≢ []) × (CanNotBegin pending ⊎ (count ≡ max_records))
+    → Replayed g (moment old input output) (moment now left written) (Err (record { stop = stops.BadRecord (count + 1); done = count; answered = count }))
 bad_stop g old now input left output written pending count p bad = (
   p.items,
   pending,
@@ -154,27 +158,39 @@ bad_stop g old now input left output written pending count p bad = (
   p.counted,
 )
 
--- the records so far, with nothing more written
+-- the records so far
 done_so_far : {S : Type 0} (g : Ghosts S) (old now : Held S) (input left next output written more : Option (List ℕ)) (pending bytes : List ℕ) (count : ℕ)
-    → (p : Progress g old now input left output written pending count) → Consumes left next bytes → Appends written more [] → HasDone g old now input next output more p.items p.texts count []
-done_so_far g old now input left next output written more pending bytes count p c w = record {
+    → (p : Progress g (moment old input output) (moment now left written) pending count) → Consumes left next bytes → HasDone g (moment old input output) (moment now next more) p.items p.texts
+done_so_far g old now input left next output written more pending bytes count p c = record {
   rest = pending ++ bytes;
   reads = subst (Consumes input next) (append_assoc (request_texts p.items) pending bytes) (Consumes-trans input left next (request_texts p.items ++ pending) bytes p.reads c);
   each = p.each;
   few = (let k = p.counted in let f = p.few in omega arith);
   answers = p.answers;
-  writes = subst (λ ts. Appends output more (answer_texts ts ++ [])) (sym (take_all count p.texts (let k = p.counted in let s = same_count g old now p.items p.texts p.answers in omega arith))) (Appends-trans output written more (answer_texts p.texts) [] p.writes w);
 }
 
+-- with nothing more written
+written_so_far : {S : Type 0} (g : Ghosts S) (old now : Held S) (input left next output written more : Option (List ℕ)) (pending : List ℕ) (count : ℕ)
+    → (p : Progress g (moment old input output) (moment now left written) pending count) → Appends written more [] → HasWritten (moment old input output) (moment now next more) p.texts count []
+written_so_far g old now input left next output written more pending count p w =
+    subst (λ ts. Appends output more (answer_texts ts ++ [])) (sym (take_all count p.texts (let k = p.counted in let s = same_count g old now p.items p.texts p.answers in omega arith))) (Appends-trans output written more (answer_texts p.texts) [] p.writes w)
+
 pub unremembered : {S : Type 0} (g : Ghosts S) (old now : Held S) (input left next output written more : Option (List ℕ)) (pending bytes : List ℕ) (count : ℕ)
-    → Progress g old now input left output written pending count → Consumes left next bytes → Appends written more []
-    → Replayed g old now input next output more (Err (record { stop = stops.Memory; done = count; answered = count }))
-unremembered g old now input left next output written more pending bytes count p c w = (p.items, p.texts, done_so_far g old now input left next output written more pending bytes count p c w, p.counted, inl refl)
+    → Progress g (moment old input output) (moment now left written) pending count → Consumes left next bytes → Appends written more []
+    → Replayed g (moment old input output) (moment now next more) (Err (record { stop = stops.Memory; done = count; answered = count }))
+unremembered g old now input left next output written more pending bytes count p c w = (
+  p.items,
+  p.texts,
+  done_so_far g old now input left next output written more pending bytes count p c,
+  written_so_far g old now input left next output written more pending count p w,
+  p.counted,
+  inl refl,
+)
 
 -- a call of the reader failed, or there was no room for what it gave
 pub unread : {S : Type 0} (g : Ghosts S) (old now : Held S) (input left next output written : Option (List ℕ)) (pending after : List ℕ) (count : ℕ) (stop : ReplayStop)
-    → Progress g old now input left output written pending count → WantsMore pending → ReadsMore left next pending after (Err stop)
-    → Replayed g old now input next output written (Err (record { stop = stop; done = count; answered = count }))
+    → Progress g (moment old input output) (moment now left written) pending count → WantsMore pending → ReadsMore left next pending after (Err stop)
+    → Replayed g (moment old input output) (moment now next written) (Err (record { stop = stop; done = count; answered = count }))
 unread g old now input left next output written pending after count stops.Read p wants c =
     let q = read_on g old now input left next output written pending [] pending count p c (sym (append-nil pending)) in
     (q.items, pending, answered_all g old now input next output written pending count q (λ _. wanted_none pending wants), wanted_none pending wants, q.counted, q.counted)
@@ -183,54 +199,66 @@ unread g old now input left next output written pending after count stops.Memory
 unread g old now input left next output written pending after count stops.Write p wants c = absurd c
 unread g old now input left next output written pending after count (stops.BadRecord index) p wants c = absurd c
 
--- one record more is done, and of its answer's record so much is written
-done_one : {S : Type 0} (g : Ghosts S) (old now new : Held S) (input left output written more : Option (List ℕ)) (pending rest : List ℕ) (count : ℕ) (item : DeskRequest) (text part : List ℕ)
-    → (p : Progress g old now input left output written pending count) → IsRecord item.day item.bytes → pending ≡ record_text item.day item.bytes ++ rest → count < max_records
-    → AnswersRecord g now item text new → Appends written more part → HasDone g old new input left output more (p.items ++ item ∷ []) (p.texts ++ text ∷ []) count part
-done_one g old now new input left output written more pending rest count item text part p is e low a w = record {
+-- one record more is done
+done_one : {S : Type 0} (g : Ghosts S) (old now new : Held S) (input left output written more : Option (List ℕ)) (pending rest : List ℕ) (count : ℕ) (item : DeskRequest) (text : List ℕ)
+    → (p : Progress g (moment old input output) (moment now left written) pending count) → IsRecord item.day item.bytes → pending ≡ record_text item.day item.bytes ++ rest → count < max_records
+    → AnswersRecord g item now new text → HasDone g (moment old input output) (moment new left more) (p.items ++ item ∷ []) (p.texts ++ text ∷ [])
+done_one g old now new input left output written more pending rest count item text p is e low a = record {
   rest = rest;
   reads = subst (Consumes input left) (ap (λ l. request_texts p.items ++ l) e ∙ sym (texts_more p.items item rest)) p.reads;
   each = are_all p.items (item ∷ []) p.each (is, tt);
   few = (let k = p.counted in let l = length-append p.items (item ∷ []) in omega arith);
   answers = answers_more g old now new p.items item p.texts text p.answers a;
-  writes =
-      let same : take count (p.texts ++ text ∷ []) ≡ p.texts = ap (λ n. take n (p.texts ++ text ∷ [])) (p.counted ∙ sym (same_count g old now p.items p.texts p.answers)) ∙ front_of p.texts text in
-      subst (λ ts. Appends output more (answer_texts ts ++ part)) (sym same) (Appends-trans output written more (answer_texts p.texts) part p.writes w);
 }
+
+-- and of its answer's record so much is written
+written_one : {S : Type 0} (g : Ghosts S) (old now new : Held S) (input left output written more : Option (List ℕ)) (pending : List ℕ) (count : ℕ) (text part : List ℕ)
+    → (p : Progress g (moment old input output) (moment now left written) pending count) → Appends written more part
+    → HasWritten (moment old input output) (moment new left more) (p.texts ++ text ∷ []) count part
+written_one g old now new input left output written more pending count text part p w =
+    let same : take count (p.texts ++ text ∷ []) ≡ p.texts = ap (λ n. take n (p.texts ++ text ∷ [])) (p.counted ∙ sym (same_count g old now p.items p.texts p.answers)) ∙ front_of p.texts text in
+    subst (λ ts. Appends output more (answer_texts ts ++ part)) (sym same) (Appends-trans output written more (answer_texts p.texts) part p.writes w)
 
 more_items : (items : List DeskRequest) (item : DeskRequest) (count : ℕ) → count ≡ length items → count + 1 ≡ length (items ++ item ∷ [])
 more_items items item count e = let l = length-append items (item ∷ []) in omega arith
 
 -- an answer was not written whole
 pub unwritten_stop : {S : Type 0} (g : Ghosts S) (old now new : Held S) (input left output written more : Option (List ℕ)) (pending rest : List ℕ) (count : ℕ) (item : DeskRequest) (fault : Unwritten) (T : Type 0)
-    → Progress g old now input left output written pending count → IsRecord item.day item.bytes → pending ≡ record_text item.day item.bytes ++ rest → count < max_records
-    → AnswersNext {S = S} {T = T} g now new item written more (Err fault) → Replayed g old new input left output more (Err (fault_behind count fault))
+    → Progress g (moment old input output) (moment now left written) pending count → IsRecord item.day item.bytes → pending ≡ record_text item.day item.bytes ++ rest → count < max_records
+    → AnswersNext {T = T} (AnswersRecord g item now new) (new ≡ now) (Appends written more) (Err fault) → Replayed g (moment old input output) (moment new left more) (Err (fault_behind count fault))
 unwritten_stop g old now new input left output written more pending rest count item unwritten.Write T p is e low a = (
   p.items ++ item ∷ [],
   p.texts ++ a.0 ∷ [],
   take a.1 (answer_record a.0),
-  done_one g old now new input left output written more pending rest count item a.0 (take a.1 (answer_record a.0)) p is e low a.2 a.4,
+  done_one g old now new input left output written more pending rest count item a.0 p is e low a.2,
+  written_one g old now new input left output written more pending count a.0 (take a.1 (answer_record a.0)) p a.4,
   (p.texts, a.0, a.1, refl, a.3, refl),
   more_items p.items item count p.counted,
   refl,
 )
-unwritten_stop g old now new input left output written more pending rest count item (unwritten.Memory true) T p is e low a =
-    (p.items ++ item ∷ [], p.texts ++ a.0 ∷ [], done_one g old now new input left output written more pending rest count item a.0 [] p is e low a.1 a.2, more_items p.items item count p.counted, inr refl)
+unwritten_stop g old now new input left output written more pending rest count item (unwritten.Memory true) T p is e low a = (
+  p.items ++ item ∷ [],
+  p.texts ++ a.0 ∷ [],
+  done_one g old now new input left output written more pending rest count item a.0 p is e low a.1,
+  written_one g old now new input left output written more pending count a.0 [] p a.2,
+  more_items p.items item count p.counted,
+  inr refl,
+)
 unwritten_stop {S} g old now new input left output written more pending rest count item (unwritten.Memory false) T p is e low a =
-    let P : Held S → Type 0 = λ o. Progress g old o input left output written pending count in
+    let P : Held S → Type 0 = λ o. Progress g (moment old input output) (moment o left written) pending count in
     unremembered g old new input left left output written more pending [] count (subst P (sym a.0) p) (Consumes-nil left) a.1
 
 -- no bytes answer: the office may have served the request before
 pub unserved : {S : Type 0} (g : Ghosts S) (T : Type 0) (old new : Held S) (item : DeskRequest) (output : Option (List ℕ)) (told done : Bool) → told ≡ done
     → (done ≡ true → (answer : Answer) × ServesBytes item.day item.bytes (state g old) (state g new) answer) → (done ≡ false → new ≡ old)
-    → AnswersNext {S = S} {T = T} g old new item output output (Err (unwritten.Memory told))
-unserved {S} g T old new item output told done e served kept = let P : Bool → Type 0 = λ d. AnswersNext {S = S} {T = T} g old new item output output (Err (unwritten.Memory d)) in subst P (sym e) (by done served kept)
+    → AnswersNext {T = T} (AnswersRecord g item old new) (new ≡ old) (Appends output output) (Err (unwritten.Memory told))
+unserved {S} g T old new item output told done e served kept = let P : Bool → Type 0 = λ d. AnswersNext {T = T} (AnswersRecord g item old new) (new ≡ old) (Appends output output) (Err (unwritten.Memory d)) in subst P (sym e) (by done served kept)
   where
-    by : (d : Bool) → (d ≡ true → (answer : Answer) × ServesBytes item.day item.bytes (state g old) (state g new) answer) → (d ≡ false → new ≡ old) → AnswersNext {S = S} {T = T} g old new item output output (Err (unwritten.Memory d))
+    by : (d : Bool) → (d ≡ true → (answer : Answer) × ServesBytes item.day item.bytes (state g old) (state g new) answer) → (d ≡ false → new ≡ old) → AnswersNext {T = T} (AnswersRecord g item old new) (new ≡ old) (Appends output output) (Err (unwritten.Memory d))
     by true served kept = let a = served refl in (answer_text a.0, (true, (a.0, a.1, refl)), Appends-nil output)
     by false served kept = (kept refl, Appends-nil output)
 
 -- the bytes of a record are heard as they are
 pub heard_as : {S : Type 0} (g : Ghosts S) (old new : Held S) (day : Date) (given bytes text : List ℕ) (done : Bool) → given ≡ bytes
-    → IsAnswered g (record { day = day; bytes = given }) (record { text = text; done = done }) old new → AnswersRecord g old (record { day = day; bytes = bytes }) text new
+    → IsAnswered g (record { day = day; bytes = given }) (record { text = text; done = done }) old new → AnswersRecord g (record { day = day; bytes = bytes }) old new text
 heard_as g old new day given bytes text done same it = (done, subst (λ (l : List ℕ). IsAnswered g (record { day = day; bytes = l }) (record { text = text; done = done }) old new) same it)

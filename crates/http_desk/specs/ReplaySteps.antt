@@ -1,15 +1,11 @@
 -- What one step of a replay does: a record is found, the reader is called once more, a record is answered. No clause of a public call names
--- these. `input`, `left`, `output` and `written` are as in Replaying. The rules are Depot's own.
+-- these. `input` is what the reader had left before a call, and `left` what it has left after it. The rules are Depot's own.
 use Rattle.std.specs.Prelude.{◌≡◌, ◌≢◌, ◌⊎◌, ◌<◌, ◌≤◌, ◌+◌, ℕ, List, [], ◌++◌, Bool, true, false, Option, Result, Ok, Err, length, take}
-use Rattle.std.specs.Io.KnownBytes.{Appends, Consumes, IsAtEnd}
-use Rattle.sqlite.specs.Held.{Held}
-use Rattle.sqlite.specs.Store.{Ghosts}
+use Rattle.std.specs.Io.KnownBytes.{Consumes, IsAtEnd}
 use Rattle.http_desk.specs.Records.{IsRecord, record_text, answer_record, CanNotBegin, WantsMore}
 use Rattle.http_desk.specs.RecordLists.{max_records}
-use Rattle.desk_serving.specs.Serving.{DeskRequest}
 use Rattle.http_desk.specs.declared.record.Found.{Found}
 use Rattle.http_desk.specs.declared.record.Found.TheVariants as found
-use Rattle.http_desk.specs.Replaying.{AnswersRecord}
 use Rattle.http_desk.specs.declared.answering.Unwritten.{Unwritten}
 use Rattle.http_desk.specs.declared.answering.Unwritten.TheVariants as unwritten
 use Rattle.http_desk.specs.declared.replaying.ReplayStop.{ReplayStop}
@@ -31,13 +27,14 @@ ReadsMore input left pending now (Err stops.Memory) = (more : List ℕ) × Consu
 ReadsMore input left pending now (Err stops.Write) = ⊥
 ReadsMore input left pending now (Err (stops.BadRecord index)) = ⊥
 
--- one record: its answer is written whole, or a beginning of it, or nothing
-abbrev pub AnswersNext : {S T : Type 0} → Ghosts S → Held S → Held S → DeskRequest → Option (List ℕ) → Option (List ℕ) → Result T Unwritten → Type 0
-AnswersNext g old new item output written (Ok _) = (text : List ℕ) × AnswersRecord g old item text new × Appends output written (answer_record text)
-AnswersNext g old new item output written (Err unwritten.Write) =
-    (text : List ℕ) × (n : ℕ) × AnswersRecord g old item text new × (n < length (answer_record text)) × Appends output written (take n (answer_record text))
-AnswersNext g old new item output written (Err (unwritten.Memory true)) = (text : List ℕ) × AnswersRecord g old item text new × Appends output written []
-AnswersNext g old new item output written (Err (unwritten.Memory false)) = (new ≡ old) × Appends output written []
+-- One record: the record of its answer is written whole, or a beginning of it, or nothing. `Answers` says of a text that it answers the record,
+-- `untouched` that nothing is done, and `Writes` of some bytes that they are written.
+abbrev pub AnswersNext : {T : Type 0} → (List ℕ → Type 0) → Type 0 → (List ℕ → Type 0) → Result T Unwritten → Type 0
+AnswersNext Answers untouched Writes (Ok _) = (text : List ℕ) × Answers text × Writes (answer_record text)
+AnswersNext Answers untouched Writes (Err unwritten.Write) =
+    (text : List ℕ) × (n : ℕ) × Answers text × (n < length (answer_record text)) × Writes (take n (answer_record text))
+AnswersNext Answers untouched Writes (Err (unwritten.Memory true)) = (text : List ℕ) × Answers text × Writes []
+AnswersNext Answers untouched Writes (Err (unwritten.Memory false)) = untouched × Writes []
 
 -- the fault of a stop at the record after so many
 abbrev pub fault_behind : ℕ → Unwritten → ReplayFault

@@ -1,7 +1,9 @@
 //! One record, answered.
 
 ghost use Rattle.std.specs.Prelude.{◌≡◌, ◌≢◌, Err};
+ghost use Rattle.std.specs.Io.KnownBytes.{Appends};
 ghost use Rattle.desk_devices.specs.Devices.{HasFailed, device_of, failures_of};
+ghost use Rattle.http_desk.specs.Replaying.{AnswersRecord};
 ghost use Rattle.http_desk.specs.ReplaySteps.{AnswersNext};
 
 use crate::answer::answer_record;
@@ -36,9 +38,10 @@ pub(crate) fn answer_next<S: Alter, W: Write>(
     day: Day,
     bytes: &[u8],
 ) -> Result<(), Unwritten>
-    ensures answered { AnswersNext S.Store office.old office.new
-        (record { day = day; bytes = bytes.now }) (W.contents (device_of writer.old))
-        (W.contents (device_of writer.new)) result }
+    ensures answered { AnswersNext
+        (AnswersRecord S.Store (record { day = day; bytes = bytes.now }) office.old office.new)
+        (office.new ≡ office.old)
+        (Appends (W.contents (device_of writer.old)) (W.contents (device_of writer.new))) result }
     ensures failed { result ≡ Err Unwritten.Write
         → HasFailed (failures_of writer.old) (failures_of writer.new) }
     ensures calm { result ≢ Err Unwritten.Write → failures_of writer.new ≡ failures_of writer.old }

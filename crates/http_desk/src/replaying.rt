@@ -3,7 +3,7 @@
 ghost use Rattle.std.specs.Prelude.{◌≡◌, ◌≢◌, ◌≤◌, ◌<◌, ◌+◌, ℕ, List, length, Err, Ok, IfErr, OnOk, MatchResult};
 ghost use Rattle.desk_devices.specs.Devices.{HasFailed, device_of, failures_of};
 ghost use Rattle.http_desk.specs.RecordLists.{max_records};
-ghost use Rattle.http_desk.specs.Replaying.{Replayed};
+ghost use Rattle.http_desk.specs.Replaying.{Replayed, moment_of};
 ghost use Rattle.http_desk.specs.ReplaySteps.{FoundBehind, ReadsMore, fault_behind};
 
 use crate::answering::{Unwritten, answer_next};
@@ -133,9 +133,9 @@ pub fn replay<S: Alter, R: Read, W: Write>(
     reader: &mut Counted<R>,
     writer: &mut Counted<W>,
 ) -> Result<u64, ReplayFault>
-    ensures replayed { Replayed S.Store office.old office.new (R.remaining (device_of reader.old))
-        (R.remaining (device_of reader.new)) (W.contents (device_of writer.old))
-        (W.contents (device_of writer.new)) result }
+    ensures replayed { Replayed S.Store
+        (moment_of R.Read W.Write office.old reader.old writer.old)
+        (moment_of R.Read W.Write office.new reader.new writer.new) result }
     ensures read { IfErr result (λ fault.
         fault.stop ≡ ReplayStop.Read
         → HasFailed (failures_of reader.old) (failures_of reader.new)) }

@@ -8,20 +8,18 @@ use Rattle.office_core.specs.Policies.{PolicyValue}
 use Rattle.desk_routes.specs.declared.refusal.DeskRefusal.TheVariants.{Truncated}
 use Rattle.desk_hearing.specs.Hearing.{Hears}
 use Rattle.desk_listening.specs.Listening.{Connection}
+use Rattle.desk_serving.specs.Serving.{DeskRequest}
 use Rattle.http_desk.specs.Records.{BeginsWithNone}
 use Rattle.http_desk.specs.RecordLists.{AreRecords, answer_texts, max_records, request_texts}
-use Rattle.desk_serving.specs.Serving.{DeskRequest}
 use Rattle.http_desk.specs.Replaying.{IsBegun, IsNoRecord}
 use Rattle.streams.specs.Writing.{IsCutShort}
 use Rattle.office_commands.specs.Deeds.{Deed, answers, deeds_of_connections, deeds_of_records, fails, installs}
 use Rattle.office_commands.specs.Texts.{IsUnaccepted, IsUnheard, IsUninstalled, IsUnsaid}
 use Rattle.office_commands.specs.Traffic.{Begins, InputGives, WritesText, Traffic}
-use Rattle.office_commands.specs.declared.fault.Cause.{Cause}
 use Rattle.office_commands.specs.declared.fault.Cause.TheVariants.{Input, Output}
 use Rattle.office_commands.specs.declared.fault.CommandFault.{CommandFault}
 use Rattle.office_commands.specs.declared.fault.CommandFault.TheVariants as faults
 use Rattle.office_commands.specs.declared.fault.CommandFault.TheVariants.{BadRecord, Failed}
-use Rattle.office_commands.specs.declared.fault.StoreFault.{StoreFault}
 use Rattle.office_commands.specs.declared.fault.StoreFault.TheVariants.{Device, Memory}
 use Rattle.office_commands.specs.declared.work.Work.{Work}
 use Rattle.office_commands.specs.declared.work.Work.TheVariants.{Ask, Policy, Replay, Serve}
@@ -68,28 +66,26 @@ IsAsked day text deeds was now = (given : List ℕ) × InputGives given was now 
 
 -- Where the input fails, it gave no whole request, and nothing is done or written. Where the output fails, the request is answered and a beginning
 -- of the text is written. Where memory runs out, nothing is written.
-abbrev pub AsksInPart : Date → StoreFault → Option Cause → List Deed → Traffic → Traffic → Type 0
-AsksInPart day Device (Some Input) deeds was now = ((given : List ℕ) × InputGives given was now × Hears given (Err Truncated)) × (deeds ≡ []) × WritesText [] was now
-AsksInPart day Device (Some Output) deeds was now = (text : List ℕ) × IsAsked day text deeds was now × Begins text was now
-AsksInPart day Memory None deeds was now = ((deeds ≡ []) ⊎ ((text : List ℕ) × IsAsked day text deeds was now)) × WritesText [] was now
-AsksInPart day fault cause deeds was now = ⊥
+abbrev pub AsksInPart : Date → CommandFault → List Deed → Traffic → Traffic → Type 0
+AsksInPart day (Failed Device (Some Input)) deeds was now =
+    ((given : List ℕ) × InputGives given was now × Hears given (Err Truncated)) × (deeds ≡ []) × WritesText [] was now
+AsksInPart day (Failed Device (Some Output)) deeds was now = (text : List ℕ) × IsAsked day text deeds was now × Begins text was now
+AsksInPart day (Failed Memory None) deeds was now = ((deeds ≡ []) ⊎ ((text : List ℕ) × IsAsked day text deeds was now)) × WritesText [] was now
+AsksInPart day fault deeds was now = ⊥
 
 -- the text is written, or a device or memory fails
 abbrev pub ComesOfAsk : {T : Type 0} → Date → Result T CommandFault → List Deed → Traffic → Traffic → Type 0
 ComesOfAsk day (Ok _) deeds was now = (text : List ℕ) × IsAsked day text deeds was now × WritesText text was now
-ComesOfAsk day (Err (Failed fault cause)) deeds was now = AsksInPart day fault cause deeds was now
-ComesOfAsk day (Err (BadRecord index)) deeds was now = ⊥
-ComesOfAsk day (Err (faults.Policy refused)) deeds was now = ⊥
+ComesOfAsk day (Err fault) deeds was now = AsksInPart day fault deeds was now
 
 -- ---- records of requests
 
--- What the input gives begins with these records, `rest` follows them, and each is answered with its text.
-pub record AreAsked (items : List DeskRequest) (texts : List (List ℕ)) (rest : List ℕ) (deeds : List Deed) (was now : Traffic) : Type 0 where
+-- What the input gives begins with these records, and `rest` follows them; to each there is a text that answers it.
+pub record AreAsked (items : List DeskRequest) (texts : List (List ℕ)) (rest : List ℕ) (was now : Traffic) : Type 0 where
   pub gives : InputGives (request_texts items ++ rest) was now
   pub each : AreRecords items
   pub few : length items ≤ max_records
   pub as_many : length texts ≡ length items
-  pub done : deeds ≡ deeds_of_records items texts
 
 -- the records of the answers are written; or all but the last one, and a beginning of that
 abbrev pub PrintsAllOrBegins : List (List ℕ) → Traffic → Traffic → Type 0
@@ -104,25 +100,25 @@ PrintsAllOrBut texts was now =
 
 -- Where the input fails, each whole record that it gave is answered, and the answer written. Where the output fails, the last answer isn't handed on, or
 -- a beginning of it is written. Where memory runs out, the last answer may not be written.
-abbrev pub ReplaysInPart : StoreFault → Option Cause → List DeskRequest → List (List ℕ) → List ℕ → Traffic → Traffic → Type 0
-ReplaysInPart Device (Some Input) items texts rest was now = BeginsWithNone rest × WritesText (answer_texts texts) was now
-ReplaysInPart Device (Some Output) items texts rest was now = PrintsAllOrBegins texts was now
-ReplaysInPart Memory None items texts rest was now = PrintsAllOrBut texts was now
-ReplaysInPart fault cause items texts rest was now = ⊥
+abbrev pub ReplaysInPart : CommandFault → List (List ℕ) → List ℕ → Traffic → Traffic → Type 0
+ReplaysInPart (Failed Device (Some Input)) texts rest was now = BeginsWithNone rest × WritesText (answer_texts texts) was now
+ReplaysInPart (Failed Device (Some Output)) texts rest was now = PrintsAllOrBegins texts was now
+ReplaysInPart (Failed Memory None) texts rest was now = PrintsAllOrBut texts was now
+ReplaysInPart fault texts rest was now = ⊥
 
 -- All that the input gives are records, to its end; or what follows them is none, and its number, from 1, is told. The records of the answers
 -- are written. Where a device or memory fails, that was so up to some record.
 abbrev pub ComesOfReplay : {T : Type 0} → Result T CommandFault → List Deed → Traffic → Traffic → Type 0
 ComesOfReplay (Ok _) deeds was now =
-    (items : List DeskRequest) × (texts : List (List ℕ)) × AreAsked items texts [] deeds was now
+    (items : List DeskRequest) × (texts : List (List ℕ)) × AreAsked items texts [] was now × (deeds ≡ deeds_of_records items texts)
     × IsAtEnd now.input × WritesText (answer_texts texts) was now
 ComesOfReplay (Err (BadRecord index)) deeds was now =
-    (items : List DeskRequest) × (texts : List (List ℕ)) × (rest : List ℕ) × AreAsked items texts rest deeds was now
+    (items : List DeskRequest) × (texts : List (List ℕ)) × (rest : List ℕ) × AreAsked items texts rest was now × (deeds ≡ deeds_of_records items texts)
     × IsNoRecord now.input (length items) rest × (length items < max_records → BeginsWithNone rest)
     × (index ≡ length items + 1) × WritesText (answer_texts texts) was now
 ComesOfReplay (Err (Failed fault cause)) deeds was now =
-    (items : List DeskRequest) × (texts : List (List ℕ)) × (rest : List ℕ) × AreAsked items texts rest deeds was now
-    × ReplaysInPart fault cause items texts rest was now
+    (items : List DeskRequest) × (texts : List (List ℕ)) × (rest : List ℕ) × AreAsked items texts rest was now × (deeds ≡ deeds_of_records items texts)
+    × ReplaysInPart (Failed fault cause) texts rest was now
 ComesOfReplay (Err (faults.Policy refused)) deeds was now = ⊥
 
 -- the policy is installed first, where there is one; where that fails, nothing is read or written

@@ -1,12 +1,13 @@
 use Rattle.std.proofs.Common.{◌≡◌, ◌≤◌, ◌-◌, ◌*◌, ◌+◌, length}
-use Rattle.desk_devices.specs.Devices.{device_of, failures_of}
+use Rattle.desk_devices.specs.Devices.{failures_of}
 use Rattle.http_desk.specs.RecordLists.{max_records}
+use Rattle.http_desk.specs.Replaying.{moment_of}
 use Rattle.http_desk.proofs.ReplayLemmas.{Progress}
 use Rattle.http_desk.proofs.replaying.replay.Given as goal
 
 abbrev pub invariant-records : goal.invariant-records
 invariant-records g l = record {
-  progress : Progress g.S.Store l.fn.office l.office (g.R.Read.remaining (device_of l.fn.reader)) (g.R.Read.remaining (device_of l.reader)) (g.W.Write.contents (device_of l.fn.writer)) (g.W.Write.contents (device_of l.writer)) l.pending.items l.count;
+  progress : Progress g.S.Store (moment_of g.R.Read g.W.Write l.fn.office l.fn.reader l.fn.writer) (moment_of g.R.Read g.W.Write l.office l.reader l.writer) l.pending.items l.count;
   short : length l.pending.items ≤ 16804120;
   reader_calm : failures_of l.reader ≡ failures_of l.fn.reader;
   writer_calm : failures_of l.writer ≡ failures_of l.fn.writer;
