@@ -14,7 +14,7 @@ use Rattle.commands.specs.declared.ending.Ending.TheVariants.{Refused}
 use Rattle.office_commands.specs.Deeds.{AreDone, Deed, fails, installs}
 use Rattle.commands.specs.PolicyFiles.{IsAllOf, IsRead}
 use Rattle.office_commands.specs.Policies.{installed_text}
-use Rattle.office_commands.specs.Tasks.{ComesOfTask, IsPortFor, Listens, ComesOfReplay, ReplaysAfter, Task, install_of}
+use Rattle.office_commands.specs.Tasks.{DoesTask, IsPortFor, Listens, ComesOfReplay, ReplaysAfter, Task, install_of}
 use Rattle.office_commands.specs.Texts.{IsUninstalled, IsUnsaid}
 use Rattle.office_commands.specs.Traffic.{Traffic}
 use Rattle.office_commands.specs.Works.{ComesOfWork, ComesOfBytes, ComesOfFile, IsQuiet, SaysInstalled, SaysRefused, read_policy, refused_policy}
@@ -85,15 +85,15 @@ says_nothing ran fault policy was is = subst (λ (i : Result Done CommandFault).
 -- ---- what a task does
 
 pub does_install : {S T : Type 0} (g : Ghosts S) (task : Task) (policy : Bor PolicyValue) (r : Result T CommandFault) (old new : Held S) (was : Traffic) → task ≡ Policy policy → IfErr r IsUninstalled
-    → AreDone g (install_of r policy.now ∷ []) old new → (deeds : List Deed) × ComesOfTask task r deeds was was × AreDone g deeds old new
+    → AreDone g (install_of r policy.now ∷ []) old new → DoesTask g task (record { result = r; was = was; now = was }) old new
 does_install g task policy r old new was is failed done =
-    subst (λ (t : Task). (deeds : List Deed) × ComesOfTask t r deeds was was × AreDone g deeds old new) (sym is) (install_of r policy.now ∷ [], (failed, refl, refl), done)
+    subst (λ (t : Task). DoesTask g t (record { result = r; was = was; now = was }) old new) (sym is) (install_of r policy.now ∷ [], (failed, refl, refl), done)
 
 pub does_serve : {S T : Type 0} (g : Ghosts S) (task : Task) (day : Date) (port count : ℕ) (r : Result T CommandFault) (old new : Held S) (was now : Traffic) → task ≡ Serve day port count → now.input ≡ was.input
-    → ((told : ℕ) × (deeds : List Deed) × IsPortFor port told × Listens day told count r deeds was.output now.output × AreDone g deeds old new)
-    → (deeds : List Deed) × ComesOfTask task r deeds was now × AreDone g deeds old new
+    → ((told : ℕ) × (deeds : List Deed) × IsPortFor port told × Listens (record { day = day; port = told; count = count }) r deeds was.output now.output × AreDone g deeds old new)
+    → DoesTask g task (record { result = r; was = was; now = now }) old new
 does_serve g task day port count r old new was now is same it =
-    subst (λ (t : Task). (deeds : List Deed) × ComesOfTask t r deeds was now × AreDone g deeds old new) (sym is) (it.1, (same, (it.0, it.2, it.3)), it.4)
+    subst (λ (t : Task). DoesTask g t (record { result = r; was = was; now = now }) old new) (sym is) (it.1, (same, (it.0, it.2, it.3)), it.4)
 
 -- ---- what a work comes to
 
@@ -102,6 +102,8 @@ pub of_host : {F unread : Type 0} {ComesOf : List ℕ → Type 0} → unread ⊎
 of_host (inl none) = inl none
 of_host (inr it) = it.1
 
-pub comes_as : {D : Type 0} (g : Disks D) (first : Image) (store : List ℕ) (work other : Work (Bor (List ℕ))) (alone : Type 0) (result : Result Done CommandFault) (was now : Traffic) → work ≡ other
-    → ComesOfWork g first store other alone result was now → ComesOfWork g first store work alone result was now
-comes_as g first store work other alone result was now same it = subst (λ (w : Work (Bor (List ℕ))). ComesOfWork g first store w alone result was now) (sym same) it
+pub comes_as : {D : Type 0} (g : Disks D) (first : Image) (name : List ℕ) (work other : Work (Bor (List ℕ))) (alone : Type 0) (result : Result Done CommandFault) (was now : Traffic) → work ≡ other
+    → ComesOfWork g (record { name = name; first = first }) other alone (record { result = result; was = was; now = now })
+    → ComesOfWork g (record { name = name; first = first }) work alone (record { result = result; was = was; now = now })
+comes_as g first name work other alone result was now same it =
+    subst (λ (w : Work (Bor (List ℕ))). ComesOfWork g (record { name = name; first = first }) w alone (record { result = result; was = was; now = now })) (sym same) it

@@ -1,5 +1,5 @@
 -- An office that is made in memory, or opened in a file and closed again, and what is done with it.
-use Rattle.std.specs.Prelude.{◌≡◌, ◌≢◌, ◌⊎◌, ℕ, List, Bool, IsTrue, Result, Ok, Err, IsErrAnd, false, true, codes}
+use Rattle.std.specs.Prelude.{◌≡◌, ◌≢◌, ◌⊎◌, ℕ, List, Bool, IsTrue, Result, IsErrAnd, false, true, codes}
 use Rattle.sqlite_disk.specs.declared.Disk as disk
 use Rattle.sqlite_disk.specs.declared.Files.{Files}
 use Rattle.sqlite_wal.specs.Reads.{AreClean}
@@ -25,7 +25,7 @@ use Rattle.office_engine.specs.Keeping.{IsKeptBy, IsLeftAt, IsLeftOf}
 use Rattle.office_commands.specs.Deeds.{AreDone, Deed, LeadOn}
 use Rattle.office_commands.specs.Tasks.{ComesOfTask, Task, makes_office}
 use Rattle.office_commands.specs.Texts.{IsUnclosable, IsUnopenable, found_nothing, is_sought}
-use Rattle.office_commands.specs.Traffic.{Traffic}
+use Rattle.office_commands.specs.Traffic.{Upshot}
 use Rattle.office_commands.specs.declared.fault.CommandFault.{CommandFault}
 
 -- the history of an office that was just made
@@ -91,51 +91,53 @@ LeadsInto deeds h image = (next : History) × LeadOn deeds h next × IsLegal nex
 
 -- ---- a task
 
+-- a store: its name, and what its files held at first
+pub record NamedStore : Type 0 where
+  pub name : List ℕ
+  pub first : Image
+
 -- There is nothing that could be opened as the store, so that nothing is opened, read or written. A task with which an office is made is never refused because
 -- nothing is there.
-abbrev pub IsUnfound : {T : Type 0} → Type 0 → Task → Result T CommandFault → Traffic → Traffic → Type 0
-IsUnfound alone task (Ok _) was now = ⊥
-IsUnfound alone task (Err fault) was now = IsUnopenable fault × (found_nothing fault ≡ true → makes_office task ≡ false) × alone × (now ≡ was)
+abbrev pub IsUnfound : {T : Type 0} → Type 0 → Task → Upshot T → Type 0
+IsUnfound alone task upshot =
+    IsErrAnd upshot.result (λ fault. IsUnopenable fault × (found_nothing fault ≡ true → makes_office task ≡ false) × alone × (upshot.now ≡ upshot.was))
 
 -- the store could not be opened, and nothing is read or written
-abbrev pub IsUnopened : {T : Type 0} → Result T CommandFault → Traffic → Traffic → Type 0
-IsUnopened (Ok _) was now = ⊥
-IsUnopened (Err fault) was now = IsUnopenable fault × (is_sought fault ≡ false) × (now ≡ was)
+abbrev pub IsUnopened : {T : Type 0} → Upshot T → Type 0
+IsUnopened upshot = IsErrAnd upshot.result (λ fault. IsUnopenable fault × (is_sought fault ≡ false) × (upshot.now ≡ upshot.was))
 
 -- the task is done so with an open office, but the store could not be closed, which is what is told, however the task ended
-pub record IsUnclosed {D T : Type 0} (g : disk.Ghosts D) (old : Held (FileStore D g)) (task : Task) (result : Result T CommandFault) (was now : Traffic) : Type 0 where
-  pub failed : IsErrAnd result IsUnclosable
+pub record IsUnclosed {D T : Type 0} (g : disk.Ghosts D) (old : Held (FileStore D g)) (task : Task) (upshot : Upshot T) : Type 0 where
+  pub failed : IsErrAnd upshot.result IsUnclosable
   pub did : Result T CommandFault
   pub deeds : List Deed
-  pub does : ComesOfTask task did deeds was now
+  pub does : ComesOfTask task (record upshot { result = did }) deeds
   pub new : Held (FileStore D g)
   pub done : AreDone over_files deeds old new
 
 -- the task is done with a new office in memory
-abbrev pub RunsInMemory : {T : Type 0} → Task → Result T CommandFault → Traffic → Traffic → Type 0
-RunsInMemory task result was now = IsUnopened result was now ⊎ ((deeds : List Deed) × ComesOfTask task result deeds was now × InMemory deeds)
+abbrev pub RunsInMemory : {T : Type 0} → Task → Upshot T → Type 0
+RunsInMemory task upshot = IsUnopened upshot ⊎ ((deeds : List Deed) × ComesOfTask task upshot deeds × InMemory deeds)
 
 -- the task is done with an open office, and it is closed
-abbrev pub RunsAndCloses : {D T : Type 0} → (g : disk.Ghosts D) → Held (FileStore D g) → Task → Result T CommandFault → Traffic → Traffic → Type 0
-RunsAndCloses {D} g old task result was now =
-    ((deeds : List Deed) × (files : Files D) × ComesOfTask task result deeds was now × AreDoneAndClosed g deeds old files)
-    ⊎ IsUnclosed g old task result was now
+abbrev pub RunsAndCloses : {D T : Type 0} → (g : disk.Ghosts D) → Held (FileStore D g) → Task → Upshot T → Type 0
+RunsAndCloses {D} g old task upshot =
+    ((deeds : List Deed) × (files : Files D) × ComesOfTask task upshot deeds × AreDoneAndClosed g deeds old files) ⊎ IsUnclosed g old task upshot
 
 -- the task is done with the office of a connection, which is closed; or the office can't be had
-abbrev pub RunsOver : {D T : Type 0} → (g : disk.Ghosts D) → Held (FileStore D g) → Bool → Task → Result T CommandFault → Traffic → Traffic → Type 0
-RunsOver g conn is_new task result was now =
-    IsUnopened result was now ⊎ SomeOffice (IsOfficeOver over_files conn is_new) (λ office. RunsAndCloses g office task result was now)
+abbrev pub RunsOver : {D T : Type 0} → (g : disk.Ghosts D) → Held (FileStore D g) → Bool → Task → Upshot T → Type 0
+RunsOver g conn is_new task upshot = IsUnopened upshot ⊎ SomeOffice (IsOfficeOver over_files conn is_new) (λ office. RunsAndCloses g office task upshot)
 
 -- the task is done with the office in a file
-abbrev pub RunsInFile : {D T : Type 0} → disk.Ghosts D → Image → Task → Result T CommandFault → Traffic → Traffic → Type 0
-RunsInFile {D} g first task result was now =
-    IsUnopened result was now
-    ⊎ (((deeds : List Deed) × ComesOfTask task result deeds was now × InFile g first (makes_office task) deeds)
-    ⊎ ((old : Held (FileStore D g)) × IsOpenedFrom g first (makes_office task) old × IsUnclosed g old task result was now))
+abbrev pub RunsInFile : {D T : Type 0} → disk.Ghosts D → Image → Task → Upshot T → Type 0
+RunsInFile {D} g first task upshot =
+    IsUnopened upshot
+    ⊎ (((deeds : List Deed) × ComesOfTask task upshot deeds × InFile g first (makes_office task) deeds)
+    ⊎ ((old : Held (FileStore D g)) × IsOpenedFrom g first (makes_office task) old × IsUnclosed g old task upshot))
 
 -- Over `:memory:` it is the one, and no file is opened. Else it is the other, where a file is found that may be opened. `alone` says that the value that opens
 -- the store is still there.
-abbrev pub RunsOn : {D T : Type 0} → disk.Ghosts D → Image → List ℕ → Type 0 → Task → Result T CommandFault → Traffic → Traffic → Type 0
-RunsOn g first store alone task result was now =
-    (store ≡ codes ":memory:" → alone × RunsInMemory task result was now)
-    × (store ≢ codes ":memory:" → IsUnfound alone task result was now ⊎ RunsInFile g first task result was now)
+abbrev pub RunsOn : {D T : Type 0} → disk.Ghosts D → NamedStore → Type 0 → Task → Upshot T → Type 0
+RunsOn g store alone task upshot =
+    (store.name ≡ codes ":memory:" → alone × RunsInMemory task upshot)
+    × (store.name ≢ codes ":memory:" → IsUnfound alone task upshot ⊎ RunsInFile g store.first task upshot)

@@ -1,9 +1,11 @@
 -- What is to be done with an open office, and what the input gives and the output gets as it is done. `was` is the traffic before
--- and `now` the traffic after.
+-- and `now` the traffic after; `old` is the office before and `new` the office after.
 use Rattle.std.specs.Prelude.{◌≡◌, ◌≢◌, ◌⊎◌, ◌<◌, ◌≤◌, ◌+◌, ◌∷◌, ◌++◌, [], ℕ, Bool, true, false, List, Option, None, Some, Result, Ok, Err, IfErr, IsErrAnd, codes, decimal, length, take}
 use Rattle.std.specs.Io.KnownBytes.{Appends, IsAtEnd}
 use denote.Ref.{Bor}
 use Rattle.jiff.specs.Types.{Date}
+use Rattle.sqlite.specs.Held.{Held}
+use Rattle.sqlite.specs.Store.{Ghosts}
 use Rattle.office_core.specs.Policies.{PolicyValue}
 use Rattle.desk_routes.specs.declared.refusal.DeskRefusal.TheVariants.{Truncated}
 use Rattle.desk_hearing.specs.Hearing.{Hears}
@@ -13,9 +15,9 @@ use Rattle.http_desk.specs.Records.{BeginsWithNone}
 use Rattle.http_desk.specs.RecordLists.{AreRecords, answer_texts, max_records, request_texts}
 use Rattle.http_desk.specs.Replaying.{IsBegun, IsNoRecord}
 use Rattle.streams.specs.Writing.{IsCutShort}
-use Rattle.office_commands.specs.Deeds.{Deed, answers, deeds_of_connections, deeds_of_records, fails, installs}
+use Rattle.office_commands.specs.Deeds.{AreDone, Deed, answers, deeds_of_connections, deeds_of_records, fails, installs}
 use Rattle.office_commands.specs.Texts.{IsUnaccepted, IsUnheard, IsUninstalled, IsUnsaid}
-use Rattle.office_commands.specs.Traffic.{Begins, InputGives, WritesText, Traffic}
+use Rattle.office_commands.specs.Traffic.{Begins, InputGives, WritesText, Traffic, Upshot}
 use Rattle.office_commands.specs.declared.fault.Cause.TheVariants.{Input, Output}
 use Rattle.office_commands.specs.declared.fault.CommandFault.{CommandFault}
 use Rattle.office_commands.specs.declared.fault.CommandFault.TheVariants as faults
@@ -143,21 +145,33 @@ abbrev pub AreServedFor : {T : Type 0} → Result T CommandFault → ℕ → Lis
 AreServedFor (Ok _) count served = length served ≡ count
 AreServedFor (Err _) count served = length served < count
 
+-- a desk that listens: the day on which it serves, its port, and to how many connections
+pub record Listening : Type 0 where
+  pub day : Date
+  pub port : ℕ
+  pub count : ℕ
+
 -- The port is told, and then so many connections are served on that day, one after the other. Where the port can't be had, nothing is written; where it can't
 -- be told, a beginning of the line; and no connection is served. Where one can't be accepted, those before it were served.
-abbrev pub Listens : {T : Type 0} → Date → ℕ → ℕ → Result T CommandFault → List Deed → Option (List ℕ) → Option (List ℕ) → Type 0
-Listens day told count result deeds held holds =
+abbrev pub Listens : {T : Type 0} → Listening → Result T CommandFault → List Deed → Option (List ℕ) → Option (List ℕ) → Type 0
+Listens desk result deeds held holds =
     (IsErrAnd result IsUnheard × (deeds ≡ []) × (holds ≡ held))
-    ⊎ ((IsErrAnd result IsUnsaid × (deeds ≡ []) × IsCutShort (listening_text told) held holds)
-    ⊎ ((served : List Connection) × IfErr result IsUnaccepted × AreServedFor result count served × (deeds ≡ deeds_of_connections day served)
-    × Appends held holds (listening_text told)))
+    ⊎ ((IsErrAnd result IsUnsaid × (deeds ≡ []) × IsCutShort (listening_text desk.port) held holds)
+    ⊎ ((served : List Connection) × IfErr result IsUnaccepted × AreServedFor result desk.count served × (deeds ≡ deeds_of_connections desk.day served)
+    × Appends held holds (listening_text desk.port)))
 
 -- ---- a task
 
--- these deeds are done for the task as it ends so, with this traffic
-abbrev pub ComesOfTask : {T : Type 0} → Task → Result T CommandFault → List Deed → Traffic → Traffic → Type 0
-ComesOfTask (Policy policy) result deeds was now = IfErr result IsUninstalled × (deeds ≡ install_of result policy.now ∷ []) × (now ≡ was)
-ComesOfTask (Ask day) result deeds was now = ComesOfAsk day result deeds was now
-ComesOfTask (Replay policy) result deeds was now = ReplaysAfter policy result deeds was now
-ComesOfTask (Serve day port count) result deeds was now =
-    (now.input ≡ was.input) × ((told : ℕ) × IsPortFor port told × Listens day told count result deeds was.output now.output)
+-- these deeds are done for the task, and that is its upshot
+abbrev pub ComesOfTask : {T : Type 0} → Task → Upshot T → List Deed → Type 0
+ComesOfTask (Policy policy) upshot deeds =
+    IfErr upshot.result IsUninstalled × (deeds ≡ install_of upshot.result policy.now ∷ []) × (upshot.now ≡ upshot.was)
+ComesOfTask (Ask day) upshot deeds = ComesOfAsk day upshot.result deeds upshot.was upshot.now
+ComesOfTask (Replay policy) upshot deeds = ReplaysAfter policy upshot.result deeds upshot.was upshot.now
+ComesOfTask (Serve day port count) upshot deeds =
+    (upshot.now.input ≡ upshot.was.input)
+    × ((told : ℕ) × IsPortFor port told × Listens (record { day = day; port = told; count = count }) upshot.result deeds upshot.was.output upshot.now.output)
+
+-- the task is done with the office over a store
+abbrev pub DoesTask : {S T : Type 0} → Ghosts S → Task → Upshot T → Held S → Held S → Type 0
+DoesTask g task upshot old new = (deeds : List Deed) × ComesOfTask task upshot deeds × AreDone g deeds old new

@@ -4,15 +4,14 @@ use Rattle.std.specs.Prelude.{◌≡◌, ◌⊎◌, ℕ, List, Option, None, Som
 use denote.Ref.{Bor}
 use Rattle.std.specs.declared.io.Read.{Ghosts as Reads}
 use Rattle.sqlite_disk.specs.declared.Disk.{Ghosts}
-use Rattle.sqlite.specs.Recovery.{Image}
 use Rattle.office_core.specs.Policies.{PolicyValue}
 use Rattle.commands.specs.Explaining.{SpellsPolicyBytes, bad_policy_text}
 use Rattle.commands.specs.declared.ending.Ending.TheVariants.{Accepted, Refused}
 use Rattle.commands.specs.PolicyFiles.{IsPolicyRefused as IsRefusedFor}
 use Rattle.office_commands.specs.Policies.{IsUnread, installed_text}
-use Rattle.office_commands.specs.Stores.{RunsOn}
+use Rattle.office_commands.specs.Stores.{NamedStore, RunsOn}
 use Rattle.office_commands.specs.Texts.{IsUnsaid}
-use Rattle.office_commands.specs.Traffic.{Begins, WritesText, Traffic}
+use Rattle.office_commands.specs.Traffic.{Begins, WritesText, Traffic, Upshot}
 use Rattle.office_commands.specs.declared.done.Done.{Done}
 use Rattle.office_commands.specs.declared.fault.CommandFault.{CommandFault}
 use Rattle.office_commands.specs.declared.fault.CommandFault.TheVariants as faults
@@ -36,17 +35,17 @@ abbrev pub IsUntouched : Type 0 → Traffic → Traffic → Type 0
 IsUntouched alone was now = alone × (now ≡ was)
 
 -- the file could not be read, and nothing else was tried
-abbrev pub IsUnreadFirst : Type 0 → Result Done CommandFault → Traffic → Traffic → Type 0
-IsUnreadFirst alone result was now = IsErrAnd result IsUnread × IsUntouched alone was now
+abbrev pub IsUnreadFirst : Type 0 → Upshot Done → Type 0
+IsUnreadFirst alone upshot = IsErrAnd upshot.result IsUnread × IsUntouched alone upshot.was upshot.now
 
 -- The file could not be read, or what it gave comes to this: all that it had, where that is known. So what is said of a policy that is refused is said
 -- whatever the store is.
 abbrev pub ComesOfFile : Option (List ℕ) → Type 0 → (List ℕ → Type 0) → Type 0
 ComesOfFile had unread ComesOf = unread ⊎ ((bytes : List ℕ) × IfSome had (λ all. bytes ≡ all) × ComesOf bytes)
 
--- what comes of a file that is opened, or can't be
-abbrev pub ComesOfNamed : {F : Type 0} → Reads F → Type 0 → (List ℕ → Type 0) → Type 0
-ComesOfNamed {F} reads unread ComesOf = unread ⊎ ((file : F) × ComesOfFile (reads.remaining file) unread ComesOf)
+-- What comes of a file that is opened, or can't be. `ComesFrom` says what comes of one that has these bytes, where they are known.
+abbrev pub ComesOfNamed : {F : Type 0} → Reads F → Type 0 → (Option (List ℕ) → Type 0) → Type 0
+ComesOfNamed {F} reads unread ComesFrom = unread ⊎ ((file : F) × ComesFrom (reads.remaining file))
 
 -- ---- an install
 
@@ -66,26 +65,33 @@ SaysInstalled policy (Err fault) (Ok _) was now = ⊥
 -- ---- the commands
 
 -- the policy that is named was refused before a replay
-abbrev pub IsRefusedBefore : Type 0 → RefusedPolicy → Result Done CommandFault → Traffic → Traffic → Type 0
-IsRefusedBefore alone refused result was now = (result ≡ Err (faults.Policy refused)) × IsUntouched alone was now
+abbrev pub IsRefusedBefore : Type 0 → RefusedPolicy → Upshot Done → Type 0
+IsRefusedBefore alone refused upshot = (upshot.result ≡ Err (faults.Policy refused)) × IsUntouched alone upshot.was upshot.now
 
 -- what comes of an install where these are the bytes of the policy's file
-abbrev pub InstallsOf : {D : Type 0} → Ghosts D → Image → List ℕ → Type 0 → Result Done CommandFault → Traffic → Traffic → List ℕ → Type 0
-InstallsOf g first store alone result was now =
-    ComesOfBytes (λ refused. alone × SaysRefused refused result was now)
-    (λ policy. (ran : Result Done CommandFault) × (mid : Traffic) × RunsOn g first store alone (Policy policy) ran was mid × SaysInstalled policy.now ran result mid now)
+abbrev pub InstallsOf : {D : Type 0} → Ghosts D → NamedStore → Type 0 → Upshot Done → List ℕ → Type 0
+InstallsOf g store alone upshot =
+    ComesOfBytes (λ refused. alone × SaysRefused refused upshot.result upshot.was upshot.now)
+    (λ policy. (ran : Result Done CommandFault) × (mid : Traffic) × RunsOn g store alone (Policy policy) (record { result = ran; was = upshot.was; now = mid })
+    × SaysInstalled policy.now ran upshot.result mid upshot.now)
 
 -- and of a replay under that policy
-abbrev pub ReplaysOf : {D : Type 0} → Ghosts D → Image → List ℕ → Type 0 → Result Done CommandFault → Traffic → Traffic → List ℕ → Type 0
-ReplaysOf g first store alone result was now =
-    ComesOfBytes (λ refused. IsRefusedBefore alone refused result was now) (λ policy. RunsOn g first store alone (Replay (Some policy)) result was now)
+abbrev pub ReplaysOf : {D : Type 0} → Ghosts D → NamedStore → Type 0 → Upshot Done → List ℕ → Type 0
+ReplaysOf g store alone upshot =
+    ComesOfBytes (λ refused. IsRefusedBefore alone refused upshot) (λ policy. RunsOn g store alone (Replay (Some policy)) upshot)
 
--- What comes of the work on the store, whose files held this at first. Of a file that is named it isn't known what it had.
-abbrev pub ComesOfWork : {D : Type 0} → Ghosts D → Image → List ℕ → Work (Bor (List ℕ)) → Type 0 → Result Done CommandFault → Traffic → Traffic → Type 0
-ComesOfWork g first store (Policy path) alone result was now =
-    ComesOfFile None (IsUnreadFirst alone result was now) (InstallsOf g first store alone result was now)
-ComesOfWork g first store (Ask day) alone result was now = IfOk result IsQuiet × RunsOn g first store alone (Ask day) result was now
-ComesOfWork g first store (Replay None) alone result was now = IfOk result IsQuiet × RunsOn g first store alone (Replay None) result was now
-ComesOfWork g first store (Replay (Some path)) alone result was now =
-    IfOk result IsQuiet × ComesOfFile None (IsUnreadFirst alone result was now) (ReplaysOf g first store alone result was now)
-ComesOfWork g first store (Serve day port count) alone result was now = IfOk result IsQuiet × RunsOn g first store alone (Serve day port count) result was now
+-- what comes of an install, where the policy's file has these bytes or can't be read
+abbrev pub InstallsFrom : {D : Type 0} → Ghosts D → NamedStore → Type 0 → Upshot Done → Option (List ℕ) → Type 0
+InstallsFrom g store alone upshot had = ComesOfFile had (IsUnreadFirst alone upshot) (InstallsOf g store alone upshot)
+
+-- and of a replay
+abbrev pub ReplaysFrom : {D : Type 0} → Ghosts D → NamedStore → Type 0 → Upshot Done → Option (List ℕ) → Type 0
+ReplaysFrom g store alone upshot had = ComesOfFile had (IsUnreadFirst alone upshot) (ReplaysOf g store alone upshot)
+
+-- What comes of the work on the store. Of a file that is named it isn't known what it had.
+abbrev pub ComesOfWork : {D : Type 0} → Ghosts D → NamedStore → Work (Bor (List ℕ)) → Type 0 → Upshot Done → Type 0
+ComesOfWork g store (Policy path) alone upshot = InstallsFrom g store alone upshot None
+ComesOfWork g store (Ask day) alone upshot = IfOk upshot.result IsQuiet × RunsOn g store alone (Ask day) upshot
+ComesOfWork g store (Replay None) alone upshot = IfOk upshot.result IsQuiet × RunsOn g store alone (Replay None) upshot
+ComesOfWork g store (Replay (Some path)) alone upshot = IfOk upshot.result IsQuiet × ReplaysFrom g store alone upshot None
+ComesOfWork g store (Serve day port count) alone upshot = IfOk upshot.result IsQuiet × RunsOn g store alone (Serve day port count) upshot

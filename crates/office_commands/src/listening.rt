@@ -138,8 +138,9 @@ fn serve_office<S: Alter, O: Write>(
     out: &mut Counted<O>,
 ) -> Result<Done, CommandFault>
     ensures serves { (deeds : List Deed)
-        × Listens day desk.now.port count result deeds (O.contents (device_of out.old))
-        (O.contents (device_of out.new)) × AreDone S.Store deeds office.old office.new }
+        × Listens (record { day = day; port = desk.now.port; count = count }) result deeds
+        (O.contents (device_of out.old)) (O.contents (device_of out.new))
+        × AreDone S.Store deeds office.old office.new }
     ensures quiet { IfOk result IsQuiet }
 {
     match say_listening(alloc, desk.port, out) {
@@ -159,8 +160,9 @@ pub fn serve_at<S: Alter, O: Write>(
     out: &mut Counted<O>,
 ) -> Result<Done, CommandFault>
     ensures serves { (told : ℕ) × (deeds : List Deed) × IsPortFor port told
-        × Listens day told count result deeds (O.contents (device_of out.old))
-        (O.contents (device_of out.new)) × AreDone S.Store deeds office.old office.new }
+        × Listens (record { day = day; port = told; count = count }) result deeds
+        (O.contents (device_of out.old)) (O.contents (device_of out.new))
+        × AreDone S.Store deeds office.old office.new }
     ensures quiet { IfOk result IsQuiet }
 {
     match desk_at(rt, port) {

@@ -10,8 +10,8 @@ ghost use Rattle.desk_devices.specs.Devices.{device_of};
 ghost use Rattle.office_commands.specs.Policies.{installed_text};
 ghost use Rattle.office_commands.specs.Tasks.{reads_input};
 ghost use Rattle.office_commands.specs.Texts.{IsUnsaid};
-ghost use Rattle.office_commands.specs.Traffic.{traffic_of};
-ghost use Rattle.office_commands.specs.Works.{ComesOfFile, ComesOfNamed, ComesOfWork, InstallsOf, IsQuiet, IsUnreadFirst, ReplaysOf};
+ghost use Rattle.office_commands.specs.Traffic.{upshot_of};
+ghost use Rattle.office_commands.specs.Works.{ComesOfNamed, ComesOfWork, InstallsFrom, IsQuiet, IsUnreadFirst, ReplaysFrom};
 ghost use Rattle.office_commands.specs.declared.work.Work.TheVariants as works;
 
 use crate::done::Done;
@@ -86,12 +86,10 @@ fn install_from<S: Start, P: Read, R: Read, O: Write>(
     input: &mut Counted<R>,
     out: &mut Counted<O>,
 ) -> Result<Done, CommandFault>
-    ensures comes { ComesOfFile (P.remaining file.old)
-        (IsUnreadFirst (start.new ≡ start.old) result (traffic_of R.Read O.Write input.old out.old)
-        (traffic_of R.Read O.Write input.new out.new))
-        (InstallsOf ⟦<FileFrom<S> as Disk>⟧ (image_at S.Start) store.now
-        (start.new ≡ start.old) result (traffic_of R.Read O.Write input.old out.old)
-        (traffic_of R.Read O.Write input.new out.new)) }
+    ensures comes { InstallsFrom ⟦<FileFrom<S> as Disk>⟧
+        (record { name = store.now; first = image_at S.Start }) (start.new ≡ start.old)
+        (upshot_of R.Read O.Write result (input.old, out.old) (input.new, out.new))
+        (P.remaining file.old) }
     ensures left { input.new ≡ input.old }
 {
     let policy = match policy_from(rt.alloc(), file) {
@@ -117,11 +115,11 @@ fn install_in<F: Files, S: Start, R: Read, O: Write>(
     out: &mut Counted<O>,
 ) -> Result<Done, CommandFault>
     ensures comes { ComesOfNamed ⟦<F::File as Read>⟧
-        (IsUnreadFirst (start.new ≡ start.old) result (traffic_of R.Read O.Write input.old out.old)
-        (traffic_of R.Read O.Write input.new out.new))
-        (InstallsOf ⟦<FileFrom<S> as Disk>⟧ (image_at S.Start) store.now
-        (start.new ≡ start.old) result (traffic_of R.Read O.Write input.old out.old)
-        (traffic_of R.Read O.Write input.new out.new)) }
+        (IsUnreadFirst (start.new ≡ start.old)
+        (upshot_of R.Read O.Write result (input.old, out.old) (input.new, out.new)))
+        (InstallsFrom ⟦<FileFrom<S> as Disk>⟧
+        (record { name = store.now; first = image_at S.Start }) (start.new ≡ start.old)
+        (upshot_of R.Read O.Write result (input.old, out.old) (input.new, out.new))) }
     ensures left { input.new ≡ input.old }
 {
     match open_policy(files, path) {
@@ -140,12 +138,10 @@ fn replay_from<S: Start, P: Read, R: Read, O: Write>(
     input: &mut Counted<R>,
     out: &mut Counted<O>,
 ) -> Result<Done, CommandFault>
-    ensures comes { ComesOfFile (P.remaining file.old)
-        (IsUnreadFirst (start.new ≡ start.old) result (traffic_of R.Read O.Write input.old out.old)
-        (traffic_of R.Read O.Write input.new out.new))
-        (ReplaysOf ⟦<FileFrom<S> as Disk>⟧ (image_at S.Start) store.now
-        (start.new ≡ start.old) result (traffic_of R.Read O.Write input.old out.old)
-        (traffic_of R.Read O.Write input.new out.new)) }
+    ensures comes { ReplaysFrom ⟦<FileFrom<S> as Disk>⟧
+        (record { name = store.now; first = image_at S.Start }) (start.new ≡ start.old)
+        (upshot_of R.Read O.Write result (input.old, out.old) (input.new, out.new))
+        (P.remaining file.old) }
     ensures quiet { IfOk result IsQuiet }
 {
     match policy_from(rt.alloc(), file) {
@@ -170,11 +166,11 @@ fn replay_under<F: Files, S: Start, R: Read, O: Write>(
     out: &mut Counted<O>,
 ) -> Result<Done, CommandFault>
     ensures comes { ComesOfNamed ⟦<F::File as Read>⟧
-        (IsUnreadFirst (start.new ≡ start.old) result (traffic_of R.Read O.Write input.old out.old)
-        (traffic_of R.Read O.Write input.new out.new))
-        (ReplaysOf ⟦<FileFrom<S> as Disk>⟧ (image_at S.Start) store.now
-        (start.new ≡ start.old) result (traffic_of R.Read O.Write input.old out.old)
-        (traffic_of R.Read O.Write input.new out.new)) }
+        (IsUnreadFirst (start.new ≡ start.old)
+        (upshot_of R.Read O.Write result (input.old, out.old) (input.new, out.new)))
+        (ReplaysFrom ⟦<FileFrom<S> as Disk>⟧
+        (record { name = store.now; first = image_at S.Start }) (start.new ≡ start.old)
+        (upshot_of R.Read O.Write result (input.old, out.old) (input.new, out.new))) }
     ensures quiet { IfOk result IsQuiet }
 {
     match open_policy(files, path) {
@@ -193,10 +189,10 @@ fn replay_in<S: Start, R: Read, O: Write>(
     input: &mut Counted<R>,
     out: &mut Counted<O>,
 ) -> Result<Done, CommandFault>
-    ensures comes { ComesOfWork ⟦<FileFrom<S> as Disk>⟧ (image_at S.Start) store.now
-        (works.Replay policy.entry) (start.new ≡ start.old) result
-        (traffic_of R.Read O.Write input.old out.old)
-        (traffic_of R.Read O.Write input.new out.new) }
+    ensures comes { ComesOfWork ⟦<FileFrom<S> as Disk>⟧
+        (record { name = store.now; first = image_at S.Start }) (works.Replay policy.entry)
+        (start.new ≡ start.old)
+        (upshot_of R.Read O.Write result (input.old, out.old) (input.new, out.new)) }
 {
     match policy {
         Some(path) => replay_under(rt, rt, start, store, path, input, out),
@@ -217,9 +213,9 @@ pub fn perform<S: Start, R: Read, O: Write>(
     input: &mut Counted<R>,
     out: &mut Counted<O>,
 ) -> Result<Done, CommandFault>
-    ensures comes { ComesOfWork ⟦<FileFrom<S> as Disk>⟧ (image_at S.Start) store.now work.now
-        (start.new ≡ start.old) result (traffic_of R.Read O.Write input.old out.old)
-        (traffic_of R.Read O.Write input.new out.new) }
+    ensures comes { ComesOfWork ⟦<FileFrom<S> as Disk>⟧
+        (record { name = store.now; first = image_at S.Start }) work.now (start.new ≡ start.old)
+        (upshot_of R.Read O.Write result (input.old, out.old) (input.new, out.new)) }
     ensures left { reads_input work.now ≡ false → input.new ≡ input.old }
 {
     match *work {

@@ -1,6 +1,6 @@
 //! The stores: an office in memory, or in a file.
 
-ghost use Rattle.std.specs.Prelude.{◌≡◌, ◌≢◌, false, Err, IfErr, IfOk, IsErr, IsTrue, List, Ok, OnErr, Some, codes, true};
+ghost use Rattle.std.specs.Prelude.{◌≡◌, ◌≢◌, false, Err, IfErr, IfOk, IsErr, IsTrue, Ok, OnErr, Some, codes, true};
 ghost use Rattle.std.specs.IoError.{error_kind};
 ghost use Rattle.sqlite.specs.Closing.{IsCopied};
 ghost use Rattle.sqlite.specs.Files.{IsOpened, file_state};
@@ -13,11 +13,10 @@ ghost use Rattle.office_rows.specs.Rows.{max_limit};
 ghost use Rattle.office_tables.specs.Opening.{has_office};
 ghost use Rattle.office_tables.specs.Schema.{no_schema};
 ghost use Rattle.office_engine.specs.Keeping.{IsKeptBy, IsLeftAt};
-ghost use Rattle.office_commands.specs.Deeds.{AreDone, Deed};
 ghost use Rattle.office_commands.specs.Stores.{GoesOnFrom, IsOfficeOver, RunsInFile, RunsInMemory, RunsOn, RunsOver, SomeOffice, made_office};
-ghost use Rattle.office_commands.specs.Tasks.{ComesOfTask, makes_office, reads_input};
+ghost use Rattle.office_commands.specs.Tasks.{DoesTask, makes_office, reads_input};
 ghost use Rattle.office_commands.specs.Texts.{IsOfOpening, IsOfStore, IsUnclosable, IsUnopenable, found_nothing, is_of_search, is_sought, search_failure, store_failure};
-ghost use Rattle.office_commands.specs.Traffic.{traffic_of};
+ghost use Rattle.office_commands.specs.Traffic.{upshot_of};
 ghost use Rattle.office_commands.specs.Works.{IsQuiet};
 ghost use Rattle.office_commands.specs.declared.fault.Cause.TheVariants.{Search};
 ghost use Rattle.office_commands.specs.declared.fault.CommandFault.TheVariants.{Failed};
@@ -51,8 +50,8 @@ fn in_memory<R: Read, O: Write>(
     input: &mut Counted<R>,
     out: &mut Counted<O>,
 ) -> Result<Done, CommandFault>
-    ensures runs { RunsInMemory task.now result (traffic_of R.Read O.Write input.old out.old)
-        (traffic_of R.Read O.Write input.new out.new) }
+    ensures runs { RunsInMemory task.now
+        (upshot_of R.Read O.Write result (input.old, out.old) (input.new, out.new)) }
     ensures left { reads_input task.now ≡ false → input.new ≡ input.old }
     ensures quiet { IfOk result IsQuiet }
 {
@@ -228,9 +227,9 @@ fn work_over<S: Alter + Drop, R: Read, O: Write>(
     requires outside { (state S.Store conn).in_transaction ≡ false }
     ensures works { IfOk result (λ worked.
         SomeOffice (IsOfficeOver S.Store conn is_new) (λ office.
-        (deeds : List Deed)
-        × ComesOfTask task.now worked.1 deeds (traffic_of R.Read O.Write input.old out.old)
-        (traffic_of R.Read O.Write input.new out.new) × AreDone S.Store deeds office worked.0)) }
+        DoesTask S.Store task.now
+        (upshot_of R.Read O.Write worked.1 (input.old, out.old) (input.new, out.new))
+        office worked.0)) }
     ensures failure { IfErr result IsUnopenable }
     ensures not_sought { IfErr result (λ fault. is_sought fault ≡ false) }
     ensures untouched { OnErr result ((input.new ≡ input.old) × (out.new ≡ out.old)) }
@@ -288,9 +287,8 @@ fn on_files<D: Disk + Drop, R: Read, O: Write>(
     out: &mut Counted<O>,
 ) -> Result<Done, CommandFault>
     requires outside { (file_state conn).in_transaction ≡ false }
-    ensures runs { RunsOver D.Disk conn is_new task.now result
-        (traffic_of R.Read O.Write input.old out.old)
-        (traffic_of R.Read O.Write input.new out.new) }
+    ensures runs { RunsOver D.Disk conn is_new task.now
+        (upshot_of R.Read O.Write result (input.old, out.old) (input.new, out.new)) }
     ensures left { reads_input task.now ≡ false → input.new ≡ input.old }
     ensures quiet { IfOk result IsQuiet }
 {
@@ -311,9 +309,8 @@ fn in_file<S: Start, R: Read, O: Write>(
     out: &mut Counted<O>,
 ) -> Result<Done, CommandFault>
     requires asked { is_new ≡ true → makes_office task.now ≡ true }
-    ensures runs { RunsInFile ⟦<FileFrom<S> as Disk>⟧ (image_at S.Start) task.now result
-        (traffic_of R.Read O.Write input.old out.old)
-        (traffic_of R.Read O.Write input.new out.new) }
+    ensures runs { RunsInFile ⟦<FileFrom<S> as Disk>⟧ (image_at S.Start) task.now
+        (upshot_of R.Read O.Write result (input.old, out.old) (input.new, out.new)) }
     ensures left { reads_input task.now ≡ false → input.new ≡ input.old }
     ensures quiet { IfOk result IsQuiet }
 {
@@ -332,9 +329,9 @@ pub fn in_store<S: Start, R: Read, O: Write>(
     input: &mut Counted<R>,
     out: &mut Counted<O>,
 ) -> Result<Done, CommandFault>
-    ensures runs { RunsOn ⟦<FileFrom<S> as Disk>⟧ (image_at S.Start) store.now
-        (start.new ≡ start.old) task.now result (traffic_of R.Read O.Write input.old out.old)
-        (traffic_of R.Read O.Write input.new out.new) }
+    ensures runs { RunsOn ⟦<FileFrom<S> as Disk>⟧
+        (record { name = store.now; first = image_at S.Start }) (start.new ≡ start.old) task.now
+        (upshot_of R.Read O.Write result (input.old, out.old) (input.new, out.new)) }
     ensures left { reads_input task.now ≡ false → input.new ≡ input.old }
     ensures quiet { IfOk result IsQuiet }
 {

@@ -1,9 +1,8 @@
 //! What is to be done with an open office.
 
-ghost use Rattle.std.specs.Prelude.{◌≡◌, IfOk, List, false};
-ghost use Rattle.office_commands.specs.Deeds.{AreDone, Deed};
-ghost use Rattle.office_commands.specs.Tasks.{ComesOfTask, reads_input};
-ghost use Rattle.office_commands.specs.Traffic.{traffic_of};
+ghost use Rattle.std.specs.Prelude.{◌≡◌, IfOk, false};
+ghost use Rattle.office_commands.specs.Tasks.{DoesTask, reads_input};
+ghost use Rattle.office_commands.specs.Traffic.{upshot_of};
 ghost use Rattle.office_commands.specs.Works.{IsQuiet};
 
 use crate::done::Done;
@@ -29,9 +28,9 @@ pub fn do_task<S: Alter, R: Read, O: Write>(
     input: &mut Counted<R>,
     out: &mut Counted<O>,
 ) -> Result<Done, CommandFault>
-    ensures does { (deeds : List Deed) × ComesOfTask task.now result deeds
-        (traffic_of R.Read O.Write input.old out.old) (traffic_of R.Read O.Write input.new out.new)
-        × AreDone S.Store deeds office.old office.new }
+    ensures does { DoesTask S.Store task.now
+        (upshot_of R.Read O.Write result (input.old, out.old) (input.new, out.new))
+        office.old office.new }
     ensures left { reads_input task.now ≡ false → input.new ≡ input.old }
     ensures quiet { IfOk result IsQuiet }
 {

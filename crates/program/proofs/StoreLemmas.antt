@@ -17,7 +17,7 @@ installed_answered policy (Ok _) done was now says = inl says.0.1
 installed_answered policy (Err fault) done was now says = absurd says
 
 pub store_answered : {D : Type 0} (g : Ghosts D) (first : Image) (store : List ℕ) (work : Work (Bor (List ℕ))) (alone : Type 0) (result : Result Done CommandFault) (was now : Traffic)
-    → ComesOfWork g first store work alone result was now → IfOk result (λ done. IsAnswer done.ending)
+    → ComesOfWork g (record { name = store; first = first }) work alone (record { result = result; was = was; now = now }) → IfOk result (λ done. IsAnswer done.ending)
 store_answered g first store work alone (Err fault) was now comes = tt
 store_answered g first store (Policy path) alone (Ok done) was now (inl unread) = absurd unread.0
 store_answered g first store (Policy path) alone (Ok done) was now (inr (bytes, known, refused_policy refused is says)) = inr says.1.1

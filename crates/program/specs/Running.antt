@@ -9,7 +9,7 @@ use Rattle.commands.specs.declared.ending.Ending.{Ending}
 use Rattle.command_line.specs.Lines.{Asks}
 use Rattle.command_line.specs.declared.line.Line.{Line}
 use Rattle.command_line.specs.declared.line.Line.TheVariants.{Check, Explain, Pack, Unpack, Policy, Ask, Replay, Serve}
-use Rattle.office_commands.specs.Traffic.{Traffic}
+use Rattle.office_commands.specs.Traffic.{Upshot}
 use Rattle.office_commands.specs.Tasks.{reads_input as work_reads_input}
 use Rattle.office_commands.specs.Works.{ComesOfWork}
 use Rattle.office_commands.specs.declared.done.Done.{Done}
@@ -17,7 +17,7 @@ use Rattle.office_commands.specs.declared.fault.CommandFault.{CommandFault}
 use Rattle.office_commands.specs.declared.work.Work.{Work}
 use Rattle.office_commands.specs.declared.work.Work.TheVariants as works
 use Rattle.program.specs.Answering.{PrintsIfAny, IsExplained, IsJudged, IsPackSaid, IsUnpackSaid}
-use Rattle.program.specs.Streams.{Seen, Stream, traffic}
+use Rattle.program.specs.Streams.{Course, Seen, Stream, traffic}
 use Rattle.program.specs.Telling.{TellsMemory, TellsOf, TellsWhy}
 use Rattle.program.specs.declared.stopped.Stopped.{Stopped}
 use Rattle.program.specs.declared.stopped.Stopped.TheVariants.{Folder, Output, Store, Unread}
@@ -28,13 +28,18 @@ use Rattle.program.specs.declared.stopped.Stopped.TheVariants.{Folder, Output, S
 abbrev pub FileWork : Type 0
 FileWork = Work (Bor (List ℕ))
 
--- what comes of such work on the store of this name, with this traffic before and after
-abbrev pub CommandOn : Type 1
-CommandOn = List ℕ → FileWork → Result Done CommandFault → Traffic → Traffic → Type 0
+-- such work, on the store of this name
+pub record StoreWork : Type 0 where
+  pub store : List ℕ
+  pub work : FileWork
 
--- where its files held this at first
+-- what comes of work on a store, with this upshot
+abbrev pub CommandOn : Type 1
+CommandOn = StoreWork → Upshot Done → Type 0
+
+-- where the store's files held this at first
 abbrev pub on_store : {D : Type 0} → Ghosts D → Image → Type 0 → CommandOn
-on_store g first alone = λ store work. ComesOfWork g first store work alone
+on_store g first alone = λ asked. ComesOfWork g (record { name = asked.store; first = first }) asked.work alone
 
 -- a command on a store ended so
 abbrev pub IsEndOnStore : (Result Done CommandFault → Type 0) → Result Done Stopped → Type 0
@@ -44,14 +49,10 @@ IsEndOnStore Comes (Err (Unread trouble)) = ⊥
 IsEndOnStore Comes (Err (Folder failed)) = ⊥
 IsEndOnStore Comes (Err (Output error)) = ⊥
 
-abbrev pub DoesOnStore : {R O E : Type 0} → CommandOn → List ℕ → FileWork → Result Done Stopped → Seen R O E → Seen R O E → Type 0
-DoesOnStore OnStore store work result was now = IsEndOnStore (λ came. OnStore store work came (traffic was) (traffic now)) result
+abbrev pub DoesOnStore : {R O E : Type 0} → CommandOn → StoreWork → Result Done Stopped → Seen R O E → Seen R O E → Type 0
+DoesOnStore OnStore asked result was now = IsEndOnStore (λ came. OnStore asked (record { result = came; was = traffic was; now = traffic now })) result
 
 -- the work on a store that a line asks for
-pub record StoreWork : Type 0 where
-  pub store : List ℕ
-  pub work : FileWork
-
 abbrev pub work_of : Line → Option StoreWork
 work_of (Policy store policy) = Some (record { store = store.now; work = works.Policy policy })
 work_of (Ask store day) = Some (record { store = store.now; work = works.Ask day })
@@ -68,7 +69,7 @@ DoesLine OnStore (Check file) result was now = PrintsIfAny (IsJudged file.now wa
 DoesLine OnStore (Explain asked) result was now = PrintsIfAny (IsExplained asked) result was.output now.output
 DoesLine OnStore (Pack folder file) result was now = PrintsIfAny IsPackSaid result was.output now.output
 DoesLine OnStore (Unpack file folder) result was now = PrintsIfAny IsUnpackSaid result was.output now.output
-DoesLine OnStore line result was now = IfSome (work_of line) (λ asked. DoesOnStore OnStore asked.store asked.work result was now)
+DoesLine OnStore line result was now = IfSome (work_of line) (λ asked. DoesOnStore OnStore asked result was now)
 
 -- the line explains a policy, and names no day
 abbrev pub IsUndated : Line → Type 0
@@ -97,21 +98,20 @@ IsTold (Ok done) was now ending = TellsWhy (option_map string_bytes done.reason)
 IsTold (Err stopped) was now ending = TellsOf stopped was now ending
 
 -- What the line asks for is done with this result, of which standard error is told.
-pub record Comes {R O E : Type 0} (OnStore : CommandOn) (alone : Type 0) (line : Line) (was now : Seen R O E) (ending : Ending) : Type 0 where
+pub record Comes {R O E : Type 0} (OnStore : CommandOn) (alone : Type 0) (line : Line) (run : Course R O E) : Type 0 where
   pub result : Result Done Stopped
-  pub does : DoesLine OnStore line result was now
-  pub told : IsTold result was.error now.error ending
-  pub input : reads_input line ≡ false → now.input ≡ was.input
+  pub does : DoesLine OnStore line result run.was run.now
+  pub told : IsTold result run.was.error run.now.error run.ending
+  pub input : reads_input line ≡ false → run.now.input ≡ run.was.input
   pub store : is_on_store line ≡ false → alone
 
 -- There was no memory to read the words.
-pub record AreWordsUnread {R O E : Type 0} (alone : Type 0) (was now : Seen R O E) (ending : Ending) : Type 0 where
-  pub told : TellsMemory was.error now.error ending
-  pub input : now.input ≡ was.input
-  pub output : now.output ≡ was.output
+pub record AreWordsUnread {R O E : Type 0} (alone : Type 0) (run : Course R O E) : Type 0 where
+  pub told : TellsMemory run.was.error run.now.error run.ending
+  pub input : run.now.input ≡ run.was.input
+  pub output : run.now.output ≡ run.was.output
   pub store : alone
 
 -- the words ask for a line, and it comes to this; or there was no memory to read them
-abbrev pub ComesOfWords : {R O E : Type 0} → CommandOn → Type 0 → List (List ℕ) → Seen R O E → Seen R O E → Ending → Type 0
-ComesOfWords OnStore alone words was now ending =
-    ((line : Line) × Asks words line × Comes OnStore alone line was now ending) ⊎ AreWordsUnread alone was now ending
+abbrev pub ComesOfWords : {R O E : Type 0} → CommandOn → Type 0 → List (List ℕ) → Course R O E → Type 0
+ComesOfWords OnStore alone words run = ((line : Line) × Asks words line × Comes OnStore alone line run) ⊎ AreWordsUnread alone run

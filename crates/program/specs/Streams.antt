@@ -4,6 +4,7 @@ use Rattle.std.specs.declared.io.Read.{Ghosts as Reads}
 use Rattle.std.specs.declared.io.Write.{Ghosts as Writes}
 use Rattle.desk_devices.specs.Devices.{device_of}
 use Rattle.desk_devices.specs.declared.counted.Counted.{Counted}
+use Rattle.commands.specs.declared.ending.Ending.{Ending}
 use Rattle.office_commands.specs.Traffic.{Traffic}
 use Rattle.program.specs.declared.standard.Streams.{Streams}
 
@@ -34,3 +35,13 @@ seen_of r o e streams =
 -- the bytes of the two beside an office
 abbrev pub traffic : {R O E : Type 0} → Seen R O E → Traffic
 traffic seen = record { input = seen.input.bytes; output = seen.output.bytes }
+
+-- a run: what is seen of the three before it and after it, and how it ends
+pub record Course (R O E : Type 0) : Type 0 where
+  pub was : Seen R O E
+  pub now : Seen R O E
+  pub ending : Ending
+
+-- with these streams before it, and these after it
+abbrev pub course_of : {R O E : Type 0} → Reads R → Writes O → Writes E → Streams R O E × Streams R O E → Ending → Course (Counted R) (Counted O) E
+course_of r o e streams ending = record { was = seen_of r o e streams.0; now = seen_of r o e streams.1; ending = ending }

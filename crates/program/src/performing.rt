@@ -50,7 +50,7 @@ fn work_on<S: Start, R: Read, O: Write, E: Write>(
 ) -> Result<Done, Stopped>
     ensures does { DoesOnStore
         (on_store ⟦<FileFrom<S> as Disk>⟧ (image_at S.Start) (start.new ≡ start.old))
-        store.now work.now result
+        (record { store = store.now; work = work.now }) result
         (seen_of R.Read O.Write E.Write streams.old) (seen_of R.Read O.Write E.Write streams.new) }
     ensures input { work_reads_input work.now ≡ false → streams.new.input ≡ streams.old.input }
     ensures error { streams.new.error ≡ streams.old.error }

@@ -8,7 +8,7 @@ ghost use Rattle.command_line.specs.Lines.{AskNothing, Asks};
 ghost use Rattle.command_line.specs.Usage.{NamesNone, usage_for};
 ghost use Rattle.command_line.specs.declared.line.Line.{Line};
 ghost use Rattle.program.specs.Running.{Comes, ComesOfWords, IsUndated, NameNoDay, on_store};
-ghost use Rattle.program.specs.Streams.{seen_of, writer_seen};
+ghost use Rattle.program.specs.Streams.{course_of, writer_seen};
 ghost use Rattle.program.specs.Telling.{Refuses};
 
 use crate::detail::LastErrors;
@@ -42,8 +42,7 @@ fn run_line<S: Start, R: Read, O: Write, E: Write>(
     ensures comes { Comes
         (on_store ⟦<FileFrom<S> as Disk>⟧ (image_at S.Start) (start.new ≡ start.old))
         (start.new ≡ start.old) line.now
-        (seen_of R.Read O.Write E.Write streams.old) (seen_of R.Read O.Write E.Write streams.new)
-        result }
+        (course_of R.Read O.Write E.Write (streams.old, streams.new) result) }
     ensures used { result ≡ Misused → IsUndated line.now }
 {
     let ended = perform_line(rt, start, line, streams);
@@ -77,8 +76,7 @@ pub fn run<S: Start, R: Read, O: Write, E: Write>(
     ensures asked { (line : Line) → Asks (texts words.now) line → ComesOfWords
         (on_store ⟦<FileFrom<S> as Disk>⟧ (image_at S.Start) (start.new ≡ start.old))
         (start.new ≡ start.old) (texts words.now)
-        (seen_of R.Read O.Write E.Write streams.old) (seen_of R.Read O.Write E.Write streams.new)
-        result }
+        (course_of R.Read O.Write E.Write (streams.old, streams.new) result) }
 {
     match read_line(rt.alloc(), words) {
         Ok(line) => run_line(rt, start, &line, streams),

@@ -15,8 +15,8 @@ use streams::write_text;
 /// Tells standard error the text, and ends so. Where it doesn't take all of it, the status alone says
 /// that something failed.
 pub fn tell<E: Write>(text: &str, ending: Ending, error: &mut E) -> Ending
-    ensures { TellsPerson text.now ending (writer_seen E.Write error.old) (writer_seen E.Write error.new)
-        result }
+    ensures { TellsPerson text.now ending
+        (writer_seen E.Write error.old) (writer_seen E.Write error.new) result }
 {
     match write_text(text, error) {
         Ok(()) => ending,
