@@ -23,11 +23,18 @@ fn unread(trouble: Trouble) -> CommandFault
     }
 }
 
+/// The file that a policy is read from: its path, and the files among which it is.
+pub struct PolicyFile<'a, F> {
+    pub files: &'a F,
+    pub path: &'a str,
+}
+
 /// Opens the file.
-pub fn open_policy<F: Files>(rt: &F, path: &str) -> Result<F::File, CommandFault>
+pub fn open_policy<F: Files>(named: PolicyFile<'_, F>) -> Result<F::File, CommandFault>
     ensures { IfErr result IsUnread }
 {
-    match fs::open(rt, path) {
+    let PolicyFile { files, path } = named;
+    match fs::open(files, path) {
         Ok(file) => Ok(file),
         Err(error) => Err(unread(Trouble::from(error))),
     }

@@ -16,7 +16,7 @@ ghost use Rattle.office_commands.specs.declared.work.Work.TheVariants as works;
 
 use crate::done::Done;
 use crate::fault::{CommandFault, StoreFault};
-use crate::policy_file::{open_policy, policy_from};
+use crate::policy_file::{PolicyFile, open_policy, policy_from};
 use crate::printing::{installed_line, print};
 use crate::stores::in_store;
 use crate::work::Work;
@@ -107,10 +107,9 @@ fn install_from<S: Start, P: Read, R: Read, O: Write>(
 /// `policy STORE POLICY`: installs the policy, and then says so. The policy is read before that.
 fn install_in<F: Files, S: Start, R: Read, O: Write>(
     rt: &HostRuntime,
-    files: &F,
     start: &mut Option<S>,
     store: &str,
-    path: &str,
+    named: PolicyFile<'_, F>,
     input: &mut Counted<R>,
     out: &mut Counted<O>,
 ) -> Result<Done, CommandFault>
@@ -122,7 +121,7 @@ fn install_in<F: Files, S: Start, R: Read, O: Write>(
         (upshot_of R.Read O.Write result (input.old, out.old) (input.new, out.new))) }
     ensures left { input.new ≡ input.old }
 {
-    match open_policy(files, path) {
+    match open_policy(named) {
         Ok(mut file) => install_from(rt, start, store, &mut file, input, out),
         Err(fault) => Err(fault),
     }
@@ -158,10 +157,9 @@ fn replay_from<S: Start, P: Read, R: Read, O: Write>(
 /// policy is read before that.
 fn replay_under<F: Files, S: Start, R: Read, O: Write>(
     rt: &HostRuntime,
-    files: &F,
     start: &mut Option<S>,
     store: &str,
-    path: &str,
+    named: PolicyFile<'_, F>,
     input: &mut Counted<R>,
     out: &mut Counted<O>,
 ) -> Result<Done, CommandFault>
@@ -173,7 +171,7 @@ fn replay_under<F: Files, S: Start, R: Read, O: Write>(
         (upshot_of R.Read O.Write result (input.old, out.old) (input.new, out.new))) }
     ensures quiet { IfOk result IsQuiet }
 {
-    match open_policy(files, path) {
+    match open_policy(named) {
         Ok(mut file) => replay_from(rt, start, store, &mut file, input, out),
         Err(fault) => Err(fault),
     }
@@ -195,7 +193,10 @@ fn replay_in<S: Start, R: Read, O: Write>(
         (upshot_of R.Read O.Write result (input.old, out.old) (input.new, out.new)) }
 {
     match policy {
-        Some(path) => replay_under(rt, rt, start, store, path, input, out),
+        Some(path) => {
+            let named = PolicyFile { files: rt, path };
+            replay_under(rt, start, store, named, input, out)
+        }
         None => in_store(rt, start, store, &Work::Replay { policy: None }, input, out),
     }
 }
@@ -219,7 +220,10 @@ pub fn perform<S: Start, R: Read, O: Write>(
     ensures left { reads_input work.now ≡ false → input.new ≡ input.old }
 {
     match *work {
-        Work::Policy { policy } => install_in(rt, rt, start, store, policy, input, out),
+        Work::Policy { policy: path } => {
+            let named = PolicyFile { files: rt, path };
+            install_in(rt, start, store, named, input, out)
+        }
         Work::Ask { day } => in_store(rt, start, store, &Work::Ask { day }, input, out),
         Work::Replay { policy } => replay_in(rt, start, store, policy, input, out),
         Work::Serve { day, port, count } => {

@@ -13,8 +13,8 @@ ghost use Rattle.office_rows.specs.Rows.{max_limit};
 ghost use Rattle.office_tables.specs.Opening.{has_office};
 ghost use Rattle.office_tables.specs.Schema.{no_schema};
 ghost use Rattle.office_engine.specs.Keeping.{IsKeptBy, IsLeftAt};
-ghost use Rattle.office_commands.specs.Stores.{GoesOnFrom, IsOfficeOver, RunsInFile, RunsInMemory, RunsOn, RunsOver, SomeOffice, made_office};
-ghost use Rattle.office_commands.specs.Tasks.{DoesTask, makes_office, reads_input};
+ghost use Rattle.office_commands.specs.Stores.{GoesOnFrom, IsOfficeOver, RunsInMemory, RunsOn, RunsOver, SomeOffice, made_office};
+ghost use Rattle.office_commands.specs.Tasks.{DoesTask, reads_input};
 ghost use Rattle.office_commands.specs.Texts.{IsOfOpening, IsOfStore, IsUnclosable, IsUnopenable, found_nothing, is_of_search, is_sought, search_failure, store_failure};
 ghost use Rattle.office_commands.specs.Traffic.{upshot_of};
 ghost use Rattle.office_commands.specs.Works.{IsQuiet};
@@ -298,28 +298,6 @@ fn on_files<D: Disk + Drop, R: Read, O: Write>(
     }
 }
 
-/// Does the task with the office in the file of the store, which is to be made or is there.
-fn in_file<S: Start, R: Read, O: Write>(
-    rt: &HostRuntime,
-    start: S,
-    store: &str,
-    is_new: bool,
-    task: &Task<'_>,
-    input: &mut Counted<R>,
-    out: &mut Counted<O>,
-) -> Result<Done, CommandFault>
-    requires asked { is_new ≡ true → makes_office task.now ≡ true }
-    ensures runs { RunsInFile ⟦<FileFrom<S> as Disk>⟧ (image_at S.Start) task.now
-        (upshot_of R.Read O.Write result (input.old, out.old) (input.new, out.new)) }
-    ensures left { reads_input task.now ≡ false → input.new ≡ input.old }
-    ensures quiet { IfOk result IsQuiet }
-{
-    match open_store(rt, start, store, is_new) {
-        Ok(conn) => on_files(rt, conn, is_new, task, input, out),
-        Err(fault) => Err(fault),
-    }
-}
-
 /// Does the task with the office of the store; `:memory:` is a new one in memory.
 pub fn in_store<S: Start, R: Read, O: Write>(
     rt: &HostRuntime,
@@ -339,8 +317,11 @@ pub fn in_store<S: Start, R: Read, O: Write>(
         return in_memory(rt, task, input, out);
     }
     let is_new = is_to_be_made(rt, store, task.makes_office())?;
-    match start.take() {
-        Some(start) => in_file(rt, start, store, is_new, task, input, out),
-        None => Err(failed_by(StoreFault::Store, Cause::Taken)),
+    let Some(start) = start.take() else {
+        return Err(failed_by(StoreFault::Store, Cause::Taken));
+    };
+    match open_store(rt, start, store, is_new) {
+        Ok(conn) => on_files(rt, conn, is_new, task, input, out),
+        Err(fault) => Err(fault),
     }
 }
