@@ -15,8 +15,8 @@ use Rattle.office_rows.specs.Rows.{ClassRow, DepositRow, DueRow, HoldRow, Limits
 use Rattle.office_history.specs.Pictures.{effect_number, years_number}
 use Rattle.office_history.specs.Refusals.{refusal_in}
 use Rattle.office_history.proofs.Pictured.{same_day, same_days}
-use Rattle.office_asking.specs.Asking.{IsDecisionOf}
-use Rattle.office_asking.specs.ByRows.{AreDaysOf, AreFactsIn, IsAskedIn, IsCountIn, IsCountedIn, IsDecisionBy, IsDenialIn, IsDueIn, IsFirst, IsHoldIn, IsLeastIn, IsRefusalIn, IsRefusalOf, deciding_row}
+use Rattle.office_asking.specs.Asking.{IsDecisionOf, Visit}
+use Rattle.office_asking.specs.ByRows.{AreDaysOf, AreFactsIn, IsAskedIn, IsCountIn, IsCountedIn, IsDecisionBy, IsDenialBy, IsDueIn, IsFirst, IsHoldIn, IsLeastIn, IsRefusalIn, IsRefusalOf, deciding_row_at}
 use Rattle.office_asking.specs.Holds.{IsHoldOf}
 use Rattle.office_asking.specs.Limits.{IsNextIn, IsNumberAfter, IsRefusedOr}
 use Rattle.office_asking.specs.declared.deposits.DepositDays.{DepositDays}
@@ -52,9 +52,9 @@ decision_is_one (Some row) (Some a) None p q = absurd q
 decision_is_one (Some row) (Some a) (Some b) p q = ap Some (decision_of_row_is_one row a b p q)
 
 -- the rules deny by one refusal or by none
-pub denial_is_one : (t : Tables) (day : Date) (caller : List ℕ) (action : Action) (collection class : Option (List ℕ)) → HasAtMostOne (IsDenialIn t day caller action collection class)
-denial_is_one t day caller action collection class a b p q =
-    let decision : p.decision ≡ q.decision = decision_is_one (deciding_row t day caller action collection class) p.decision q.decision p.decided q.decided in
+pub denial_is_one : (row : Option RuleRow) → HasAtMostOne (IsDenialBy row)
+denial_is_one row a b p q =
+    let decision : p.decision ≡ q.decision = decision_is_one row p.decision q.decision p.decided q.decided in
     p.comes_to ∙ ap (λ d. refusal_in (denial_verdict d)) decision ∙ sym q.comes_to
 
 -- ---- a deposit that is asked for
@@ -75,29 +75,29 @@ first_is_one None row a b p q =
     p.2 ∙ ap (λ (d : DepositDays). option_map Gone d.gone) days ∙ sym q.2
 
 -- one refusal stands first against what is asked of a deposit, or none
-pub refusal_is_one : (t : Tables) (day : Date) (caller : List ℕ) (action : Action) (row : DepositRow) → HasAtMostOne (IsRefusalIn t day caller action row)
-refusal_is_one t day caller action row a b p q =
-    let denied : p.denied ≡ q.denied = denial_is_one t day caller action (Some row.collection) (Some row.class) p.denied q.denied p.denial q.denial in
+pub refusal_is_one : (t : Tables) (visit : Visit) (action : Action) (row : DepositRow) → HasAtMostOne (IsRefusalIn t visit action row)
+refusal_is_one t visit action row a b p q =
+    let denied : p.denied ≡ q.denied = denial_is_one (deciding_row_at t visit action row) p.denied q.denied p.denial q.denial in
     first_is_one q.denied row a b (subst (λ d. IsFirst d row a) denied p.first) q.first
 
 -- the same of a deposit that may not be there
-pub refusal_of_is_one : (t : Tables) (day : Date) (caller : List ℕ) (action : Action) (found : Option DepositRow) → HasAtMostOne (IsRefusalOf t day caller action found)
-refusal_of_is_one t day caller action None a b p q = p ∙ sym q
-refusal_of_is_one t day caller action (Some row) a b p q = same_Some a b (refusal_is_one t day caller action row (Some a) (Some b) p q)
+pub refusal_of_is_one : (t : Tables) (visit : Visit) (action : Action) (found : Option DepositRow) → HasAtMostOne (IsRefusalOf t visit action found)
+refusal_of_is_one t visit action None a b p q = p ∙ sym q
+refusal_of_is_one t visit action (Some row) a b p q = same_Some a b (refusal_is_one t visit action row (Some a) (Some b) p q)
 
 -- a deposit of which no refusal stands has none
-not_refused : (t : Tables) (day : Date) (caller : List ℕ) (action : Action) (found : Option DepositRow) (row : DepositRow) (why : Refusal)
-    → Some row ≡ found → IsRefusalIn t day caller action row None → IsRefusalOf t day caller action found why → ⊥
-not_refused t day caller action found row why is free refused =
-    let both : None ≡ Some why = refusal_is_one t day caller action row None (Some why) free (subst (λ o. IsRefusalOf t day caller action o why) (sym is) refused) in
+not_refused : (t : Tables) (visit : Visit) (action : Action) (found : Option DepositRow) (row : DepositRow) (why : Refusal)
+    → Some row ≡ found → IsRefusalIn t visit action row None → IsRefusalOf t visit action found why → ⊥
+not_refused t visit action found row why is free refused =
+    let both : None ≡ Some why = refusal_is_one t visit action row None (Some why) free (subst (λ o. IsRefusalOf t visit action o why) (sym is) refused) in
     absurd cc
 
 -- one row is found of a deposit that is asked for, or one refusal stands first
-pub asked_is_one : (t : Tables) (day : Date) (caller : List ℕ) (action : Action) (n : ℕ) → HasAtMostOne (IsAskedIn t day caller action n)
-asked_is_one t day caller action n (Ok a) (Ok b) p q = ap Ok (same_Some a b (p.0 ∙ sym q.0))
-asked_is_one t day caller action n (Ok a) (Err b) p q = absurd (not_refused t day caller action (deposit_numbered (pos n) t.deposits) a b p.0 p.1 q)
-asked_is_one t day caller action n (Err a) (Ok b) p q = absurd (not_refused t day caller action (deposit_numbered (pos n) t.deposits) b a q.0 q.1 p)
-asked_is_one t day caller action n (Err a) (Err b) p q = ap Err (refusal_of_is_one t day caller action (deposit_numbered (pos n) t.deposits) a b p q)
+pub asked_is_one : (t : Tables) (visit : Visit) (action : Action) (n : ℕ) → HasAtMostOne (IsAskedIn t visit action n)
+asked_is_one t visit action n (Ok a) (Ok b) p q = ap Ok (same_Some a b (p.0 ∙ sym q.0))
+asked_is_one t visit action n (Ok a) (Err b) p q = absurd (not_refused t visit action (deposit_numbered (pos n) t.deposits) a b p.0 p.1 q)
+asked_is_one t visit action n (Err a) (Ok b) p q = absurd (not_refused t visit action (deposit_numbered (pos n) t.deposits) b a q.0 q.1 p)
+asked_is_one t visit action n (Err a) (Err b) p q = ap Err (refusal_of_is_one t visit action (deposit_numbered (pos n) t.deposits) a b p q)
 
 -- ---- what stands against its destruction
 
@@ -139,19 +139,20 @@ none_or_some : (t : Tables) (count : ℤ) → count ≡ pos 0 → IsCountIn t co
 none_or_some t count none some = let least : pos 1 ≤ℤ pos 0 = subst (λ c. pos 1 ≤ℤ c) none some.is.0 in omega (arith, least)
 
 -- a count is of no live hold, or of one hold that is the least
-pub counted_is_one : (t : Tables) (count : ℤ) (n : ℕ) (collection class : List ℕ) → HasAtMostOne (IsCountedIn t count n collection class)
-counted_is_one t count n collection class None None p q = refl
-counted_is_one t count n collection class None (Some b) p q = absurd (none_or_some t count p q.0)
-counted_is_one t count n collection class (Some a) None p q = absurd (none_or_some t count q p.0)
-counted_is_one t count n collection class (Some a) (Some b) p q = ap Some (least_is_one t n collection class a b p.1 q.1)
+pub counted_is_one : (t : Tables) (count : ℤ) (is_so : ℕ → Type 0) → HasAtMostOne is_so → HasAtMostOne (IsCountedIn t count is_so)
+counted_is_one t count is_so one None None p q = refl
+counted_is_one t count is_so one None (Some b) p q = absurd (none_or_some t count p q.0)
+counted_is_one t count is_so one (Some a) None p q = absurd (none_or_some t count q p.0)
+counted_is_one t count is_so one (Some a) (Some b) p q = ap Some (one a b p.1 q.1)
 
 -- the same facts are known of a disposal
-pub facts_are_one : (t : Tables) (day : Date) (caller : List ℕ) (n : ℕ) (row : DepositRow) → HasAtMostOne (AreFactsIn t day caller n row)
-facts_are_one t day caller n row a b p q =
+pub facts_are_one : (t : Tables) (visit : Visit) (n : ℕ) (row : DepositRow) → HasAtMostOne (AreFactsIn t visit n row)
+facts_are_one t visit n row a b p q =
     let days : p.days ≡ q.days = days_are_one row p.days q.days p.are_days q.are_days in
     let kept : p.kept ≡ q.kept = same_Some p.kept q.kept (p.there ∙ sym q.there) in
-    let decision : a.decision ≡ b.decision = decision_is_one (deciding_row t day caller acts.Dispose (Some row.collection) (Some row.class)) a.decision b.decision p.decided q.decided in
-    let hold : a.hold ≡ b.hold = counted_is_one t q.kept.holds n row.collection row.class a.hold b.hold (subst (λ (k : DueRow). IsCountedIn t k.holds n row.collection row.class a.hold) kept p.hold) q.hold in
+    let decision : a.decision ≡ b.decision = decision_is_one (deciding_row_at t visit acts.Dispose row) a.decision b.decision p.decided q.decided in
+    let least : ℕ → Type 0 = IsLeastIn t n row.collection row.class in
+    let hold : a.hold ≡ b.hold = counted_is_one t q.kept.holds least (least_is_one t n row.collection row.class) a.hold b.hold (subst (λ (k : DueRow). IsCountedIn t k.holds least a.hold) kept p.hold) q.hold in
     λ i. record {
       action = (p.action ∙ sym q.action) i;
       decision = decision i;

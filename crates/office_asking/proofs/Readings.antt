@@ -16,7 +16,7 @@ use Rattle.office_history.specs.Pictures.{picture, rule_rows}
 use Rattle.office_history.specs.Refusals.{deciding_rule}
 use Rattle.office_history.specs.Runs.{IsLegal}
 use Rattle.office_history.proofs.LegalReadings.{legal_policy}
-use Rattle.office_asking.specs.Asking.{IsAsker, IsDecisionOf, or_empty}
+use Rattle.office_asking.specs.Asking.{IsAsker, IsDecisionOf, Visit, or_empty}
 use Rattle.office_asking.specs.Pictures.{Pictures}
 use Rattle.office_asking.specs.declared.asker.Asker.{Asker}
 use Rattle.office_asking.proofs.PolicyTold.{role_told}
@@ -37,9 +37,9 @@ pub role_read : {h : History} {old : Database} → Pictures h old → (caller : 
 role_read {h = h} {old = old} pictured caller role found = ap or_stranger (found ∙ in_picture pictured (λ t. option_map (λ (c : CallerRow). c.role) (caller_named caller t.callers))) ∙ role_told caller (policy h).callers
 
 -- the rule that is found for a caller's role on the asker's day is the one that decides
-module _ {h : History} {old : Database} (legal : IsLegal h) (pictured : Pictures h old) (day : Date) (caller : List ℕ) (asker : Asker) (is : IsAsker h day caller asker) (action : Action) (collection class : Option (List ℕ)) where
+module _ {h : History} {old : Database} (legal : IsLegal h) (pictured : Pictures h old) (visit : Visit) (asker : Asker) (is : IsAsker h visit asker) (action : Action) (collection class : Option (List ℕ)) where
   abbrev asked : List ℕ → Question
-  asked role = record { role = role; action = action; collection = collection; class = class; day = day }
+  asked role = record { role = role; action = action; collection = collection; class = class; day = visit.day }
 
   abbrev pub found_on : Date → List ℕ → Option RuleRow
   found_on on role = matching_rule role (action_text action) (or_empty collection) (or_empty class) (epoch_day on) (tables_of old).rules
@@ -47,13 +47,13 @@ module _ {h : History} {old : Database} (legal : IsLegal h) (pictured : Pictures
   abbrev pub found_for : List ℕ → Option RuleRow
   found_for = found_on asker.day
 
-  pictured_rule : found_for (or_stranger (option_map string_bytes asker.role)) ≡ matching_rule (role_of (policy h) caller) (action_text action) (or_empty collection) (or_empty class) (epoch_day day) (rule_rows 1 (policy h).rules)
+  pictured_rule : found_for (or_stranger (option_map string_bytes asker.role)) ≡ matching_rule (role_of (policy h) visit.caller) (action_text action) (or_empty collection) (or_empty class) (epoch_day visit.day) (rule_rows 1 (policy h).rules)
   pictured_rule =
       (λ i. found_on (is.on i) (is.role i))
-      ∙ in_picture pictured (λ t. matching_rule (role_of (policy h) caller) (action_text action) (or_empty collection) (or_empty class) (epoch_day day) t.rules)
+      ∙ in_picture pictured (λ t. matching_rule (role_of (policy h) visit.caller) (action_text action) (or_empty collection) (or_empty class) (epoch_day visit.day) t.rules)
 
-  pub none_found : None ≡ found_for (or_stranger (option_map string_bytes asker.role)) → None ≡ deciding_rule h day caller action collection class
-  none_found none = none_decides (policy h) (asked (role_of (policy h) caller)) (legal_policy h legal) (none ∙ pictured_rule)
+  pub none_found : None ≡ found_for (or_stranger (option_map string_bytes asker.role)) → None ≡ deciding_rule h visit.day visit.caller action collection class
+  none_found none = none_decides (policy h) (asked (role_of (policy h) visit.caller)) (legal_policy h legal) (none ∙ pictured_rule)
 
-  pub rule_found : (row : RuleRow) → Some row ≡ found_for (or_stranger (option_map string_bytes asker.role)) → (decision : Decision) → IsDecisionOf row decision → Some decision ≡ deciding_rule h day caller action collection class
-  rule_found row there decision says = row_decides (policy h) (asked (role_of (policy h) caller)) (legal_policy h legal) row (there ∙ pictured_rule) decision says
+  pub rule_found : (row : RuleRow) → Some row ≡ found_for (or_stranger (option_map string_bytes asker.role)) → (decision : Decision) → IsDecisionOf row decision → Some decision ≡ deciding_rule h visit.day visit.caller action collection class
+  rule_found row there decision says = row_decides (policy h) (asked (role_of (policy h) visit.caller)) (legal_policy h legal) row (there ∙ pictured_rule) decision says

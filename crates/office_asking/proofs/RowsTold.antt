@@ -20,8 +20,8 @@ use Rattle.office_rows.specs.Rows.{CallerRow, DepositRow, RuleRow, Tables, calle
 use Rattle.office_history.specs.RowRanges.{IsCallerRow}
 use Rattle.office_tables.specs.Tables.{IsOffice, tables_of}
 use Rattle.office_tables.specs.declared.fault.TableFault.{TableFault}
-use Rattle.office_asking.specs.Asking.{IsDecisionOf, or_empty}
-use Rattle.office_asking.specs.ByRows.{IsAskedIn, IsAskerIn, IsDecisionBy, IsDenialIn, IsFirst, IsRefusalOf, deciding_row}
+use Rattle.office_asking.specs.Asking.{IsDecisionOf, Visit, or_empty}
+use Rattle.office_asking.specs.ByRows.{IsAskedIn, IsAskerIn, IsDecisionBy, IsDenialBy, IsFirst, IsRefusalOf, deciding_row, deciding_row_at}
 use Rattle.office_asking.specs.declared.asker.Asker.{Asker}
 
 -- a call that changes no row leaves an office, and what is told of the rows after it is told of those before it
@@ -53,20 +53,20 @@ mapped tell None told e = absurd cc
 mapped tell (Some x) told e = (x, refl, same_Some _ _ e)
 
 -- the rule that is found on the asker's day for the role that the rows give the caller is the one that decides
-module _ (t : Tables) (day : Date) (caller : List ℕ) (asker : Asker) (is : IsAskerIn t day caller asker) (action : Action) (collection class : Option (List ℕ)) where
+module _ (t : Tables) (visit : Visit) (asker : Asker) (is : IsAskerIn t visit asker) (action : Action) (collection class : Option (List ℕ)) where
   abbrev found_on : Date → List ℕ → Option RuleRow
   found_on on role = matching_rule role (action_text action) (or_empty collection) (or_empty class) (epoch_day on) t.rules
 
   abbrev found_for : List ℕ → Option RuleRow
   found_for = found_on asker.day
 
-  found_then : found_for (or_stranger (option_map string_bytes asker.role)) ≡ deciding_row t day caller action collection class
+  found_then : found_for (or_stranger (option_map string_bytes asker.role)) ≡ deciding_row t visit action collection class
   found_then = λ i. found_on (is.on i) (is.role i)
 
-  pub none_by_row : None ≡ found_for (or_stranger (option_map string_bytes asker.role)) → IsDecisionBy (deciding_row t day caller action collection class) None
+  pub none_by_row : None ≡ found_for (or_stranger (option_map string_bytes asker.role)) → IsDecisionBy (deciding_row t visit action collection class) None
   none_by_row none = subst (λ o. IsDecisionBy o None) (none ∙ found_then) tt
 
-  pub decided_by_row : (row : RuleRow) → Some row ≡ found_for (or_stranger (option_map string_bytes asker.role)) → (decision : Decision) → IsDecisionOf row decision → IsDecisionBy (deciding_row t day caller action collection class) (Some decision)
+  pub decided_by_row : (row : RuleRow) → Some row ≡ found_for (or_stranger (option_map string_bytes asker.role)) → (decision : Decision) → IsDecisionOf row decision → IsDecisionBy (deciding_row t visit action collection class) (Some decision)
   decided_by_row row there decision says = subst (λ o. IsDecisionBy o (Some decision)) (there ∙ found_then) says
 
 -- the row of a caller is in its ranges, where the caller and the role that the row gives are names
@@ -86,15 +86,15 @@ first_of k [] live are first = absurd cc
 first_of k (m ∷ numbers) live are first = (map pos numbers, sym are ∙ ap (λ x. pos x ∷ map pos numbers) (same_Some _ _ (sym first)))
 
 -- a deposit that is asked for
-module _ (t : Tables) (day : Date) (caller : List ℕ) (action : Action) (n : ℕ) where
-  pub none_asked : None ≡ deposit_numbered (pos n) t.deposits → IsAskedIn t day caller action n (Err (NoSuch subjects.Deposit))
-  none_asked none = subst (λ o. IsRefusalOf t day caller action o (NoSuch subjects.Deposit)) none refl
+module _ (t : Tables) (visit : Visit) (action : Action) (n : ℕ) where
+  pub none_asked : None ≡ deposit_numbered (pos n) t.deposits → IsAskedIn t visit action n (Err (NoSuch subjects.Deposit))
+  none_asked none = subst (λ o. IsRefusalOf t visit action o (NoSuch subjects.Deposit)) none refl
 
-  pub row_asked : (row : DepositRow) → Some row ≡ deposit_numbered (pos n) t.deposits → (denied : Option Refusal) → IsDenialIn t day caller action (Some row.collection) (Some row.class) denied
+  pub row_asked : (row : DepositRow) → Some row ≡ deposit_numbered (pos n) t.deposits → (denied : Option Refusal) → IsDenialBy (deciding_row_at t visit action row) denied
       → (asked : Result (Result DepositRow Refusal) TableFault) → IfOk asked (λ found. IfOk found (λ r. (r ≡ row) × IsFirst denied row None)) → IfOk asked (λ found. IfErr found (λ why. IsFirst denied row (Some why)))
-      → IfOk asked (IsAskedIn t day caller action n)
+      → IfOk asked (IsAskedIn t visit action n)
   row_asked row there denied denial (Ok (Ok r)) kept refused =
-      subst (λ (x : DepositRow). IsAskedIn t day caller action n (Ok x)) (sym kept.0) (there, record { denied = denied; denial = denial; first = kept.1 })
+      subst (λ (x : DepositRow). IsAskedIn t visit action n (Ok x)) (sym kept.0) (there, record { denied = denied; denial = denial; first = kept.1 })
   row_asked row there denied denial (Ok (Err why)) kept refused =
-      subst (λ o. IsRefusalOf t day caller action o why) there (record { denied = denied; denial = denial; first = refused })
+      subst (λ o. IsRefusalOf t visit action o why) there (record { denied = denied; denial = denial; first = refused })
   row_asked row there denied denial (Err fault) kept refused = tt

@@ -11,6 +11,7 @@ use Rattle.office_history.specs.Pictures.{picture}
 use Rattle.office_tables.specs.Tables.{Becomes, tables_of}
 use Rattle.office_tables.specs.Contents.{KeepsOnce}
 use Rattle.office_history.specs.Histories.{History, with_changes}
+use Rattle.office_history.specs.Runs.{Item}
 use Rattle.office_history.specs.Refusals.{refusal}
 use Rattle.office_history.proofs.Accepted.{grown_by_none}
 pub use Rattle.office_history.proofs.PlainLemmas.{one_only as one_refusal}
@@ -18,21 +19,30 @@ use Rattle.office_history.specs.Answers.{answer_unless, changes_unless, allowed_
 use Rattle.office_asking.specs.Pictures.{Pictures}
 use Rattle.office_asking.specs.Serving.{IsServed}
 
-module _ (h : History) (day : Date) (caller : List ℕ) (request : Request) (db : Database) where
-  pub refused_serves : (why : Refusal) → Some why ≡ refusal h day caller request → Pictures h db → IsServed h day caller request (Refused why) db
+module _ (h : History) (item : Item) (db : Database) where
+  abbrev day : Date
+  day = item.0
+
+  abbrev caller : List ℕ
+  caller = item.1.now
+
+  abbrev request : Request
+  request = item.2
+
+  pub refused_serves : (why : Refusal) → Some why ≡ refusal h day caller request → Pictures h db → IsServed h item (Refused why) db
   refused_serves why e pictured = record {
     answer = ap (λ o. answer_unless o (allowed_answer h day caller request)) e;
     after = subst (λ (x : History). Pictures x db) (grown_by_none h ∙ ap (λ o. with_changes h (changes_unless o (allowed_change h day request))) e) pictured;
   }
 
-  pub allowed_serves : (given : Answer) → None ≡ refusal h day caller request → given ≡ allowed_answer h day caller request → Pictures (with_changes h (allowed_change h day request)) db → IsServed h day caller request given db
+  pub allowed_serves : (given : Answer) → None ≡ refusal h day caller request → given ≡ allowed_answer h day caller request → Pictures (with_changes h (allowed_change h day request)) db → IsServed h item given db
   allowed_serves given e is pictured = record {
     answer = is ∙ ap (λ o. answer_unless o (allowed_answer h day caller request)) e;
     after = subst (λ (x : History). Pictures x db) (ap (λ o. with_changes h (changes_unless o (allowed_change h day request))) e) pictured;
   }
 
   -- a request that changes nothing
-  pub read_serves : (given : Answer) → None ≡ refusal h day caller request → given ≡ allowed_answer h day caller request → allowed_change h day request ≡ [] → Pictures h db → IsServed h day caller request given db
+  pub read_serves : (given : Answer) → None ≡ refusal h day caller request → given ≡ allowed_answer h day caller request → allowed_change h day request ≡ [] → Pictures h db → IsServed h item given db
   read_serves given e is none pictured = allowed_serves given e is (subst (λ (x : History). Pictures x db) (grown_by_none h ∙ ap (with_changes h) (sym none)) pictured)
 
 -- what the tables became pictures a longer history, where these rows are that history's and contents are kept once still

@@ -10,6 +10,14 @@ use Rattle.office_history.specs.Pictures.{effect_number}
 use Rattle.office_history.specs.RowRanges.{IsRuleRow}
 use Rattle.office_asking.specs.declared.asker.Asker.{Asker}
 
+-- who asks, and on which day
+pub record Visit : Type 0 where
+  pub day : Date
+  pub caller : List ℕ
+
+abbrev pub visit_on : Date → List ℕ → Visit
+visit_on day caller = record { day = day; caller = caller }
+
 -- a name as the rules are asked for it: an absent one is the empty text
 abbrev pub or_empty : Option (List ℕ) → List ℕ
 or_empty name = unwrap_or name []
@@ -23,9 +31,9 @@ pub record IsDecisionOf (row : RuleRow) (decision : Decision) : Type 0 where
   pub in_range : IsRuleRow row
 
 -- the role is the caller's, and the day is the one on which it asks
-pub record IsAsker (h : History) (day : Date) (caller : List ℕ) (asker : Asker) : Type 0 where
-  pub role : or_stranger (option_map string_bytes asker.role) ≡ role_of (policy h) caller
-  pub on : asker.day ≡ day
+pub record IsAsker (h : History) (visit : Visit) (asker : Asker) : Type 0 where
+  pub role : or_stranger (option_map string_bytes asker.role) ≡ role_of (policy h) visit.caller
+  pub on : asker.day ≡ visit.day
 
 -- what a rule's row, and a decision, say of the rule: its place and its effect
 abbrev pub place_and_effect : RuleRow → ℤ × ℤ

@@ -25,7 +25,7 @@ use Rattle.office_rows.specs.Matching.{matching_rule}
 use Rattle.office_history.specs.Pictures.{years_number}
 use Rattle.office_history.specs.Refusals.{refusal_in}
 use Rattle.office_history.specs.RowRanges.{IsCallerRow}
-use Rattle.office_asking.specs.Asking.{IsDecisionOf, or_empty}
+use Rattle.office_asking.specs.Asking.{IsDecisionOf, Visit, or_empty}
 use Rattle.office_asking.specs.Holds.{IsHoldOf}
 use Rattle.office_asking.specs.declared.asker.Asker.{Asker}
 use Rattle.office_asking.specs.declared.deposits.DepositDays.{DepositDays}
@@ -37,14 +37,18 @@ abbrev pub role_in : Tables → List ℕ → List ℕ
 role_in t caller = or_stranger (option_map (λ (c : CallerRow). c.role) (caller_named caller t.callers))
 
 -- the role is that one, the day is the one on which it asks, and the caller's row, where there is one, is in its ranges
-pub record IsAskerIn (t : Tables) (day : Date) (caller : List ℕ) (asker : Asker) : Type 0 where
-  pub role : or_stranger (option_map string_bytes asker.role) ≡ role_in t caller
-  pub on : asker.day ≡ day
-  pub in_range : IfSome (caller_named caller t.callers) IsCallerRow
+pub record IsAskerIn (t : Tables) (visit : Visit) (asker : Asker) : Type 0 where
+  pub role : or_stranger (option_map string_bytes asker.role) ≡ role_in t visit.caller
+  pub on : asker.day ≡ visit.day
+  pub in_range : IfSome (caller_named visit.caller t.callers) IsCallerRow
 
 -- the row of the rule that decides on that day, if one matches
-abbrev pub deciding_row : Tables → Date → List ℕ → Action → Option (List ℕ) → Option (List ℕ) → Option RuleRow
-deciding_row t day caller action collection class = matching_rule (role_in t caller) (action_text action) (or_empty collection) (or_empty class) (epoch_day day) t.rules
+abbrev pub deciding_row : Tables → Visit → Action → Option (List ℕ) → Option (List ℕ) → Option RuleRow
+deciding_row t visit action collection class = matching_rule (role_in t visit.caller) (action_text action) (or_empty collection) (or_empty class) (epoch_day visit.day) t.rules
+
+-- asked of a deposit: of the collection and the class that its row names
+abbrev pub deciding_row_at : Tables → Visit → Action → DepositRow → Option RuleRow
+deciding_row_at t visit action row = deciding_row t visit action (Some row.collection) (Some row.class)
 
 -- the decision is what the row of its rule says, and there is none where there is no row
 abbrev pub IsDecisionBy : Option RuleRow → Option Decision → Type 0
@@ -52,10 +56,10 @@ IsDecisionBy None None = ⊤
 IsDecisionBy (Some row) (Some decision) = IsDecisionOf row decision
 IsDecisionBy _ _ = ⊥
 
--- the refusal, if any, that the rule comes to which decides
-pub record IsDenialIn (t : Tables) (day : Date) (caller : List ℕ) (action : Action) (collection class : Option (List ℕ)) (why : Option Refusal) : Type 0 where
+-- the refusal, if any, by the row of the rule that decides, or by there being none
+pub record IsDenialBy (row : Option RuleRow) (why : Option Refusal) : Type 0 where
   pub decision : Option Decision
-  pub decided : IsDecisionBy (deciding_row t day caller action collection class) decision
+  pub decided : IsDecisionBy row decision
   pub comes_to : why ≡ refusal_in (denial_verdict decision)
 
 -- ---- a deposit that is asked for
@@ -74,20 +78,20 @@ IsFirst (Some denied) row why = why ≡ Some denied
 IsFirst None row why = (days : DepositDays) × AreDaysOf row days × (why ≡ option_map Gone days.gone)
 
 -- what stands first against this, of the deposit with that row
-pub record IsRefusalIn (t : Tables) (day : Date) (caller : List ℕ) (action : Action) (row : DepositRow) (why : Option Refusal) : Type 0 where
+pub record IsRefusalIn (t : Tables) (visit : Visit) (action : Action) (row : DepositRow) (why : Option Refusal) : Type 0 where
   pub denied : Option Refusal
-  pub denial : IsDenialIn t day caller action (Some row.collection) (Some row.class) denied
+  pub denial : IsDenialBy (deciding_row_at t visit action row) denied
   pub first : IsFirst denied row why
 
 -- the same of a deposit that may not be there
-abbrev pub IsRefusalOf : Tables → Date → List ℕ → Action → Option DepositRow → Refusal → Type 0
-IsRefusalOf t day caller action None why = why ≡ NoSuch subjects.Deposit
-IsRefusalOf t day caller action (Some row) why = IsRefusalIn t day caller action row (Some why)
+abbrev pub IsRefusalOf : Tables → Visit → Action → Option DepositRow → Refusal → Type 0
+IsRefusalOf t visit action None why = why ≡ NoSuch subjects.Deposit
+IsRefusalOf t visit action (Some row) why = IsRefusalIn t visit action row (Some why)
 
 -- the row of the deposit of that number, or what stands first against this
-abbrev pub IsAskedIn : Tables → Date → List ℕ → Action → ℕ → Result DepositRow Refusal → Type 0
-IsAskedIn t day caller action n (Ok row) = (Some row ≡ deposit_numbered (pos n) t.deposits) × IsRefusalIn t day caller action row None
-IsAskedIn t day caller action n (Err why) = IsRefusalOf t day caller action (deposit_numbered (pos n) t.deposits) why
+abbrev pub IsAskedIn : Tables → Visit → Action → ℕ → Result DepositRow Refusal → Type 0
+IsAskedIn t visit action n (Ok row) = (Some row ≡ deposit_numbered (pos n) t.deposits) × IsRefusalIn t visit action row None
+IsAskedIn t visit action n (Err why) = IsRefusalOf t visit action (deposit_numbered (pos n) t.deposits) why
 
 -- ---- what stands against its destruction
 
@@ -125,15 +129,15 @@ pub record IsCountIn (t : Tables) (count : ℤ) : Type 0 where
   pub are : limits_of t ≡ Some limits
   pub is : IsBetween (pos 1) limits.max_holds count
 
--- none exactly where the count is 0; by any other count the least, which has to be there
-abbrev pub IsCountedIn : Tables → ℤ → ℕ → List ℕ → List ℕ → Option ℕ → Type 0
-IsCountedIn t count n collection class None = count ≡ pos 0
-IsCountedIn t count n collection class (Some k) = IsCountIn t count × IsLeastIn t n collection class k
+-- none exactly where the count is 0; by any other count the hold of which this is so
+abbrev pub IsCountedIn : Tables → ℤ → (ℕ → Type 0) → Option ℕ → Type 0
+IsCountedIn t count is_so None = count ≡ pos 0
+IsCountedIn t count is_so (Some k) = IsCountIn t count × is_so k
 
 -- what is known of the disposal of the deposit with that row, by the due day and the count that are kept beside it
-pub record AreFactsIn (t : Tables) (day : Date) (caller : List ℕ) (n : ℕ) (row : DepositRow) (facts : Facts) : Type 0 where
+pub record AreFactsIn (t : Tables) (visit : Visit) (n : ℕ) (row : DepositRow) (facts : Facts) : Type 0 where
   pub action : facts.action ≡ acts.Dispose
-  pub decided : IsDecisionBy (deciding_row t day caller acts.Dispose (Some row.collection) (Some row.class)) facts.decision
+  pub decided : IsDecisionBy (deciding_row_at t visit acts.Dispose row) facts.decision
   pub days : DepositDays
   pub are_days : AreDaysOf row days
   pub gone : facts.gone ≡ days.gone
@@ -141,4 +145,4 @@ pub record AreFactsIn (t : Tables) (day : Date) (caller : List ℕ) (n : ℕ) (r
   pub there : Some kept ≡ due_numbered (pos n) t.dues
   pub due : due_number facts.due ≡ kept.due
   pub is_due : IfSome kept.due IsDueNumber
-  pub hold : IsCountedIn t kept.holds n row.collection row.class facts.hold
+  pub hold : IsCountedIn t kept.holds (IsLeastIn t n row.collection row.class) facts.hold

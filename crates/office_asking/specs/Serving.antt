@@ -1,16 +1,15 @@
 -- What is asked, changed and served inside a transaction, by whichever legal history the tables picture. `old` is the connection
 -- before it and `new` the connection after it. An Err says nothing of the history: its transaction is rolled back.
-use Rattle.std.specs.Prelude.{◌≡◌, List, ℕ, Result, IfOk, OnOk}
-use Rattle.jiff.specs.Types.{Date}
+use Rattle.std.specs.Prelude.{◌≡◌, List, Result, IfOk, OnOk}
 use Rattle.sqlite.specs.Effect.{Database}
 use Rattle.sqlite.specs.Store.{Ghosts}
 use Rattle.sqlite.specs.State.{HasCleanDisk}
 use Rattle.sqlite.specs.Held.{Held, state}
 use Rattle.office_core.specs.declared.answer.Answer.{Answer}
-use Rattle.office_core.specs.declared.request.Request.{Request}
+use Rattle.office_tables.specs.Tables.{IsOffice}
 use Rattle.office_history.specs.Histories.{History, Change, with_changes}
 use Rattle.office_history.specs.Answers.{answer, after}
-use Rattle.office_history.specs.Runs.{IsLegal}
+use Rattle.office_history.specs.Runs.{IsLegal, Item}
 use Rattle.office_asking.specs.Pictures.{Pictures}
 
 -- no row changes, and this is so of the history and of what is found
@@ -18,17 +17,26 @@ abbrev pub Finds : {S T E : Type 0} → Ghosts S → Held S → Held S → Resul
 Finds g old new result is_so =
     HasCleanDisk (state g new) → (h : History) → IsLegal h → Pictures h (state g old).now → IfOk result (λ found. Pictures h (state g new).now × is_so h found)
 
--- where this was so of the history, the tables picture it with these changes
-abbrev pub Accepts : {S T E : Type 0} → Ghosts S → Held S → Held S → Result T E → (History → Type 0) → List Change → Type 0
-Accepts g old new result was_so changes =
-    HasCleanDisk (state g new) → (h : History) → IsLegal h → Pictures h (state g old).now → was_so h → OnOk result (Pictures (with_changes h changes) (state g new).now)
+-- this is so of the database of an office before and of the database after
+abbrev pub Alters : {S T E : Type 0} → Ghosts S → Held S → Held S → Result T E → (Database → Database → Type 0) → Type 0
+Alters g old new result is_so = HasCleanDisk (state g new) → IsOffice (state g old).now → OnOk result (is_so (state g old).now (state g new).now)
 
--- the answer is the office's, and the tables picture the history after the request
-pub record IsServed (h : History) (day : Date) (caller : List ℕ) (request : Request) (given : Answer) (db : Database) : Type 0 where
-  pub answer : given ≡ answer h day caller request
-  pub after : Pictures (after h day caller request) db
+-- how a history grows: by these changes, where this was so of it
+pub record Growth : Type 1 where
+  pub was_so : History → Type 0
+  pub changes : List Change
 
--- the request is served
-abbrev pub Decides : {S E : Type 0} → Ghosts S → Held S → Held S → Result Answer E → Date → List ℕ → Request → Type 0
-Decides g old new result day caller request =
-    HasCleanDisk (state g new) → (h : History) → IsLegal h → Pictures h (state g old).now → IfOk result (λ given. IsServed h day caller request given (state g new).now)
+-- where the history was so, the tables picture it with the changes
+abbrev pub Accepts : {S T E : Type 0} → Ghosts S → Held S → Held S → Result T E → Growth → Type 0
+Accepts g old new result growth =
+    HasCleanDisk (state g new) → (h : History) → IsLegal h → Pictures h (state g old).now → growth.was_so h → OnOk result (Pictures (with_changes h growth.changes) (state g new).now)
+
+-- the answer is the office's, and the tables picture the history after the item
+pub record IsServed (h : History) (item : Item) (given : Answer) (db : Database) : Type 0 where
+  pub answer : given ≡ answer h item.0 item.1.now item.2
+  pub after : Pictures (after h item.0 item.1.now item.2) db
+
+-- the item is served
+abbrev pub Decides : {S E : Type 0} → Ghosts S → Held S → Held S → Result Answer E → Item → Type 0
+Decides g old new result item =
+    HasCleanDisk (state g new) → (h : History) → IsLegal h → Pictures h (state g old).now → IfOk result (λ given. IsServed h item given (state g new).now)

@@ -1,7 +1,6 @@
 //! Who asks, and what the rules say of it.
 
-ghost use Rattle.std.specs.Prelude.{◌≡◌, ◌↔◌, ◌⊎◌, ◌≤ℤ◌, ℕ, pos, List, IfErr, IfOk, IfSome, IsTrue, OnOk, option_copied, option_map, string_bytes};
-ghost use Rattle.jiff.specs.Types.{Date};
+ghost use Rattle.std.specs.Prelude.{◌≡◌, ◌↔◌, ◌⊎◌, ◌≤ℤ◌, pos, IfErr, IfOk, IfSome, IsTrue, OnOk, option_copied, option_map, string_bytes};
 ghost use Rattle.jiff.specs.Words.{IsBetween};
 ghost use Rattle.office_core.specs.Bounds.{max_rules};
 ghost use Rattle.office_core.specs.Days.{IsDayNumber};
@@ -12,8 +11,8 @@ ghost use Rattle.office_tables.specs.Calls.{GoesOnInside, Keeps, Tells};
 ghost use Rattle.office_history.specs.Pictures.{effect_number};
 ghost use Rattle.office_history.specs.Refusals.{deciding_rule, denial};
 ghost use Rattle.office_history.specs.RowRanges.{IsActionText, IsPatternText, IsRuleRow};
-ghost use Rattle.office_asking.specs.Asking.{IsAsker, IsDecisionOf, or_empty};
-ghost use Rattle.office_asking.specs.ByRows.{IsAskerIn, IsDecisionBy, IsDenialIn, deciding_row};
+ghost use Rattle.office_asking.specs.Asking.{IsAsker, IsDecisionOf, Visit, or_empty, visit_on};
+ghost use Rattle.office_asking.specs.ByRows.{IsAskerIn, IsDecisionBy, IsDenialBy, deciding_row};
 ghost use Rattle.office_asking.specs.Serving.{Finds};
 
 use office_core::{
@@ -144,9 +143,9 @@ impl Asker {
         ensures inside { GoesOnInside S.Store tx.old.conn tx.new.conn result }
         ensures same { Keeps S.Store tx.old.conn.now tx.new.conn.now result }
         ensures asker { Finds S.Store tx.old.conn.now tx.new.conn.now result (λ h asker.
-            IsAsker h day caller.now asker) }
+            IsAsker h (visit_on day caller.now) asker) }
         ensures rows { Tells S.Store tx.old.conn.now tx.new.conn.now result (λ tables asker.
-            IsAskerIn tables day caller.now asker) }
+            IsAskerIn tables (visit_on day caller.now) asker) }
     {
         let role = role_of(tx, caller)?;
         if !are_names(caller, role.as_ref().map(|role| role.as_str())) {
@@ -175,14 +174,14 @@ impl Asker {
         ensures inside { GoesOnInside S.Store tx.old.conn tx.new.conn result }
         ensures same { Keeps S.Store tx.old.conn.now tx.new.conn.now result }
         ensures decided { Finds S.Store tx.old.conn.now tx.new.conn.now result (λ h decision.
-            (day : Date) (caller : List ℕ) → IsAsker h day caller self.now
+            (visit : Visit) → IsAsker h visit self.now
             → decision
-            ≡ deciding_rule h day caller action (option_copied collection.entry)
+            ≡ deciding_rule h visit.day visit.caller action (option_copied collection.entry)
             (option_copied class.entry)) }
         ensures rows { Tells S.Store tx.old.conn.now tx.new.conn.now result (λ tables decision.
-            (day : Date) (caller : List ℕ) → IsAskerIn tables day caller self.now
+            (visit : Visit) → IsAskerIn tables visit self.now
             → IsDecisionBy
-            (deciding_row tables day caller action (option_copied collection.entry)
+            (deciding_row tables visit action (option_copied collection.entry)
             (option_copied class.entry)) decision) }
     {
         let found = match_rule(
@@ -212,14 +211,15 @@ impl Asker {
         ensures inside { GoesOnInside S.Store tx.old.conn tx.new.conn result }
         ensures same { Keeps S.Store tx.old.conn.now tx.new.conn.now result }
         ensures denied { Finds S.Store tx.old.conn.now tx.new.conn.now result (λ h why.
-            (day : Date) (caller : List ℕ) → IsAsker h day caller self.now
+            (visit : Visit) → IsAsker h visit self.now
             → why
-            ≡ denial h day caller action (option_copied collection.entry)
+            ≡ denial h visit.day visit.caller action (option_copied collection.entry)
             (option_copied class.entry)) }
         ensures rows { Tells S.Store tx.old.conn.now tx.new.conn.now result (λ tables why.
-            (day : Date) (caller : List ℕ) → IsAskerIn tables day caller self.now
-            → IsDenialIn tables day caller action (option_copied collection.entry)
-            (option_copied class.entry) why) }
+            (visit : Visit) → IsAskerIn tables visit self.now
+            → IsDenialBy
+            (deciding_row tables visit action (option_copied collection.entry)
+            (option_copied class.entry)) why) }
     {
         match denial_verdict(self.decision(tx, action, collection, class)?) {
             Some(verdict) => Ok(refusal_of(verdict)),
@@ -247,8 +247,9 @@ pub fn denial<S: Alter>(
         ≡ denial h day caller.now action (option_copied collection.entry)
         (option_copied class.entry)) }
     ensures rows { Tells S.Store tx.old.conn.now tx.new.conn.now result (λ tables why.
-        IsDenialIn tables day caller.now action (option_copied collection.entry)
-        (option_copied class.entry) why) }
+        IsDenialBy
+        (deciding_row tables (visit_on day caller.now) action (option_copied collection.entry)
+        (option_copied class.entry)) why) }
 {
     let asker = Asker::read(tx, day, caller)?;
     asker.denial(tx, action, collection, class)

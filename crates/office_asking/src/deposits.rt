@@ -9,6 +9,7 @@ ghost use Rattle.office_history.specs.Histories.{History, deposit_numbered};
 ghost use Rattle.office_history.specs.Pictures as pictures;
 ghost use Rattle.office_history.specs.Refusals as refusals;
 ghost use Rattle.office_history.specs.Refusals.{kept_refusals};
+ghost use Rattle.office_asking.specs.Asking.{visit_on};
 ghost use Rattle.office_asking.specs.Serving.{Finds};
 ghost use Rattle.office_asking.specs.Deposits.{IsDepositAsked};
 ghost use Rattle.office_asking.specs.ByRows.{AreDaysOf, IsAskedIn, IsFirst};
@@ -97,7 +98,7 @@ pub fn kept_deposit<S: Alter>(
     ensures asked { Finds S.Store tx.old.conn.now tx.new.conn.now result (λ h asked.
         IsDepositAsked h number (kept_refusals h day caller.now action number) asked) }
     ensures rows { Tells S.Store tx.old.conn.now tx.new.conn.now result (λ tables asked.
-        IsAskedIn tables day caller.now action number asked) }
+        IsAskedIn tables (visit_on day caller.now) action number asked) }
 {
     let Some(deposit) = deposit_row(tx, number)? else {
         return Ok(Err(Refusal::NoSuch(Subject::Deposit)));

@@ -1,6 +1,6 @@
 //! What stands against the destruction of a deposit: its due day, and the holds that cover it.
 
-ghost use Rattle.std.specs.Prelude.{◌≡◌, IfSome, List, ℕ, Some, length, pos};
+ghost use Rattle.std.specs.Prelude.{◌≡◌, IfSome, ℕ, Some, length, pos};
 ghost use Rattle.jiff.specs.Types.{Date};
 ghost use Rattle.office_core.specs.declared.action.Action.TheVariants as acts;
 ghost use Rattle.office_rows.specs.Rows.{due_numbered};
@@ -8,7 +8,7 @@ ghost use Rattle.office_tables.specs.Calls.{GoesOnInTurn, GoesOnInside, Keeps, T
 ghost use Rattle.office_history.specs.Histories.{Deposit, deposit_numbered, due, least_hold, live_holds};
 ghost use Rattle.office_history.specs.Pictures.{deposit_row, due_row};
 ghost use Rattle.office_history.specs.Refusals.{facts_of};
-ghost use Rattle.office_asking.specs.Asking.{IsAsker};
+ghost use Rattle.office_asking.specs.Asking.{IsAsker, Visit};
 ghost use Rattle.office_asking.specs.ByRows.{AreFactsIn, IsAskerIn, IsCountIn, IsCountedIn, IsDueIn, IsLeastIn};
 ghost use Rattle.office_asking.specs.Serving.{Finds};
 
@@ -113,7 +113,7 @@ fn counted_hold<S: Alter>(
         → count ≡ pos (length (live_holds h number deposit))
         → found ≡ least_hold h number deposit) }
     ensures rows { Tells S.Store tx.old.conn.now tx.new.conn.now result (λ tables found.
-        IsCountedIn tables count number collection.now class.now found) }
+        IsCountedIn tables count (IsLeastIn tables number collection.now class.now) found) }
 {
     if count == 0 {
         return Ok(None);
@@ -135,12 +135,13 @@ pub fn disposal_facts<S: Alter>(
 ) -> Result<Facts, TableFault>
     ensures inside { GoesOnInside S.Store tx.old.conn tx.new.conn result }
     ensures facts { Finds S.Store tx.old.conn.now tx.new.conn.now result (λ h facts.
-        (day : Date) (caller : List ℕ) → IsAsker h day caller asker.now
+        (visit : Visit) → IsAsker h visit asker.now
         → (n : ℕ) (found : Date × Deposit) → deposit_numbered h n ≡ Some found
-        → row.now ≡ deposit_row h n found → facts ≡ facts_of h day caller acts.Dispose n found.1) }
+        → row.now ≡ deposit_row h n found
+        → facts ≡ facts_of h visit.day visit.caller acts.Dispose n found.1) }
     ensures rows { Tells S.Store tx.old.conn.now tx.new.conn.now result (λ tables facts.
-        (day : Date) (caller : List ℕ) → IsAskerIn tables day caller asker.now → (n : ℕ)
-        → pos n ≡ row.now.number → AreFactsIn tables day caller n row.now facts) }
+        (visit : Visit) → IsAskerIn tables visit asker.now → (n : ℕ)
+        → pos n ≡ row.now.number → AreFactsIn tables visit n row.now facts) }
 {
     let days = days_in(row)?;
     let decision = asker.decision(tx, Action::Dispose, Some(&row.collection), Some(&row.class))?;

@@ -1,7 +1,6 @@
 -- What the rows tell where a class or a collection is defined, whichever rows they are.
 use Rattle.std.proofs.Common.{◌≡◌, ℕ, ◌+◌, ◌<◌, ℤ, Bool, true, false, List, [], ◌∷◌, take, length, get_or, Option, Some, None, Result, Ok, Err, OnOk, refl, sym, ap, subst, ◌∙◌, if◌then◌else◌}
 use Rattle.std.proofs.lemmas.List.{take_more}
-use Rattle.jiff.specs.Types.{Date}
 use Rattle.sqlite.specs.Effect.{Database}
 use Rattle.office_core.specs.Days.{IsDayNumber}
 use Rattle.office_core.specs.declared.action.Action.TheVariants as acts
@@ -11,7 +10,8 @@ use Rattle.office_rows.specs.Rows.{Tables, has_class, with_class, with_years, wi
 use Rattle.office_rows.specs.Told.{ClosingRow, class_closings}
 use Rattle.office_rows.proofs.Order.{all_append}
 use Rattle.office_tables.specs.Tables.{Becomes, tables_of}
-use Rattle.office_asking.specs.ByRows.{IsDenialIn}
+use Rattle.office_asking.specs.Asking.{Visit}
+use Rattle.office_asking.specs.ByRows.{IsDenialBy, deciding_row}
 use Rattle.office_defining.specs.ByRows.{AreClosedOnDays, IsClassDefinedIn, IsCollectionDefinedIn}
 
 -- what is so anyway is so where a call is Ok
@@ -33,15 +33,21 @@ closed_before name years old mid put = subst AreClosedOnDays (ap (class_closings
     by true = refl
     by false = refl
 
-module _ (t : Tables) (day : Date) (caller name : List ℕ) where
-  pub class_denied : (years : Option ℕ) (denied : Option Refusal) (why : Refusal) → denied ≡ Some why → IsDenialIn t day caller acts.Class None (Some name) denied → IsClassDefinedIn t day caller name years (answers.Refused why)
-  class_denied years denied why is denial = record { denied = Some why; denial = subst (IsDenialIn t day caller acts.Class None (Some name)) is denial; answer = refl; closed = λ none. absurd cc }
+module _ (t : Tables) (visit : Visit) (name : List ℕ) where
+  abbrev ClassDenied : Option Refusal → Type 0
+  ClassDenied = IsDenialBy (deciding_row t visit acts.Class None (Some name))
 
-  pub class_allowed : (years : Option ℕ) (denied : Option Refusal) → denied ≡ None → IsDenialIn t day caller acts.Class None (Some name) denied → AreClosedOnDays (class_closings name t) → IsClassDefinedIn t day caller name years (answers.Class name years)
-  class_allowed years denied none denial closed = record { denied = None; denial = subst (IsDenialIn t day caller acts.Class None (Some name)) none denial; answer = refl; closed = λ _. closed }
+  abbrev CollectionDenied : Option Refusal → Type 0
+  CollectionDenied = IsDenialBy (deciding_row t visit acts.Collection (Some name) None)
 
-  pub collection_denied : (denied : Option Refusal) (why : Refusal) → denied ≡ Some why → IsDenialIn t day caller acts.Collection (Some name) None denied → IsCollectionDefinedIn t day caller name (answers.Refused why)
-  collection_denied denied why is denial = record { denied = Some why; denial = subst (IsDenialIn t day caller acts.Collection (Some name) None) is denial; answer = refl }
+  pub class_denied : (years : Option ℕ) (denied : Option Refusal) (why : Refusal) → denied ≡ Some why → ClassDenied denied → IsClassDefinedIn t visit name years (answers.Refused why)
+  class_denied years denied why is denial = record { denied = Some why; denial = subst ClassDenied is denial; answer = refl; closed = λ none. absurd cc }
 
-  pub collection_allowed : (denied : Option Refusal) → denied ≡ None → IsDenialIn t day caller acts.Collection (Some name) None denied → IsCollectionDefinedIn t day caller name (answers.Collection name)
-  collection_allowed denied none denial = record { denied = None; denial = subst (IsDenialIn t day caller acts.Collection (Some name) None) none denial; answer = refl }
+  pub class_allowed : (years : Option ℕ) (denied : Option Refusal) → denied ≡ None → ClassDenied denied → AreClosedOnDays (class_closings name t) → IsClassDefinedIn t visit name years (answers.Class name years)
+  class_allowed years denied none denial closed = record { denied = None; denial = subst ClassDenied none denial; answer = refl; closed = λ _. closed }
+
+  pub collection_denied : (denied : Option Refusal) (why : Refusal) → denied ≡ Some why → CollectionDenied denied → IsCollectionDefinedIn t visit name (answers.Refused why)
+  collection_denied denied why is denial = record { denied = Some why; denial = subst CollectionDenied is denial; answer = refl }
+
+  pub collection_allowed : (denied : Option Refusal) → denied ≡ None → CollectionDenied denied → IsCollectionDefinedIn t visit name (answers.Collection name)
+  collection_allowed denied none denial = record { denied = None; denial = subst CollectionDenied none denial; answer = refl }

@@ -1,16 +1,13 @@
 -- The due days of the deposits of a class, which are set one after another as the class is defined or revised.
-use Rattle.std.specs.Prelude.{◌≡◌, ℕ, ℤ, List, [], ◌∷◌, map, Option, Result, OnOk}
+use Rattle.std.specs.Prelude.{ℕ, ℤ, List, [], ◌∷◌, Option}
 use Rattle.jiff.specs.Types.{Date}
 use Rattle.jiff.specs.Words.{epoch_day}
 use Rattle.sqlite.specs.Effect.{Database}
-use Rattle.sqlite.specs.Store.{Ghosts}
-use Rattle.sqlite.specs.State.{HasCleanDisk}
-use Rattle.sqlite.specs.Held.{Held, state}
 use Rattle.office_core.specs.Retention.{due_number}
 use Rattle.office_core.specs.RetentionReading.{due_of}
 use Rattle.office_rows.specs.Rows.{Tables, with_due}
 use Rattle.office_rows.specs.Told.{ClosingRow}
-use Rattle.office_tables.specs.Tables.{IsOffice, Becomes, tables_of}
+use Rattle.office_tables.specs.Tables.{Becomes, tables_of}
 use Rattle.office_tables.specs.Contents.{KeepsOnce}
 
 -- the row of a deposit of that number that was closed on that day
@@ -26,8 +23,3 @@ with_due_days years (d ∷ ds) t = with_due_days years ds (with_due d.0 (due_num
 pub record AreDueDaysSet (years : Option ℕ) (deposits : List (ℤ × Date)) (old new : Database) : Type 0 where
   pub becomes : Becomes new (with_due_days years deposits (tables_of old))
   pub once : KeepsOnce old → KeepsOnce new
-
--- the deposits of these rows, whichever they are, get the due days
-abbrev pub SetsDueDays : {S T E : Type 0} → Ghosts S → Held S → Held S → Result T E → Option ℕ → List ClosingRow → Type 0
-SetsDueDays g old new result years rows =
-    (deposits : List (ℤ × Date)) → rows ≡ map closing_row deposits → HasCleanDisk (state g new) → IsOffice (state g old).now → OnOk result (AreDueDaysSet years deposits (state g old).now (state g new).now)

@@ -1,6 +1,6 @@
 //! Classes.
 
-ghost use Rattle.std.specs.Prelude.{◌≡◌, ⊤, OnOk, [], ◌∷◌};
+ghost use Rattle.std.specs.Prelude.{◌≡◌, ⊤, List, OnOk, [], ◌∷◌, map, ℤ};
 ghost use Rattle.jiff.specs.Types.{Date};
 ghost use Rattle.jiff.specs.Words.{epoch_day};
 ghost use Rattle.sqlite.specs.Held.{state};
@@ -15,9 +15,10 @@ ghost use Rattle.office_tables.specs.Calls.{GoesOnInTurn, GoesOnInside, Tells, W
 ghost use Rattle.office_tables.specs.Contents.{LeavesOnce};
 ghost use Rattle.office_history.specs.Histories.{DefinedClass};
 ghost use Rattle.office_history.specs.Pictures.{years_number};
-ghost use Rattle.office_asking.specs.Serving.{Accepts, Decides};
+ghost use Rattle.office_asking.specs.Asking.{visit_on};
+ghost use Rattle.office_asking.specs.Serving.{Accepts, Alters, Decides};
 ghost use Rattle.office_defining.specs.ByRows.{AreClosedOnDays, IsClassDefinedIn};
-ghost use Rattle.office_defining.specs.Revising.{SetsDueDays};
+ghost use Rattle.office_defining.specs.Revising.{AreDueDaysSet, closing_row};
 
 use office_asking::{day_numbered, denial};
 use office_core::{Action, Answer, Day, Name, Years, due};
@@ -59,7 +60,8 @@ fn set_due_days<S: Alter>(
     years: Years,
 ) -> Result<(), TableFault>
     ensures inside { GoesOnInTurn S.Store tx.old.conn tx.new.conn result }
-    ensures set { SetsDueDays S.Store tx.old.conn.now tx.new.conn.now result years rows.now }
+    ensures set { (deposits : List (ℤ × Date)) → rows.now ≡ map closing_row deposits
+        → Alters S.Store tx.old.conn.now tx.new.conn.now result (AreDueDaysSet years deposits) }
     ensures closed { OnOk result (AreClosedOnDays rows.now) }
 {
     for row in rows {
@@ -76,8 +78,10 @@ fn set_days_of_class<S: Alter>(
     years: Years,
 ) -> Result<(), TableFault>
     ensures inside { GoesOnInside S.Store tx.old.conn tx.new.conn result }
-    ensures set { SetsDueDays S.Store tx.old.conn.now tx.new.conn.now result years
-        (class_closings class.now (tables_of (state S.Store tx.old.conn.now).now)) }
+    ensures set { (deposits : List (ℤ × Date))
+        → class_closings class.now (tables_of (state S.Store tx.old.conn.now).now)
+        ≡ map closing_row deposits
+        → Alters S.Store tx.old.conn.now tx.new.conn.now result (AreDueDaysSet years deposits) }
     ensures rows { Tells S.Store tx.old.conn.now tx.new.conn.now result (λ tables _.
         AreClosedOnDays (class_closings class.now tables)) }
 {
@@ -94,8 +98,8 @@ fn put_years<S: Alter>(
 ) -> Result<(), TableFault>
     ensures inside { GoesOnInside S.Store tx.old.conn tx.new.conn result }
     ensures defined { (day : Date)
-        → Accepts S.Store tx.old.conn.now tx.new.conn.now result (λ _.
-        ⊤) (DefinedClass day name.now years ∷ []) }
+        → Accepts S.Store tx.old.conn.now tx.new.conn.now result
+        (record { was_so = λ _. ⊤; changes = DefinedClass day name.now years ∷ [] }) }
     ensures rows { Tells S.Store tx.old.conn.now tx.new.conn.now result (λ tables _.
         AreClosedOnDays (class_closings name.now tables)) }
 {
@@ -116,10 +120,10 @@ pub fn define_class<S: Alter>(
     years: Years,
 ) -> Result<Answer, TableFault>
     ensures inside { GoesOnInside S.Store tx.old.conn tx.new.conn result }
-    ensures decides { Decides S.Store tx.old.conn.now tx.new.conn.now result day caller.now
-        (requests.DefineClass name.now years) }
+    ensures decides { Decides S.Store tx.old.conn.now tx.new.conn.now result
+        (day, caller.entry, requests.DefineClass name.now years) }
     ensures rows { Tells S.Store tx.old.conn.now tx.new.conn.now result (λ tables given.
-        IsClassDefinedIn tables day caller.now name.now years given) }
+        IsClassDefinedIn tables (visit_on day caller.now) name.now years given) }
 {
     if let Some(why) = denial(tx, day, caller, Action::Class, None, Some(name.as_str()))? {
         return Ok(Answer::Refused(why));

@@ -3,6 +3,7 @@
 ghost use Rattle.std.specs.Prelude.{◌≡◌};
 ghost use Rattle.office_core.specs.declared.request.Request.TheVariants as requests;
 ghost use Rattle.office_tables.specs.Calls.{GoesOnInside, Tells};
+ghost use Rattle.office_asking.specs.Asking.{visit_on};
 ghost use Rattle.office_asking.specs.Serving.{Decides};
 ghost use Rattle.office_defining.specs.ByRows.{IsCollectionDefinedIn};
 
@@ -23,10 +24,10 @@ pub fn define_collection<S: Alter>(
     name: &Name<'_>,
 ) -> Result<Answer, TableFault>
     ensures inside { GoesOnInside S.Store tx.old.conn tx.new.conn result }
-    ensures decides { Decides S.Store tx.old.conn.now tx.new.conn.now result day caller.now
-        (requests.DefineCollection name.now) }
+    ensures decides { Decides S.Store tx.old.conn.now tx.new.conn.now result
+        (day, caller.entry, requests.DefineCollection name.now) }
     ensures rows { Tells S.Store tx.old.conn.now tx.new.conn.now result (λ tables given.
-        IsCollectionDefinedIn tables day caller.now name.now given) }
+        IsCollectionDefinedIn tables (visit_on day caller.now) name.now given) }
 {
     if let Some(why) = denial(
         tx,

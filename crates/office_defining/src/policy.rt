@@ -106,8 +106,8 @@ pub fn install<S: Alter>(
     policy: &Policy,
 ) -> Result<(), TableFault>
     ensures inside { GoesOnInside S.Store tx.old.conn tx.new.conn result }
-    ensures installed { Accepts S.Store tx.old.conn.now tx.new.conn.now result (λ _.
-        ⊤) (Installed policy.now ∷ []) }
+    ensures installed { Accepts S.Store tx.old.conn.now tx.new.conn.now result
+        (record { was_so = λ _. ⊤; changes = Installed policy.now ∷ [] }) }
 {
     let callers = caller_rows(alloc, policy.callers())?;
     let rules = rule_rows(alloc, policy)?;

@@ -18,6 +18,7 @@ use Rattle.office_history.specs.Answers.{change}
 use Rattle.office_history.specs.Runs.{IsLegal, IsFailure, Item, IsItem, serve}
 use Rattle.office_history.proofs.Accepted.{grown_by_none}
 use Rattle.office_asking.specs.Pictures.{Pictures}
+use Rattle.office_asking.specs.Asking.{visit_on}
 use Rattle.office_asking.specs.Serving.{Decides, Finds, IsServed}
 use Rattle.office_engine.specs.ByRows.{RowsTell}
 use Rattle.office_engine.specs.Keeping.{CommitsTo, IsKeptBy, IsLeftOf, IsLegalAndKept, IsToldByRows, IsTurn, KeepsTables, LeavesAlso, LeavesEither, StaysShut, after_item, is_accepted}
@@ -144,10 +145,10 @@ pub record IsDecided {S : Type 0} (g : Ghosts S) (first last : Held S) (item : I
   pub committed : IsTrue (state g first).is_open → (state g first).now ≡ (state g first).committed
   pub stays : CommitsNothing g (record first { in_transaction = true }) last
   pub goes_on : Continues g (record first { in_transaction = true }) last decided
-  pub decides : Decides g (record first { in_transaction = true }) last decided item.0 item.1.now item.2
-  pub rows : Tells g (record first { in_transaction = true }) last decided (λ tables answer. RowsTell tables item.0 item.1.now item.2 answer)
+  pub decides : Decides g (record first { in_transaction = true }) last decided item
+  pub rows : Tells g (record first { in_transaction = true }) last decided (λ tables answer. RowsTell tables (visit_on item.0 item.1.now) item.2 answer)
 
-served_after : (decided : Result Answer TableFault) (h : History) (item : Item) (db : Database) → IfOk decided (λ given. IsServed h item.0 item.1.now item.2 given db) → OnOk decided (Pictures (after_item item h) db)
+served_after : (decided : Result Answer TableFault) (h : History) (item : Item) (db : Database) → IfOk decided (λ given. IsServed h item given db) → OnOk decided (Pictures (after_item item h) db)
 served_after (Ok given) h item db served = served.after
 served_after (Err stopped) h item db served = tt
 
@@ -179,7 +180,7 @@ module _ {S : Type 0} {g : Ghosts S} {first last : Held S} {item : Item} {decide
     told answered office = rw is at (it.rows early office)
 
     module _ (h : History) (legal : IsLegal h) (keeps : IsKeptBy h (state g first)) where
-      served : IsServed h item.0 item.1.now item.2 given (state g last).now
+      served : IsServed h item given (state g last).now
       served = rw is at (it.decides early h legal (keeps (was_open made_it end early given is)).0)
 
       none_changed : is_accepted given ≡ false → change h item.0 item.1.now item.2 ≡ []

@@ -18,6 +18,7 @@ use Rattle.office_history.specs.Runs.{IsLegal, IsFailure, Item, Step, Run}
 use Rattle.office_history.specs.Stocks.{Stock, stock}
 use Rattle.office_tables.specs.declared.version.TableVersion.{TableVersion}
 use Rattle.office_tables.specs.declared.version.TableVersion.TheVariants.{Fifth}
+use Rattle.office_asking.specs.Asking.{visit_on}
 use Rattle.office_asking.specs.Pictures.{PicturesAt}
 use Rattle.office_serving.specs.ListsByRows.{AreDueIn, IsStockIn}
 use Rattle.office_engine.specs.ByRows.{RowsTell}
@@ -106,7 +107,7 @@ LeavesInstalled old new result = (made : Trees) × LeavesAlso old new made × On
 -- whatever rows the tables of an office held, an answer that is no failure is the one that they told: an audit is the report on the
 -- files that stood there, and no answer rests on a row that tells nothing
 abbrev pub IsToldByRows : State → Item → Answer → Type 0
-IsToldByRows old item given = (IsFailure given → ⊥) → IsOffice old.now → RowsTell (tables_of old.now) item.0 item.1.now item.2 given
+IsToldByRows old item given = (IsFailure given → ⊥) → IsOffice old.now → RowsTell (tables_of old.now) (visit_on item.0 item.1.now) item.2 given
 
 -- once a fault has shut the store, the answer is E11 or E12, and the store stays shut
 abbrev pub StaysShut : State → State → Answer → Type 0
@@ -194,7 +195,7 @@ ListsDue old new day caller numbers = (h : History) → IsLegal h → IsKeptBy h
 
 -- whatever rows the tables of an office held, these are the numbers that they told
 abbrev pub AreToldDue : State → Date → List ℕ → List ℕ → Type 0
-AreToldDue old day caller numbers = IsOffice old.now → AreDueIn (tables_of old.now) day caller numbers
+AreToldDue old day caller numbers = IsOffice old.now → AreDueIn (tables_of old.now) (visit_on day caller) numbers
 
 -- ---- the stock
 

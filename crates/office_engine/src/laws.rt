@@ -20,6 +20,7 @@ ghost use Rattle.office_history.specs.Stocks.{Stock, contents};
 ghost use Rattle.office_history.specs.RowRanges.{AreInRange};
 ghost use Rattle.office_history.specs.Runs.{IsFailure, IsLater, IsLegal, Item, Run, new_history};
 ghost use Rattle.office_asking.specs.Pictures.{Pictures};
+ghost use Rattle.office_asking.specs.Asking.{Visit};
 ghost use Rattle.office_serving.specs.ListsByRows.{AreDueIn, IsStockIn};
 ghost use Rattle.office_engine.specs.ByRows.{RowsTell};
 ghost use Rattle.office_engine.specs.Keeping.{IsFoundAfter, IsKeptAt, IsKeptBy, IsLeftAt};
@@ -76,10 +77,10 @@ pub fn tables_tell_the_answer()
 /// Whatever rows an office has, they tell at most one answer to a request, one list of what has
 /// fallen due, and one stock: what is promised of the rows leaves a call no choice but to fail.
 pub fn the_rows_tell_one_answer()
-    ensures answer { (t : Tables) (day : Date) (caller : List ℕ) (request : Request) (a b : Answer)
-        → RowsTell t day caller request a → RowsTell t day caller request b → a ≡ b }
-    ensures due { (t : Tables) (day : Date) (caller : List ℕ) (a b : List ℕ)
-        → AreDueIn t day caller a → AreDueIn t day caller b → a ≡ b }
+    ensures answer { (t : Tables) (visit : Visit) (request : Request) (a b : Answer)
+        → RowsTell t visit request a → RowsTell t visit request b → a ≡ b }
+    ensures due { (t : Tables) (visit : Visit) (a b : List ℕ)
+        → AreDueIn t visit a → AreDueIn t visit b → a ≡ b }
     ensures stock { (db : Database) (a b : Stock) → IsStockIn db a → IsStockIn db b → a ≡ b }
 {}
 

@@ -6,6 +6,7 @@ ghost use Rattle.sqlite.specs.Held.{state};
 ghost use Rattle.office_tables.specs.Calls.{GoesOnInside, Tells};
 ghost use Rattle.office_tables.specs.Faults as faults;
 ghost use Rattle.office_history.specs.Runs.{IsFailure};
+ghost use Rattle.office_asking.specs.Asking.{visit_on};
 ghost use Rattle.office_asking.specs.Serving.{Decides};
 ghost use Rattle.office_engine.specs.ByRows.{RowsTell};
 ghost use Rattle.office_engine.specs.Keeping.{CommitsTo, IsTurn, after_item, is_accepted};
@@ -56,9 +57,10 @@ fn decide<S: Alter>(
     request: &Request<'_>,
 ) -> Result<Answer, TableFault>
     ensures inside { GoesOnInside S.Store tx.old.conn tx.new.conn result }
-    ensures decides { Decides S.Store tx.old.conn.now tx.new.conn.now result day caller.now request.now }
+    ensures decides { Decides S.Store tx.old.conn.now tx.new.conn.now result
+        (day, caller.entry, request.now) }
     ensures rows { Tells S.Store tx.old.conn.now tx.new.conn.now result (λ tables answer.
-        RowsTell tables day caller.now request.now answer) }
+        RowsTell tables (visit_on day caller.now) request.now answer) }
 {
     match request {
         Request::DefineClass { name, years } => define_class(alloc, tx, day, caller, name, *years),

@@ -28,7 +28,7 @@ use Rattle.office_history.specs.Histories.{History, Change, DefinedCollection, T
 use Rattle.office_history.specs.Bags.{report_on}
 use Rattle.office_core.specs.Verdicts as deciding
 use Rattle.office_history.specs.Refusals.{refusal_in, denial, denial_at, closed_ahead_refusal, bad_bag, held_refusal, not_due_refusal, full_of_holds, no_file, of_deposit, of_hold, release_denial_of, release_denial, refusal}
-use Rattle.office_history.specs.Answers.{record_of, is_asked, listed_record, listed_records, due_list, live_hold, told_holds, audit_report, told_of, file_answer, allowed_answer, allowed_change, answer_unless, answer, changes_unless, change, after}
+use Rattle.office_history.specs.Answers.{Wanted, record_of, is_asked, listed_record, listed_records, due_list, live_hold, told_holds, audit_report, told_of, file_answer, allowed_answer, allowed_change, answer_unless, answer, changes_unless, change, after}
 use Rattle.office_history.proofs.Alike.{Outline, outline, Alike, alike_grown, same_count, same_outline, same_found, same_kept, mapped_of_kept}
 use Rattle.bag_text.proofs.ResultLemmas.{is_nothing}
 
@@ -208,18 +208,18 @@ same_told_holds : (h k : History) → Alike h k → (n : ℕ) (deposit : Deposit
 same_told_holds h k a n deposit = λ i.
     filter_map (λ j. option_map_or (λ found. Some (live_hold j found)) (item_numbered (a.same_holds i) j) None) (same_live h k a n deposit i)
 
-same_listed : (h k : History) → Alike h k → (day : Date) (caller : List ℕ) (collection class : Option (List ℕ)) (n : ℕ) → destruction_day h n ≡ None → listed_record h day caller collection class n ≡ listed_record k day caller collection class n
-same_listed h k a day caller collection class n e = λ i.
+same_listed : (h k : History) → Alike h k → (day : Date) (caller : List ℕ) (wanted : Wanted) (n : ℕ) → destruction_day h n ≡ None → listed_record h day caller wanted n ≡ listed_record k day caller wanted n
+same_listed h k a day caller wanted n e = λ i.
     option_map_or (λ (found : Date × Deposit).
-    if is_asked collection found.1.collection && is_asked class found.1.class && is_none (same_denied_at h k a day caller acts.List found.1 i)
+    if is_asked wanted.collection found.1.collection && is_asked wanted.class found.1.class && is_none (same_denied_at h k a day caller acts.List found.1 i)
     then Some (same_record h k a n found i) else None)
     (same_found h k a n e i) None
 
-same_list : (h k : History) → Alike h k → (day : Date) (caller : List ℕ) (collection class : Option (List ℕ)) → listed_records h day caller collection class ≡ listed_records k day caller collection class
-same_list h k a day caller collection class =
-    mapped_of_kept (λ n. is_none (destruction_day h n)) (listed_record h day caller collection class) (listed_record k day caller collection class) (numbers (length (deposits h)))
-    (λ n e. same_listed h k a day caller collection class n (is_nothing (destruction_day h n) e))
-    ∙ ap (filter_map (listed_record k day caller collection class)) (same_kept h k a)
+same_list : (h k : History) → Alike h k → (day : Date) (caller : List ℕ) (wanted : Wanted) → listed_records h day caller wanted ≡ listed_records k day caller wanted
+same_list h k a day caller wanted =
+    mapped_of_kept (λ n. is_none (destruction_day h n)) (listed_record h day caller wanted) (listed_record k day caller wanted) (numbers (length (deposits h)))
+    (λ n e. same_listed h k a day caller wanted n (is_nothing (destruction_day h n) e))
+    ∙ ap (filter_map (listed_record k day caller wanted)) (same_kept h k a)
 
 same_due_list : (h k : History) → Alike h k → (day : Date) (caller : List ℕ) → due_list h day caller ≡ due_list k day caller
 same_due_list h k a day caller = λ i. filter (λ n. is_none (same_refusal h k a day caller (Dispose n) i)) (same_kept h k a i)
@@ -250,7 +250,7 @@ same_answer h k a day caller (DefineClass name years) = ap (λ why. answer_unles
 same_answer h k a day caller (DefineCollection name) = ap (λ why. answer_unless why (answers.Collection name)) (same_refusal h k a day caller (DefineCollection name))
 same_answer h k a day caller (MakeDeposit collection class accession closed bag) = λ i.
     answer_unless (same_refusal h k a day caller (MakeDeposit collection class accession closed bag) i) (answers.Deposited (same_count h k a i + 1))
-same_answer h k a day caller (ListDeposits collection class) = ap answers.List (same_list h k a day caller collection class)
+same_answer h k a day caller (ListDeposits collection class) = ap answers.List (same_list h k a day caller (record { collection = collection; class = class }))
 same_answer h k a day caller (Record n) =
     answer_at h k a day caller acts.Record n (λ d. []) (allowed_answer h day caller (Record n)) (allowed_answer k day caller (Record n))
     (λ e i. told_of (same_found h k a n e i) (λ found. answers.Record (same_record h k a n found i)))

@@ -44,23 +44,28 @@ of_number h tell n = option_map_or tell (deposit_numbered h n) None
 
 -- ---- lists
 
+-- what a list asks for: the deposits of one collection or of all, and of one class or of all
+pub record Wanted : Type 0 where
+  pub collection : Option (List ℕ)
+  pub class : Option (List ℕ)
+
 -- what is asked for by name, or everything
 abbrev pub is_asked : Option (List ℕ) → List ℕ → Bool
 is_asked None name = true
 is_asked (Some only) name = bytes_eq only name
 
 -- a deposit that the caller may list on that day
-abbrev pub is_listed : History → Date → List ℕ → Option (List ℕ) → Option (List ℕ) → Deposit → Bool
-is_listed h day caller collection class deposit =
-    is_asked collection deposit.collection && is_asked class deposit.class && is_none (denial_at h day caller acts.List deposit)
+abbrev pub is_listed : History → Date → List ℕ → Wanted → Deposit → Bool
+is_listed h day caller wanted deposit =
+    is_asked wanted.collection deposit.collection && is_asked wanted.class deposit.class && is_none (denial_at h day caller acts.List deposit)
 
-abbrev pub listed_record : History → Date → List ℕ → Option (List ℕ) → Option (List ℕ) → ℕ → Option DepositRecord
-listed_record h day caller collection class n =
-    of_number h (λ found. if is_listed h day caller collection class found.1 then Some (record_of h n found) else None) n
+abbrev pub listed_record : History → Date → List ℕ → Wanted → ℕ → Option DepositRecord
+listed_record h day caller wanted n =
+    of_number h (λ found. if is_listed h day caller wanted found.1 then Some (record_of h n found) else None) n
 
 -- the kept deposits, of the collection and class asked for, that the caller may list on that day, ascending
-abbrev pub listed_records : History → Date → List ℕ → Option (List ℕ) → Option (List ℕ) → List DepositRecord
-listed_records h day caller collection class = filter_map (listed_record h day caller collection class) (kept_numbers h)
+abbrev pub listed_records : History → Date → List ℕ → Wanted → List DepositRecord
+listed_records h day caller wanted = filter_map (listed_record h day caller wanted) (kept_numbers h)
 
 -- the deposits that the caller may destroy on that day, ascending: those whose disposal would be accepted
 abbrev pub due_list : History → Date → List ℕ → List ℕ
@@ -102,7 +107,7 @@ abbrev pub allowed_answer : History → Date → List ℕ → Request → Answer
 allowed_answer h day caller (DefineClass name years) = answers.Class name years
 allowed_answer h day caller (DefineCollection name) = answers.Collection name
 allowed_answer h day caller (MakeDeposit collection class accession closed bag) = answers.Deposited (length (deposits h) + 1)
-allowed_answer h day caller (ListDeposits collection class) = answers.List (listed_records h day caller collection class)
+allowed_answer h day caller (ListDeposits collection class) = answers.List (listed_records h day caller (record { collection = collection; class = class }))
 allowed_answer h day caller (Record n) = told_of (deposit_numbered h n) (λ found. answers.Record (record_of h n found))
 allowed_answer h day caller (Holds n) = told_of (deposit_numbered h n) (λ found. answers.Holds (told_holds h n found.1))
 allowed_answer h day caller (DownloadBag n) = told_of (deposit_numbered h n) (λ found. answers.Bag (set_text found.1.bag))

@@ -1,6 +1,5 @@
 -- What the rows tell where a hold is placed or released, put together from what each call tells.
-use Rattle.std.proofs.Common.{◌≡◌, ℕ, ℤ, pos, ◌+ℤ◌, List, Option, Some, None, option_map, unwrap_or, Result, Ok, Err, refl, sym, subst}
-use Rattle.jiff.specs.Types.{Date}
+use Rattle.std.proofs.Common.{◌≡◌, ℕ, ℤ, pos, ◌+ℤ◌, Option, Some, None, option_map, unwrap_or, Result, Ok, Err, refl, sym, subst}
 use Rattle.jiff.specs.Words.{IsBetween}
 use Rattle.office_core.specs.declared.refusal.Refusal.{Refusal}
 use Rattle.office_core.specs.declared.refusal.Refusal.TheVariants.{NoSuch}
@@ -9,8 +8,9 @@ use Rattle.office_rows.specs.Rows.{DueRow, HoldRow, Tables, due_numbered, hold_n
 use Rattle.office_tables.specs.ShownHolds as shown
 use Rattle.office_tables.specs.declared.holds.HoldTarget.{HoldTarget}
 use Rattle.office_history.specs.Histories.{Target}
+use Rattle.office_asking.specs.Asking.{Visit}
 use Rattle.office_asking.specs.Limits.{IsNumberAfter}
-use Rattle.office_holding.specs.ByRows.{IsHoldDenialIn, IsNextHoldIn, IsPlaceIn, IsReleaseDenialIn, IsRowUnless, IsReleaseRefusalOf, IsReleasableIn}
+use Rattle.office_holding.specs.ByRows.{IsHoldDenialIn, IsNextHoldIn, IsPlaceIn, IsReleaseDenialIn, IsRowUnless, IsReleaseRefusalOf, IsReleasableIn, HoldNames}
 use Rattle.office_holding.specs.Holds.{IsCountAfter}
 use Rattle.office_holding.proofs.HoldAsked.{IsNamedIn}
 
@@ -43,30 +43,27 @@ counted_after t n by deposits most are row there count before after = record {
   is = after.0;
 }
 
-module _ (t : Tables) (day : Date) (caller : List ℕ) (target : Target) where
-  pub refused : (why : Refusal) → IsHoldDenialIn t day caller target (Some why) → IsPlaceIn t day caller target (Err why)
+module _ (t : Tables) (visit : Visit) (target : Target) where
+  pub refused : (why : Refusal) → IsHoldDenialIn t visit target (Some why) → IsPlaceIn t visit target (Err why)
   refused why denial = record { why = Some why; denial = denial; is = refl }
 
-  pub placed : IsHoldDenialIn t day caller target None → (place : Result ℕ Refusal) → IsNextHoldIn t place → IsPlaceIn t day caller target place
+  pub placed : IsHoldDenialIn t visit target None → (place : Result ℕ Refusal) → IsNextHoldIn t place → IsPlaceIn t visit target place
   placed denial place next = record { why = None; denial = denial; is = next }
 
-module _ (t : Tables) (day : Date) (caller : List ℕ) (k : ℕ) where
-  pub no_row : None ≡ hold_numbered (pos k) t.holds → IsReleasableIn t day caller k (Err (NoSuch subjects.Hold))
-  no_row e = subst (λ o. IsReleaseRefusalOf t day caller o (NoSuch subjects.Hold)) e refl
+module _ (t : Tables) (visit : Visit) (k : ℕ) where
+  pub no_row : None ≡ hold_numbered (pos k) t.holds → IsReleasableIn t visit k (Err (NoSuch subjects.Hold))
+  no_row e = subst (λ o. IsReleaseRefusalOf t visit o (NoSuch subjects.Hold)) e refl
 
   -- what the rules say of what the row names, and then what the row tells
   pub row_asked : (row : HoldRow) → Some row ≡ hold_numbered (pos k) t.holds
       → (named : HoldTarget) (denied : Option Refusal) → IsNamedIn row named
-      → IsReleaseDenialIn t day caller (shown.held_deposit named) (shown.held_collection named) (shown.held_class named) denied
-      → (found : Result HoldRow Refusal) → IsRowUnless denied row found → IsReleasableIn t day caller k found
+      → IsReleaseDenialIn t visit (shown.held_deposit named, shown.held_collection named, shown.held_class named) denied
+      → (found : Result HoldRow Refusal) → IsRowUnless denied row found → IsReleasableIn t visit k found
   row_asked row there named denied names denial found is = by found is
     where
-      asked : IsReleaseDenialIn t day caller row.deposit row.collection row.class denied
-      asked =
-          subst (λ class. IsReleaseDenialIn t day caller row.deposit row.collection class denied) names.class
-          (subst (λ collection. IsReleaseDenialIn t day caller row.deposit collection (shown.held_class named) denied) names.collection
-          (subst (λ deposit. IsReleaseDenialIn t day caller deposit (shown.held_collection named) (shown.held_class named) denied) names.deposit denial))
+      asked : IsReleaseDenialIn t visit (row.deposit, row.collection, row.class) denied
+      asked = subst (λ (on : HoldNames). IsReleaseDenialIn t visit on denied) (λ i. (names.deposit i, names.collection i, names.class i)) denial
 
-      by : (found : Result HoldRow Refusal) → IsRowUnless denied row found → IsReleasableIn t day caller k found
-      by (Ok other) it = subst (λ (r : HoldRow). IsReleasableIn t day caller k (Ok r)) (sym it.0) (there, record { denied = denied; denial = asked; first = it.1 })
-      by (Err why) it = subst (λ o. IsReleaseRefusalOf t day caller o why) there (record { denied = denied; denial = asked; first = it })
+      by : (found : Result HoldRow Refusal) → IsRowUnless denied row found → IsReleasableIn t visit k found
+      by (Ok other) it = subst (λ (r : HoldRow). IsReleasableIn t visit k (Ok r)) (sym it.0) (there, record { denied = denied; denial = asked; first = it.1 })
+      by (Err why) it = subst (λ o. IsReleaseRefusalOf t visit o why) there (record { denied = denied; denial = asked; first = it })

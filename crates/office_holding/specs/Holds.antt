@@ -15,6 +15,7 @@ use Rattle.office_tables.specs.declared.holds.HoldTarget.TheVariants.{Deposit, C
 use Rattle.office_history.specs.Histories.{History, Hold, Target, OnDeposit, OnCollection, OnClass, deposit_numbered, has_class, has_collection, holds, hold_numbered, release_day}
 use Rattle.office_history.specs.Pictures.{held_class, held_collection, hold_row}
 use Rattle.office_history.specs.Refusals.{class_denials, collection_denials, denial, kept_refusals, of_deposit, of_hold, release_refusals}
+use Rattle.office_asking.specs.Asking.{Visit}
 use Rattle.office_holding.specs.ByRows.{IsCountable}
 
 -- this is the number of the next hold
@@ -39,9 +40,9 @@ is_there h (OnCollection name) = has_collection h name
 is_there h (OnClass name) = has_class h name
 
 -- the refusal, if any, where the rules are asked by the name alone; none is asked for where there is nothing of that name
-abbrev pub IsSaidOf : History → Date → List ℕ → Action → Target → Option (Option Refusal) → Type 0
-IsSaidOf h day caller action target None = false ≡ is_there h target
-IsSaidOf h day caller action target (Some why) = (true ≡ is_there h target) × (why ≡ denial h day caller action (held_collection target) (held_class target))
+abbrev pub IsSaidOf : History → Visit → Action → Target → Option (Option Refusal) → Type 0
+IsSaidOf h visit action target None = false ≡ is_there h target
+IsSaidOf h visit action target (Some why) = (true ≡ is_there h target) × (why ≡ denial h visit.day visit.caller action (held_collection target) (held_class target))
 
 -- what may stand against a hold, but that the office is full: E1 and E2, and E3 of a deposit
 abbrev pub hold_denials : History → Date → List ℕ → Target → List (Option Refusal)

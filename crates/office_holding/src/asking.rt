@@ -3,6 +3,7 @@
 ghost use Rattle.std.specs.Prelude.{◌≡◌, option_copied};
 ghost use Rattle.office_tables.specs.Calls.{GoesOnInside, Keeps, Tells};
 ghost use Rattle.office_history.specs.Pictures.{held_class, held_collection};
+ghost use Rattle.office_asking.specs.Asking.{visit_on};
 ghost use Rattle.office_asking.specs.Serving.{Finds};
 ghost use Rattle.office_holding.specs.ByRows.{IsSaidIn, is_there_in};
 ghost use Rattle.office_holding.specs.Holds.{IsSaidOf, target_of};
@@ -55,9 +56,9 @@ pub(crate) fn name_denial<S: Alter>(
     ensures inside { GoesOnInside S.Store tx.old.conn tx.new.conn result }
     ensures same { Keeps S.Store tx.old.conn.now tx.new.conn.now result }
     ensures denied { Finds S.Store tx.old.conn.now tx.new.conn.now result (λ h said.
-        IsSaidOf h day caller.now action (target_of target.entry) said) }
+        IsSaidOf h (visit_on day caller.now) action (target_of target.entry) said) }
     ensures rows { Tells S.Store tx.old.conn.now tx.new.conn.now result (λ tables said.
-        IsSaidIn tables day caller.now action (target_of target.entry) said) }
+        IsSaidIn tables (visit_on day caller.now) action (target_of target.entry) said) }
 {
     if !is_there(tx, target)? {
         return Ok(None);

@@ -11,6 +11,7 @@ ghost use Rattle.office_tables.specs.Calls.{GoesOnInside, Keeps, Tells};
 ghost use Rattle.office_tables.specs.Contents.{LeavesOnce};
 ghost use Rattle.office_tables.specs.Dues.{FitMore};
 ghost use Rattle.office_tables.specs.ShownHolds.{held_deposit};
+ghost use Rattle.office_asking.specs.Serving.{Alters};
 ghost use Rattle.office_holding.specs.ByRows.{IsCountable, IsCountableOn};
 ghost use Rattle.office_holding.specs.Holds.{IsCountAfter, IsCounted, IsCountedOver, target_of};
 
@@ -69,11 +70,7 @@ fn count_over_deposit<S: Alter>(
     by: i64,
 ) -> Result<(), TableFault>
     ensures inside { GoesOnInside S.Store tx.old.conn tx.new.conn result }
-    ensures counted { HasCleanDisk (state S.Store tx.new.conn.now)
-        → IsOffice (state S.Store tx.old.conn.now).now
-        → OnOk result
-        (IsCounted number by (state S.Store tx.old.conn.now).now
-        (state S.Store tx.new.conn.now).now) }
+    ensures counted { Alters S.Store tx.old.conn.now tx.new.conn.now result (IsCounted number by) }
     ensures rows { Tells S.Store tx.old.conn.now tx.new.conn.now result (λ tables _.
         IsCountable (limits_of tables) tables.dues (pos number) by) }
     ensures once { LeavesOnce S.Store tx.old.conn.now tx.new.conn.now result }

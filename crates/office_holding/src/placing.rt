@@ -7,6 +7,7 @@ ghost use Rattle.office_tables.specs.Calls.{GoesOnInside, Keeps, Tells};
 ghost use Rattle.office_tables.specs.ShownHolds.{held_deposit};
 ghost use Rattle.office_history.specs.Histories.{PlacedHold};
 ghost use Rattle.office_history.specs.Refusals.{full_of_holds};
+ghost use Rattle.office_asking.specs.Asking.{visit_on};
 ghost use Rattle.office_asking.specs.Serving.{Accepts, Decides, Finds};
 ghost use Rattle.office_holding.specs.Holds.{IsNext, IsNextOrRefused, hold_denials, hold_request, target_of};
 ghost use Rattle.office_holding.specs.ByRows.{IsClassHeldIn, IsCollectionHeldIn, IsCountableOn, IsDepositHeldIn, IsHeldIn, IsHoldDenialIn, IsNextHoldIn, IsPlaceIn, subject_of};
@@ -42,8 +43,12 @@ fn place<S: Alter>(
     matter: &str,
 ) -> Result<(), TableFault>
     ensures inside { GoesOnInside S.Store tx.old.conn tx.new.conn result }
-    ensures placed { Accepts S.Store tx.old.conn.now tx.new.conn.now result (λ h. IsNext h number)
-        (PlacedHold day (record { target = target_of target.entry; matter = matter.now }) ∷ []) }
+    ensures placed { Accepts S.Store tx.old.conn.now tx.new.conn.now result
+        (record {
+          was_so = λ h. IsNext h number;
+          changes =
+            PlacedHold day (record { target = target_of target.entry; matter = matter.now }) ∷ [];
+        }) }
     ensures rows { Tells S.Store tx.old.conn.now tx.new.conn.now result (λ tables _.
         IsCountableOn tables (held_deposit target.entry) (pos 1)) }
 {
@@ -75,7 +80,7 @@ fn hold_denial<S: Alter>(
     ensures denied { Finds S.Store tx.old.conn.now tx.new.conn.now result (λ h why.
         why ≡ first_some (hold_denials h day caller.now (target_of target.entry))) }
     ensures rows { Tells S.Store tx.old.conn.now tx.new.conn.now result (λ tables why.
-        IsHoldDenialIn tables day caller.now (target_of target.entry) why) }
+        IsHoldDenialIn tables (visit_on day caller.now) (target_of target.entry) why) }
 {
     match target {
         HoldTarget::Deposit(number) => {
@@ -101,7 +106,7 @@ fn place_for<S: Alter>(
         IsNextOrRefused h
         (hold_denials h day caller.now (target_of target.entry) ++ full_of_holds h ∷ []) place) }
     ensures rows { Tells S.Store tx.old.conn.now tx.new.conn.now result (λ tables place.
-        IsPlaceIn tables day caller.now (target_of target.entry) place) }
+        IsPlaceIn tables (visit_on day caller.now) (target_of target.entry) place) }
 {
     if let Some(why) = hold_denial(tx, day, caller, target)? {
         return Ok(Err(why));
@@ -118,10 +123,10 @@ fn hold<S: Alter>(
     matter: &str,
 ) -> Result<Answer, TableFault>
     ensures inside { GoesOnInside S.Store tx.old.conn tx.new.conn result }
-    ensures decides { Decides S.Store tx.old.conn.now tx.new.conn.now result day caller.now
-        (hold_request (target_of target.entry) matter.now) }
+    ensures decides { Decides S.Store tx.old.conn.now tx.new.conn.now result
+        (day, caller.entry, hold_request (target_of target.entry) matter.now) }
     ensures rows { Tells S.Store tx.old.conn.now tx.new.conn.now result (λ tables answer.
-        IsHeldIn tables day caller.now (target_of target.entry) answer) }
+        IsHeldIn tables (visit_on day caller.now) (target_of target.entry) answer) }
 {
     match place_for(tx, day, caller, target)? {
         Ok(hold) => {
@@ -143,10 +148,10 @@ pub fn hold_collection<S: Alter>(
     matter: &Matter<'_>,
 ) -> Result<Answer, TableFault>
     ensures inside { GoesOnInside S.Store tx.old.conn tx.new.conn result }
-    ensures decides { Decides S.Store tx.old.conn.now tx.new.conn.now result day caller.now
-        (requests.HoldCollection name.now matter.now) }
+    ensures decides { Decides S.Store tx.old.conn.now tx.new.conn.now result
+        (day, caller.entry, requests.HoldCollection name.now matter.now) }
     ensures rows { Tells S.Store tx.old.conn.now tx.new.conn.now result (λ tables answer.
-        IsCollectionHeldIn tables day caller.now name.now answer) }
+        IsCollectionHeldIn tables (visit_on day caller.now) name.now answer) }
 {
     let target = HoldTarget::Collection(name.as_str());
     hold(tx, day, caller, target, matter.as_str())
@@ -163,10 +168,10 @@ pub fn hold_class<S: Alter>(
     matter: &Matter<'_>,
 ) -> Result<Answer, TableFault>
     ensures inside { GoesOnInside S.Store tx.old.conn tx.new.conn result }
-    ensures decides { Decides S.Store tx.old.conn.now tx.new.conn.now result day caller.now
-        (requests.HoldClass name.now matter.now) }
+    ensures decides { Decides S.Store tx.old.conn.now tx.new.conn.now result
+        (day, caller.entry, requests.HoldClass name.now matter.now) }
     ensures rows { Tells S.Store tx.old.conn.now tx.new.conn.now result (λ tables answer.
-        IsClassHeldIn tables day caller.now name.now answer) }
+        IsClassHeldIn tables (visit_on day caller.now) name.now answer) }
 {
     let target = HoldTarget::Class(name.as_str());
     hold(tx, day, caller, target, matter.as_str())
@@ -183,10 +188,10 @@ pub fn hold_deposit<S: Alter>(
     matter: &Matter<'_>,
 ) -> Result<Answer, TableFault>
     ensures inside { GoesOnInside S.Store tx.old.conn tx.new.conn result }
-    ensures decides { Decides S.Store tx.old.conn.now tx.new.conn.now result day caller.now
-        (requests.HoldDeposit number matter.now) }
+    ensures decides { Decides S.Store tx.old.conn.now tx.new.conn.now result
+        (day, caller.entry, requests.HoldDeposit number matter.now) }
     ensures rows { Tells S.Store tx.old.conn.now tx.new.conn.now result (λ tables answer.
-        IsDepositHeldIn tables day caller.now number answer) }
+        IsDepositHeldIn tables (visit_on day caller.now) number answer) }
 {
     let target = HoldTarget::Deposit(number);
     hold(tx, day, caller, target, matter.as_str())

@@ -11,6 +11,7 @@ ghost use Rattle.office_tables.specs.Calls.{GoesOnInside, Keeps, Tells};
 ghost use Rattle.office_tables.specs.ShownHolds.{held_class, held_collection, held_deposit};
 ghost use Rattle.office_history.specs.Histories.{OnDeposit, ReleasedHold};
 ghost use Rattle.office_history.specs.Refusals.{release_denial};
+ghost use Rattle.office_asking.specs.Asking.{visit_on};
 ghost use Rattle.office_asking.specs.Serving.{Accepts, Decides, Finds};
 ghost use Rattle.office_asking.specs.Holds.{IsHoldOf};
 ghost use Rattle.office_holding.specs.ByRows.{IsCountableOn, IsDepositReleaseIn, IsReleasableIn, IsReleaseDenialIn, IsReleasedIn, IsRowUnless};
@@ -40,7 +41,7 @@ fn deposit_release_denial<S: Alter>(
     ensures denied { Finds S.Store tx.old.conn.now tx.new.conn.now result (λ h why.
         why ≡ release_denial h day caller.now (OnDeposit number)) }
     ensures rows { Tells S.Store tx.old.conn.now tx.new.conn.now result (λ tables why.
-        IsDepositReleaseIn tables day caller.now (pos number) why) }
+        IsDepositReleaseIn tables (visit_on day caller.now) (pos number) why) }
 {
     let found = deposit_row(tx, number)?;
     let deposit = there(found)?;
@@ -68,8 +69,8 @@ fn release_denial<S: Alter>(
     ensures denied { Finds S.Store tx.old.conn.now tx.new.conn.now result (λ h why.
         why ≡ release_denial h day caller.now (target_of target.entry)) }
     ensures rows { Tells S.Store tx.old.conn.now tx.new.conn.now result (λ tables why.
-        IsReleaseDenialIn tables day caller.now (held_deposit target.entry)
-        (held_collection target.entry) (held_class target.entry) why) }
+        IsReleaseDenialIn tables (visit_on day caller.now)
+        (held_deposit target.entry, held_collection target.entry, held_class target.entry) why) }
 {
     match target {
         HoldTarget::Deposit(number) => deposit_release_denial(tx, day, caller, number),
@@ -120,7 +121,7 @@ fn releasable_hold<S: Alter>(
     ensures asked { Finds S.Store tx.old.conn.now tx.new.conn.now result (λ h found.
         IsReleaseAsked h day caller.now number found) }
     ensures rows { Tells S.Store tx.old.conn.now tx.new.conn.now result (λ tables found.
-        IsReleasableIn tables day caller.now number found) }
+        IsReleasableIn tables (visit_on day caller.now) number found) }
 {
     let Some(hold) = hold_row(tx, number)? else {
         return Ok(Err(Refusal::NoSuch(Subject::Hold)));
@@ -139,8 +140,11 @@ fn end<S: Alter>(
     target: HoldTarget<'_>,
 ) -> Result<(), TableFault>
     ensures inside { GoesOnInside S.Store tx.old.conn tx.new.conn result }
-    ensures ended { Accepts S.Store tx.old.conn.now tx.new.conn.now result (λ h.
-        IsLiveOn h number (target_of target.entry)) (ReleasedHold day number ∷ []) }
+    ensures ended { Accepts S.Store tx.old.conn.now tx.new.conn.now result
+        (record {
+          was_so = λ h. IsLiveOn h number (target_of target.entry);
+          changes = ReleasedHold day number ∷ [];
+        }) }
     ensures rows { Tells S.Store tx.old.conn.now tx.new.conn.now result (λ tables _.
         IsCountableOn tables (held_deposit target.entry) (negsuc 0)) }
 {
@@ -159,10 +163,10 @@ pub fn release<S: Alter>(
     hold: u32,
 ) -> Result<Answer, TableFault>
     ensures inside { GoesOnInside S.Store tx.old.conn tx.new.conn result }
-    ensures decides { Decides S.Store tx.old.conn.now tx.new.conn.now result day caller.now
-        (requests.Release hold) }
+    ensures decides { Decides S.Store tx.old.conn.now tx.new.conn.now result
+        (day, caller.entry, requests.Release hold) }
     ensures rows { Tells S.Store tx.old.conn.now tx.new.conn.now result (λ tables answer.
-        IsReleasedIn tables day caller.now hold answer) }
+        IsReleasedIn tables (visit_on day caller.now) hold answer) }
 {
     match releasable_hold(alloc, tx, day, caller, hold)? {
         Ok(row) => {

@@ -10,10 +10,11 @@ use Rattle.office_core.specs.declared.refusal.Refusal.TheVariants.{Taken}
 use Rattle.office_rows.specs.Rows.{DepositRow, Limits, Tables, deposit_numbered, last_number}
 use Rattle.office_history.specs.Answers.{answer_unless}
 use Rattle.office_history.specs.Refusals.{bad_bag, closed_ahead_refusal, refusal_of}
-use Rattle.office_asking.specs.ByRows.{IsDenialIn}
+use Rattle.office_asking.specs.Asking.{Visit, visit_on}
+use Rattle.office_asking.specs.ByRows.{deciding_row}
 use Rattle.office_asking.specs.Limits.{IsRefusedOr, answer_of_number}
 use Rattle.office_asking.proofs.OneAnswer.{HasAtMostOne, denial_is_one, facts_are_one, next_is_one, number_back, refused_or_is_one}
-use Rattle.office_keeping.specs.ByRows.{AskedValues, IsAccessionRefusalIn, IsAskedOfDeposit, IsDepositedIn, IsDisposalRefusalIn, IsDisposalRefusalOf, IsDisposedIn, IsNextDepositIn, IsPlaceRefusalIn, IsRefusalBeforeTheBag, IsTakenIn, IsThisOr, IsVerdictIn, no_class, no_collection}
+use Rattle.office_keeping.specs.ByRows.{AskedValues, IsAccessionRefusalIn, IsAskedOfDeposit, IsDepositedIn, IsDisposalRefusalIn, IsDisposalRefusalOf, IsDisposedIn, IsNextDepositIn, IsPlaceDenialIn, IsPlaceRefusalIn, IsRefusalBeforeTheBag, IsTakenIn, IsThisOr, IsVerdictIn, no_class, no_collection}
 
 -- ---- a bag that is deposited
 
@@ -23,11 +24,11 @@ this_or_is_one (Some this) next one a b p q = p ∙ sym q
 this_or_is_one None next one a b p q = one a b p q
 
 -- one refusal stands against the place, or none
-pub place_refusal_is_one : (t : Tables) (day : Date) (caller collection class : List ℕ) → HasAtMostOne (IsPlaceRefusalIn t day caller collection class)
-place_refusal_is_one t day caller collection class =
-    let denied : Option Refusal → Type 0 = IsDenialIn t day caller acts.Deposit (Some collection) (Some class) in
+pub place_refusal_is_one : (t : Tables) (visit : Visit) (collection class : List ℕ) → HasAtMostOne (IsPlaceRefusalIn t visit collection class)
+place_refusal_is_one t visit collection class =
+    let denied : Option Refusal → Type 0 = IsPlaceDenialIn t visit collection class in
     this_or_is_one (no_collection t collection) (IsThisOr (no_class t class) denied)
-    (this_or_is_one (no_class t class) denied (denial_is_one t day caller acts.Deposit (Some collection) (Some class)))
+    (this_or_is_one (no_class t class) denied (denial_is_one (deciding_row t visit acts.Deposit (Some collection) (Some class))))
 
 -- an accession is taken by one deposit or by none
 pub taken_is_one : (t : Tables) (accession : List ℕ) → HasAtMostOne (IsTakenIn t accession)
@@ -44,7 +45,7 @@ accession_refusal_is_one t day accession closed a b p q =
 pub refusal_before_the_bag_is_one : (t : Tables) (asked : AskedValues) → HasAtMostOne (IsRefusalBeforeTheBag t asked)
 refusal_before_the_bag_is_one t asked a b p q =
     let next : Option Refusal → Type 0 = IsAccessionRefusalIn t asked.day asked.accession asked.closed in
-    let place : p.place ≡ q.place = place_refusal_is_one t asked.day asked.caller asked.collection asked.class p.place q.place p.of_place q.of_place in
+    let place : p.place ≡ q.place = place_refusal_is_one t (visit_on asked.day asked.caller) asked.collection asked.class p.place q.place p.of_place q.of_place in
     this_or_is_one q.place next (accession_refusal_is_one t asked.day asked.accession asked.closed) a b (subst (λ o. IsThisOr o next a) place p.first) q.first
 
 -- one number is that of the deposit, or one refusal stands first
@@ -63,20 +64,20 @@ deposited_is_one t asked text a b p q =
 -- ---- a deposit that is destroyed
 
 -- the facts of a disposal come to one refusal or to none
-pub verdict_is_one : (t : Tables) (day : Date) (caller : List ℕ) (n : ℕ) (row : DepositRow) → HasAtMostOne (IsVerdictIn t day caller n row)
-verdict_is_one t day caller n row a b p q =
-    p.comes_to ∙ ap (λ f. refusal_of (verdict_of f day)) (facts_are_one t day caller n row p.facts q.facts p.are q.are) ∙ sym q.comes_to
+pub verdict_is_one : (t : Tables) (visit : Visit) (n : ℕ) (row : DepositRow) → HasAtMostOne (IsVerdictIn t visit n row)
+verdict_is_one t visit n row a b p q =
+    p.comes_to ∙ ap (λ f. refusal_of (verdict_of f visit.day)) (facts_are_one t visit n row p.facts q.facts p.are q.are) ∙ sym q.comes_to
 
 -- the same of a deposit that may not be there
-pub disposal_refusal_of_is_one : (t : Tables) (day : Date) (caller : List ℕ) (n : ℕ) (found : Option DepositRow) → HasAtMostOne (IsDisposalRefusalOf t day caller n found)
-disposal_refusal_of_is_one t day caller n None a b p q = p ∙ sym q
-disposal_refusal_of_is_one t day caller n (Some row) a b p q = verdict_is_one t day caller n row a b p q
+pub disposal_refusal_of_is_one : (t : Tables) (visit : Visit) (n : ℕ) (found : Option DepositRow) → HasAtMostOne (IsDisposalRefusalOf t visit n found)
+disposal_refusal_of_is_one t visit n None a b p q = p ∙ sym q
+disposal_refusal_of_is_one t visit n (Some row) a b p q = verdict_is_one t visit n row a b p q
 
 -- and by its number
-pub disposal_refusal_is_one : (t : Tables) (day : Date) (caller : List ℕ) (n : ℕ) → HasAtMostOne (IsDisposalRefusalIn t day caller n)
-disposal_refusal_is_one t day caller n = disposal_refusal_of_is_one t day caller n (deposit_numbered (pos n) t.deposits)
+pub disposal_refusal_is_one : (t : Tables) (visit : Visit) (n : ℕ) → HasAtMostOne (IsDisposalRefusalIn t visit n)
+disposal_refusal_is_one t visit n = disposal_refusal_of_is_one t visit n (deposit_numbered (pos n) t.deposits)
 
 -- one answer is given where a deposit is destroyed
-pub disposed_is_one : (t : Tables) (day : Date) (caller : List ℕ) (n : ℕ) → HasAtMostOne (IsDisposedIn t day caller n)
-disposed_is_one t day caller n a b p q =
-    p.answer ∙ ap (λ o. answer_unless o (answers.Destroyed n day)) (disposal_refusal_is_one t day caller n p.refused q.refused p.refusal q.refusal) ∙ sym q.answer
+pub disposed_is_one : (t : Tables) (visit : Visit) (n : ℕ) → HasAtMostOne (IsDisposedIn t visit n)
+disposed_is_one t visit n a b p q =
+    p.answer ∙ ap (λ o. answer_unless o (answers.Destroyed n visit.day)) (disposal_refusal_is_one t visit n p.refused q.refused p.refusal q.refusal) ∙ sym q.answer

@@ -45,7 +45,7 @@ module _ {S A B : Type 0} {g : Ghosts S} {old mid new : MutBor (Held S)} {x : A}
 
 -- where what is written is what the changes make of the picture, the tables picture the history with the changes
 pub accepted : {S T : Type 0} {g : Ghosts S} {old new : MutBor (Held S)} {result : Result T TableFault} → GoesOnInside g old new result → (next : Tables → Tables) → Writes g old.now new.now result next → LeavesOnce g old.now new.now result
-    → (was_so : History → Type 0) (changes : List Change) → ((h : History) → IsLegal h → was_so h → next (picture this_version h) ≡ picture this_version (with_changes h changes)) → Accepts g old.now new.now result was_so changes
+    → (was_so : History → Type 0) (changes : List Change) → ((h : History) → IsLegal h → was_so h → next (picture this_version h) ≡ picture this_version (with_changes h changes)) → Accepts g old.now new.now result (record { was_so = was_so; changes = changes })
 accepted {result = result} it next wrote kept was_so changes told clean h legal pictured was =
     on_both result (λ becomes once. record { office = becomes.office; are = becomes.are ∙ ap next pictured.are ∙ told h legal was; once = once })
     (wrote clean pictured.office) (kept clean pictured.office pictured.once)

@@ -14,7 +14,8 @@ use Rattle.office_core.specs.declared.refusal.Subject.TheVariants as subjects
 use Rattle.office_rows.specs.Rows.{Tables, DepositRow, class_named, deposit_by, deposit_numbered, has_collection, last_number}
 use Rattle.office_history.specs.Answers.{answer_unless}
 use Rattle.office_history.specs.Refusals.{bad_bag, closed_ahead_refusal, refusal_of}
-use Rattle.office_asking.specs.ByRows.{AreFactsIn, AreReleasedOnDays, IsDenialIn, IsDueIn}
+use Rattle.office_asking.specs.Asking.{Visit, visit_on}
+use Rattle.office_asking.specs.ByRows.{AreFactsIn, AreReleasedOnDays, IsDenialBy, IsDueIn, deciding_row}
 use Rattle.office_asking.specs.Limits.{IsNextIn, IsRefusedOr, answer_of_number}
 use Rattle.office_keeping.specs.declared.asked.DepositAsked.{DepositAsked}
 
@@ -51,10 +52,14 @@ no_collection t name = answer_if (not (has_collection name t)) (NoSuch subjects.
 abbrev pub no_class : Tables → List ℕ → Option Refusal
 no_class t name = answer_if (is_none (class_named name t.classes)) (NoSuch subjects.Class)
 
+-- the refusal of the rules, if any, of that collection and that class
+abbrev pub IsPlaceDenialIn : Tables → Visit → List ℕ → List ℕ → Option Refusal → Type 0
+IsPlaceDenialIn t visit collection class = IsDenialBy (deciding_row t visit acts.Deposit (Some collection) (Some class))
+
 -- of the place: there is no such collection, there is no such class, or the rules deny it
-abbrev pub IsPlaceRefusalIn : Tables → Date → List ℕ → List ℕ → List ℕ → Option Refusal → Type 0
-IsPlaceRefusalIn t day caller collection class =
-    IsThisOr (no_collection t collection) (IsThisOr (no_class t class) (IsDenialIn t day caller acts.Deposit (Some collection) (Some class)))
+abbrev pub IsPlaceRefusalIn : Tables → Visit → List ℕ → List ℕ → Option Refusal → Type 0
+IsPlaceRefusalIn t visit collection class =
+    IsThisOr (no_collection t collection) (IsThisOr (no_class t class) (IsPlaceDenialIn t visit collection class))
 
 -- ---- what is asked before the bag
 
@@ -73,7 +78,7 @@ pub record IsAccessionRefusalIn (t : Tables) (day : Date) (accession : List ℕ)
 -- of the place, and else of the accession and the closing day
 pub record IsRefusalBeforeTheBag (t : Tables) (asked : AskedValues) (why : Option Refusal) : Type 0 where
   pub place : Option Refusal
-  pub of_place : IsPlaceRefusalIn t asked.day asked.caller asked.collection asked.class place
+  pub of_place : IsPlaceRefusalIn t (visit_on asked.day asked.caller) asked.collection asked.class place
   pub first : IsThisOr place (IsAccessionRefusalIn t asked.day asked.accession asked.closed) why
 
 -- ---- the number of the deposit
@@ -102,21 +107,21 @@ pub record IsDepositedIn (t : Tables) (asked : AskedValues) (text : List ℕ) (g
 -- ---- a disposal
 
 -- the refusal that the facts of its disposal come to, if any
-pub record IsVerdictIn (t : Tables) (day : Date) (caller : List ℕ) (n : ℕ) (row : DepositRow) (why : Option Refusal) : Type 0 where
+pub record IsVerdictIn (t : Tables) (visit : Visit) (n : ℕ) (row : DepositRow) (why : Option Refusal) : Type 0 where
   pub facts : Facts
-  pub are : AreFactsIn t day caller n row facts
-  pub comes_to : why ≡ refusal_of (verdict_of facts day)
+  pub are : AreFactsIn t visit n row facts
+  pub comes_to : why ≡ refusal_of (verdict_of facts visit.day)
 
 -- the same of a deposit that may not be there
-abbrev pub IsDisposalRefusalOf : Tables → Date → List ℕ → ℕ → Option DepositRow → Option Refusal → Type 0
-IsDisposalRefusalOf t day caller n None why = why ≡ Some (NoSuch subjects.Deposit)
-IsDisposalRefusalOf t day caller n (Some row) why = IsVerdictIn t day caller n row why
+abbrev pub IsDisposalRefusalOf : Tables → Visit → ℕ → Option DepositRow → Option Refusal → Type 0
+IsDisposalRefusalOf t visit n None why = why ≡ Some (NoSuch subjects.Deposit)
+IsDisposalRefusalOf t visit n (Some row) why = IsVerdictIn t visit n row why
 
-abbrev pub IsDisposalRefusalIn : Tables → Date → List ℕ → ℕ → Option Refusal → Type 0
-IsDisposalRefusalIn t day caller n why = IsDisposalRefusalOf t day caller n (deposit_numbered (pos n) t.deposits) why
+abbrev pub IsDisposalRefusalIn : Tables → Visit → ℕ → Option Refusal → Type 0
+IsDisposalRefusalIn t visit n why = IsDisposalRefusalOf t visit n (deposit_numbered (pos n) t.deposits) why
 
 -- a deposit is destroyed unless a refusal stands
-pub record IsDisposedIn (t : Tables) (day : Date) (caller : List ℕ) (n : ℕ) (given : Answer) : Type 0 where
+pub record IsDisposedIn (t : Tables) (visit : Visit) (n : ℕ) (given : Answer) : Type 0 where
   pub refused : Option Refusal
-  pub refusal : IsDisposalRefusalIn t day caller n refused
-  pub answer : given ≡ answer_unless refused (answers.Destroyed n day)
+  pub refusal : IsDisposalRefusalIn t visit n refused
+  pub answer : given ≡ answer_unless refused (answers.Destroyed n visit.day)

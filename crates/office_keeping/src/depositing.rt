@@ -8,6 +8,7 @@ ghost use Rattle.office_tables.specs.Calls.{GoesOnInside, Keeps, Tells};
 ghost use Rattle.office_history.specs.Histories.{History, deposits};
 ghost use Rattle.office_history.specs.Refusals as refusals;
 ghost use Rattle.office_history.specs.Refusals.{place_refusals, bad_bag, closed_ahead_refusal, full_of_deposits};
+ghost use Rattle.office_asking.specs.Asking.{visit_on};
 ghost use Rattle.office_asking.specs.Limits.{IsNumberAfter, IsRefusedOr};
 ghost use Rattle.office_asking.specs.Serving.{Finds, Decides};
 ghost use Rattle.office_keeping.specs.ByRows.{IsAskedOfDeposit, IsDepositedIn, IsNextDepositIn, IsPlaceRefusalIn, IsRefusalBeforeTheBag, IsTakenIn, values_of};
@@ -37,8 +38,8 @@ fn place_refusal<S: Alter>(
         asked.now.class.now)) }
     ensures same { Keeps S.Store tx.old.conn.now tx.new.conn.now result }
     ensures rows { Tells S.Store tx.old.conn.now tx.new.conn.now result (λ tables why.
-        IsPlaceRefusalIn tables asked.now.day asked.now.caller.now asked.now.collection.now
-        asked.now.class.now why) }
+        IsPlaceRefusalIn tables (visit_on asked.now.day asked.now.caller.now)
+        asked.now.collection.now asked.now.class.now why) }
 {
     let collection = asked.collection.as_str();
     let class = asked.class.as_str();
@@ -205,8 +206,8 @@ pub fn deposit<S: Alter>(
 ) -> Result<Answer, TableFault>
     ensures inside { GoesOnInside S.Store tx.old.conn tx.new.conn result }
     ensures decides { Decides S.Store tx.old.conn.now tx.new.conn.now result
-        asked.now.day asked.now.caller.now
-        (requests.Deposit asked.now.collection.now asked.now.class.now asked.now.accession.now
+        (asked.now.day, asked.now.caller,
+        requests.Deposit asked.now.collection.now asked.now.class.now asked.now.accession.now
         asked.now.closed bag.entry) }
     ensures rows { Tells S.Store tx.old.conn.now tx.new.conn.now result (λ tables given.
         IsDepositedIn tables (values_of asked.now) bag.entry.now given) }

@@ -5,6 +5,7 @@ ghost use Rattle.office_core.specs.declared.request.Request.TheVariants as reque
 ghost use Rattle.office_tables.specs.Calls.{GoesOnInside, Tells};
 ghost use Rattle.office_history.specs.Histories.{Destroyed, destruction_day};
 ghost use Rattle.office_history.specs.Refusals.{refusal};
+ghost use Rattle.office_asking.specs.Asking.{visit_on};
 ghost use Rattle.office_asking.specs.Serving.{Finds, Accepts, Decides};
 ghost use Rattle.office_keeping.specs.ByRows.{IsDisposalRefusalIn, IsDisposedIn};
 
@@ -28,7 +29,7 @@ fn disposal_refusal<S: Alter>(
     ensures refusal { Finds S.Store tx.old.conn.now tx.new.conn.now result (λ h why.
         why ≡ refusal h day caller.now (requests.Dispose number)) }
     ensures rows { Tells S.Store tx.old.conn.now tx.new.conn.now result (λ tables why.
-        IsDisposalRefusalIn tables day caller.now number why) }
+        IsDisposalRefusalIn tables (visit_on day caller.now) number why) }
 {
     verdicts_decide();
     let Some(deposit) = deposit_row(tx, number)? else {
@@ -42,8 +43,11 @@ fn disposal_refusal<S: Alter>(
 /// Notes the day on the deposit of that number, and takes its files away.
 fn destroy<S: Alter>(tx: &mut Transaction<'_, S>, day: Day, number: u32) -> Result<(), TableFault>
     ensures inside { GoesOnInside S.Store tx.old.conn tx.new.conn result }
-    ensures destroyed { Accepts S.Store tx.old.conn.now tx.new.conn.now result (λ h.
-        destruction_day h number ≡ None) (Destroyed day number ∷ []) }
+    ensures destroyed { Accepts S.Store tx.old.conn.now tx.new.conn.now result
+        (record {
+          was_so = λ h. destruction_day h number ≡ None;
+          changes = Destroyed day number ∷ [];
+        }) }
 {
     mark_gone(tx, number, day.number() as i64)?;
     drop_files(tx, number)
@@ -61,10 +65,10 @@ pub fn dispose<S: Alter>(
     number: u32,
 ) -> Result<Answer, TableFault>
     ensures inside { GoesOnInside S.Store tx.old.conn tx.new.conn result }
-    ensures decides { Decides S.Store tx.old.conn.now tx.new.conn.now result day caller.now
-        (requests.Dispose number) }
+    ensures decides { Decides S.Store tx.old.conn.now tx.new.conn.now result
+        (day, caller.entry, requests.Dispose number) }
     ensures rows { Tells S.Store tx.old.conn.now tx.new.conn.now result (λ tables given.
-        IsDisposedIn tables day caller.now number given) }
+        IsDisposedIn tables (visit_on day caller.now) number given) }
 {
     if let Some(why) = disposal_refusal(alloc, tx, day, caller, number)? {
         return Ok(Answer::Refused(why));

@@ -140,16 +140,19 @@ pub(crate) fn keep<S: Alter>(
     bag: &BagSet<'_>,
 ) -> Result<(), TableFault>
     ensures inside { GoesOnInside S.Store tx.old.conn tx.new.conn result }
-    ensures kept { Accepts S.Store tx.old.conn.now tx.new.conn.now result (λ h.
-        number ≡ length (deposits h) + 1)
-        (Deposited asked.now.day
+    ensures kept { Accepts S.Store tx.old.conn.now tx.new.conn.now result
         (record {
-          collection = asked.now.collection.now;
-          class = asked.now.class.now;
-          accession = asked.now.accession.now;
-          closed = asked.now.closed;
-          bag = bag.now;
-        }) ∷ []) }
+          was_so = λ h. number ≡ length (deposits h) + 1;
+          changes =
+            Deposited asked.now.day
+            (record {
+              collection = asked.now.collection.now;
+              class = asked.now.class.now;
+              accession = asked.now.accession.now;
+              closed = asked.now.closed;
+              bag = bag.now;
+            }) ∷ [];
+        }) }
     ensures rows { Tells S.Store tx.old.conn.now tx.new.conn.now result (λ tables _.
         (due : Due) × IsDueIn tables asked.now.class.now asked.now.closed due) }
     ensures released { Tells S.Store tx.old.conn.now tx.new.conn.now result (λ tables _.

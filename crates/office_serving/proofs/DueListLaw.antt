@@ -25,6 +25,7 @@ use Rattle.office_history.specs.Refusals.{refusal, refusal_in, denial_at, gone_r
 use Rattle.office_history.specs.Answers.{due_list}
 use Rattle.office_history.proofs.Pictured.{different}
 use Rattle.sqlite_keyed.proofs.ListLemmas.{map-map, filter-map}
+use Rattle.office_asking.specs.Asking.{Visit}
 use Rattle.office_asking.proofs.NumberedRows.{same_count}
 use Rattle.office_asking.proofs.HoldTold.{numbers_passing}
 use Rattle.office_serving.specs.Listing.{is_due, may_destroy}
@@ -81,53 +82,53 @@ twice true false true false = refl
 twice true false false d = refl
 twice false a c d = refl
 
-module _ (h : History) (day : Date) (caller : List ℕ) where
+module _ (h : History) (visit : Visit) where
   abbrev passes : DepositRow × DueRow → Bool
-  passes p = is_disposable (epoch_day day) p && may_destroy h day caller (place_row p)
+  passes p = is_disposable (epoch_day visit.day) p && may_destroy h visit (place_row p)
 
-  disposable_is : (n : ℕ) (x : Date × Deposit) → is_disposable (epoch_day day) (both h n x)
-      ≡ (is_none (destruction_day h n) && (is_none (least_hold h n x.1) && is_none (not_due_refusal h day x.1)))
+  disposable_is : (n : ℕ) (x : Date × Deposit) → is_disposable (epoch_day visit.day) (both h n x)
+      ≡ (is_none (destruction_day h n) && (is_none (least_hold h n x.1) && is_none (not_due_refusal h visit.day x.1)))
   disposable_is n x =
-      ap₂ (λ a b. a && b) (live_row (destruction_day h n)) (ap₂ (λ a b. a && b) (no_hold (live_holds h n x.1)) (sym (due_stands day (due h x.1))))
+      ap₂ (λ a b. a && b) (live_row (destruction_day h n)) (ap₂ (λ a b. a && b) (no_hold (live_holds h n x.1)) (sym (due_stands visit.day (due h x.1))))
 
-  refused_is : (n : ℕ) (x : Date × Deposit) → deposit_numbered h n ≡ Some x → is_none (refusal h day caller (Dispose n))
-      ≡ (is_none (denial_at h day caller acts.Dispose x.1) && (is_none (destruction_day h n) && (is_none (least_hold h n x.1) && is_none (not_due_refusal h day x.1))))
+  refused_is : (n : ℕ) (x : Date × Deposit) → deposit_numbered h n ≡ Some x → is_none (refusal h visit.day visit.caller (Dispose n))
+      ≡ (is_none (denial_at h visit.day visit.caller acts.Dispose x.1) && (is_none (destruction_day h n) && (is_none (least_hold h n x.1) && is_none (not_due_refusal h visit.day x.1))))
   refused_is n x there =
-      ap (λ o. is_none (first_some (of_deposit o (disposal_refusals h day caller n)))) there
-      ∙ none_of_four (denial_at h day caller acts.Dispose x.1) (gone_refusal h n) (held_refusal h n x.1) (not_due_refusal h day x.1)
-      ∙ (λ i. is_none (denial_at h day caller acts.Dispose x.1) && (gone_stands (destruction_day h n) i && (hold_stands (least_hold h n x.1) i && is_none (not_due_refusal h day x.1))))
+      ap (λ o. is_none (first_some (of_deposit o (disposal_refusals h visit.day visit.caller n)))) there
+      ∙ none_of_four (denial_at h visit.day visit.caller acts.Dispose x.1) (gone_refusal h n) (held_refusal h n x.1) (not_due_refusal h visit.day x.1)
+      ∙ (λ i. is_none (denial_at h visit.day visit.caller acts.Dispose x.1) && (gone_stands (destruction_day h n) i && (hold_stands (least_hold h n x.1) i && is_none (not_due_refusal h visit.day x.1))))
 
-  passing_is : (n : ℕ) (x : Date × Deposit) → deposit_numbered h n ≡ Some x → passes (both h n x) ≡ is_due h day caller n
+  passing_is : (n : ℕ) (x : Date × Deposit) → deposit_numbered h n ≡ Some x → passes (both h n x) ≡ is_due h visit n
   passing_is n x there =
-      ap (λ b. b && may_destroy h day caller (place_row (both h n x))) (disposable_is n x)
-      ∙ sym (twice (is_none (destruction_day h n)) (is_none (denial_at h day caller acts.Dispose x.1)) (is_none (least_hold h n x.1)) (is_none (not_due_refusal h day x.1)))
+      ap (λ b. b && may_destroy h visit (place_row (both h n x))) (disposable_is n x)
+      ∙ sym (twice (is_none (destruction_day h n)) (is_none (denial_at h visit.day visit.caller acts.Dispose x.1)) (is_none (least_hold h n x.1)) (is_none (not_due_refusal h visit.day x.1)))
       ∙ ap (λ b. is_none (destruction_day h n) && b) (sym (refused_is n x there))
 
   -- ---- all of them
 
-  filter_twice : (xs : List (DepositRow × DueRow)) → filter (λ p. may_destroy h day caller (place_row p)) (filter (is_disposable (epoch_day day)) xs) ≡ filter passes xs
+  filter_twice : (xs : List (DepositRow × DueRow)) → filter (λ p. may_destroy h visit (place_row p)) (filter (is_disposable (epoch_day visit.day)) xs) ≡ filter passes xs
   filter_twice [] = refl
-  filter_twice (x ∷ xs) = by (is_disposable (epoch_day day) x) (filter_twice xs)
+  filter_twice (x ∷ xs) = by (is_disposable (epoch_day visit.day) x) (filter_twice xs)
     where
-      by : (b : Bool) → filter (λ p. may_destroy h day caller (place_row p)) (filter (is_disposable (epoch_day day)) xs) ≡ filter passes xs
-          → filter (λ p. may_destroy h day caller (place_row p)) (cond b (x ∷ filter (is_disposable (epoch_day day)) xs) (filter (is_disposable (epoch_day day)) xs))
-          ≡ cond (b && may_destroy h day caller (place_row x)) (x ∷ filter passes xs) (filter passes xs)
-      by true rest = ap (λ ps. cond (may_destroy h day caller (place_row x)) (x ∷ ps) ps) rest
+      by : (b : Bool) → filter (λ p. may_destroy h visit (place_row p)) (filter (is_disposable (epoch_day visit.day)) xs) ≡ filter passes xs
+          → filter (λ p. may_destroy h visit (place_row p)) (cond b (x ∷ filter (is_disposable (epoch_day visit.day)) xs) (filter (is_disposable (epoch_day visit.day)) xs))
+          ≡ cond (b && may_destroy h visit (place_row x)) (x ∷ filter passes xs) (filter passes xs)
+      by true rest = ap (λ ps. cond (may_destroy h visit (place_row x)) (x ∷ ps) ps) rest
       by false rest = rest
 
   -- the numbers of the disposable rows that the rules allow
-  due_told : map (λ (p : PlaceRow). p.number) (filter (may_destroy h day caller) (due_places (epoch_day day) (picture this_version h))) ≡ map pos (due_list h day caller)
+  due_told : map (λ (p : PlaceRow). p.number) (filter (may_destroy h visit) (due_places (epoch_day visit.day) (picture this_version h))) ≡ map pos (due_list h visit.day visit.caller)
   due_told =
-      let pairs = filter (is_disposable (epoch_day day)) (beside (picture this_version h).deposits (picture this_version h).dues) in
+      let pairs = filter (is_disposable (epoch_day visit.day)) (beside (picture this_version h).deposits (picture this_version h).dues) in
       let number : DepositRow × DueRow → ℤ = λ p. p.0.number in
-      let moved : map (λ (p : PlaceRow). p.number) (filter (may_destroy h day caller) (due_places (epoch_day day) (picture this_version h))) ≡ map number (filter (λ p. may_destroy h day caller (place_row p)) pairs) =
-      ap (map (λ (p : PlaceRow). p.number)) (filter-map (may_destroy h day caller) place_row pairs) ∙ map-map (λ (p : PlaceRow). p.number) place_row (filter (λ p. may_destroy h day caller (place_row p)) pairs) in
+      let moved : map (λ (p : PlaceRow). p.number) (filter (may_destroy h visit) (due_places (epoch_day visit.day) (picture this_version h))) ≡ map number (filter (λ p. may_destroy h visit (place_row p)) pairs) =
+      ap (map (λ (p : PlaceRow). p.number)) (filter-map (may_destroy h visit) place_row pairs) ∙ map-map (λ (p : PlaceRow). p.number) place_row (filter (λ p. may_destroy h visit (place_row p)) pairs) in
       moved ∙ ap (map number) (filter_twice (beside (picture this_version h).deposits (picture this_version h).dues)) ∙ ap (λ ps. map number (filter passes ps)) (rows_beside h)
-      ∙ numbers_passing (both h) number (λ m x. refl) passes (is_due h day caller) (deposits h) 1 (λ i x e.
+      ∙ numbers_passing (both h) number (λ m x. refl) passes (is_due h visit) (deposits h) 1 (λ i x e.
       let one : suc i ≡ 1 + i = omega arith in passing_is (1 + i) x (subst (λ k. deposit_numbered h k ≡ Some x) one e))
-      ∙ ap (map pos) (filter_both (λ n. is_none (destruction_day h n)) (λ n. is_none (refusal h day caller (Dispose n))) (numbers (length (deposits h))))
+      ∙ ap (map pos) (filter_both (λ n. is_none (destruction_day h n)) (λ n. is_none (refusal h visit.day visit.caller (Dispose n))) (numbers (length (deposits h))))
 
   -- so the list that a filter of those rows gives is the due list
-  pub due_list_is : (t : Tables) → t ≡ picture this_version h → (found : List ℕ) → map pos found ≡ map (λ (p : PlaceRow). p.number) (filter (may_destroy h day caller) (due_places (epoch_day day) t)) → found ≡ due_list h day caller
+  pub due_list_is : (t : Tables) → t ≡ picture this_version h → (found : List ℕ) → map pos found ≡ map (λ (p : PlaceRow). p.number) (filter (may_destroy h visit) (due_places (epoch_day visit.day) t)) → found ≡ due_list h visit.day visit.caller
   due_list_is t is found e =
-      map_back pos same_count found (due_list h day caller) (e ∙ ap (λ u. map (λ (p : PlaceRow). p.number) (filter (may_destroy h day caller) (due_places (epoch_day day) u))) is ∙ due_told)
+      map_back pos same_count found (due_list h visit.day visit.caller) (e ∙ ap (λ u. map (λ (p : PlaceRow). p.number) (filter (may_destroy h visit) (due_places (epoch_day visit.day) u))) is ∙ due_told)

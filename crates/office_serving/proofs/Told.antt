@@ -24,18 +24,18 @@ use Rattle.office_asking.specs.Deposits.{IsFoundRow}
 use Rattle.office_asking.proofs.DepositAsked.{still_kept}
 use Rattle.office_asking.proofs.Serving.{read_serves, refused_serves}
 
-module _ {h : History} (day : Date) (caller : List ℕ) (action : Action) {n : ℕ} {row : DepositRow} (it : IsFoundRow h n (kept_refusals h day caller action n) row) where
+module _ {h : History} (day : Date) (caller : Bor (List ℕ)) (action : Action) {n : ℕ} {row : DepositRow} (it : IsFoundRow h n (kept_refusals h day caller.now action n) row) where
   -- where nothing is refused, the deposit was not destroyed
   pub is_kept : destruction_day h n ≡ None
-  is_kept = still_kept (denial_at h day caller action it.found.1) (destruction_day h n) _ it.free
+  is_kept = still_kept (denial_at h day caller.now action it.found.1) (destruction_day h n) _ it.free
 
   -- and this is told of it
-  pub told_serves : {request : Request} {db : Database} {given : Answer} → refusals h day caller request ≡ of_deposit (deposit_numbered h n) (kept_refusals h day caller action n)
-      → (tell : Date × Deposit → Answer) → allowed_answer h day caller request ≡ told_of (deposit_numbered h n) tell → allowed_change h day request ≡ []
-      → given ≡ tell it.found → Pictures h db → IsServed h day caller request given db
+  pub told_serves : {request : Request} {db : Database} {given : Answer} → refusals h day caller.now request ≡ of_deposit (deposit_numbered h n) (kept_refusals h day caller.now action n)
+      → (tell : Date × Deposit → Answer) → allowed_answer h day caller.now request ≡ told_of (deposit_numbered h n) tell → allowed_change h day request ≡ []
+      → given ≡ tell it.found → Pictures h db → IsServed h (day, caller, request) given db
   told_serves {request = request} {db = db} {given = given} asks tell answers none is pictured =
-      read_serves h day caller request db given
-      (sym (ap first_some asks ∙ ap (λ o. first_some (of_deposit o (kept_refusals h day caller action n))) it.there ∙ it.free))
+      read_serves h (day, caller, request) db given
+      (sym (ap first_some asks ∙ ap (λ o. first_some (of_deposit o (kept_refusals h day caller.now action n))) it.there ∙ it.free))
       (is ∙ sym (answers ∙ ap (λ o. told_of o tell) it.there))
       none pictured
 
@@ -51,27 +51,27 @@ still_first None None c why e = absurd cc
 still_first None (Some other) c why e = e
 still_first (Some other) b c why e = e
 
-module _ (h : History) (day : Date) (caller : List ℕ) (n : ℕ) (path : Bor (List ℕ)) (db : Database) where
-  asks_first : (why : Refusal) → Some why ≡ first_some (of_deposit (deposit_numbered h n) (kept_refusals h day caller acts.Download n)) → Some why ≡ refusal h day caller (DownloadFile n path)
+module _ (h : History) (day : Date) (caller : Bor (List ℕ)) (n : ℕ) (path : Bor (List ℕ)) (db : Database) where
+  asks_first : (why : Refusal) → Some why ≡ first_some (of_deposit (deposit_numbered h n) (kept_refusals h day caller.now acts.Download n)) → Some why ≡ refusal h day caller.now (DownloadFile n path)
   asks_first why e = by (deposit_numbered h n) e
     where
-      by : (o : Option (Date × Deposit)) → Some why ≡ first_some (of_deposit o (kept_refusals h day caller acts.Download n)) → Some why ≡ first_some (of_deposit o (file_refusals h day caller n path.now))
+      by : (o : Option (Date × Deposit)) → Some why ≡ first_some (of_deposit o (kept_refusals h day caller.now acts.Download n)) → Some why ≡ first_some (of_deposit o (file_refusals h day caller.now n path.now))
       by None e = e
-      by (Some found) e = still_first (denial_at h day caller acts.Download found.1) (gone_refusal h n) (no_file found.1 path.now) why e
+      by (Some found) e = still_first (denial_at h day caller.now acts.Download found.1) (gone_refusal h n) (no_file found.1 path.now) why e
 
   -- a refusal that stands before the file is looked for
-  pub file_not_asked : (why : Refusal) → Some why ≡ first_some (of_deposit (deposit_numbered h n) (kept_refusals h day caller acts.Download n)) → Pictures h db → IsServed h day caller (DownloadFile n path) (answers.Refused why) db
-  file_not_asked why e pictured = refused_serves h day caller (DownloadFile n path) db why (asks_first why e) pictured
+  pub file_not_asked : (why : Refusal) → Some why ≡ first_some (of_deposit (deposit_numbered h n) (kept_refusals h day caller.now acts.Download n)) → Pictures h db → IsServed h (day, caller, DownloadFile n path) (answers.Refused why) db
+  file_not_asked why e pictured = refused_serves h (day, caller, DownloadFile n path) db why (asks_first why e) pictured
 
-  module _ (row : DepositRow) (it : IsFoundRow h n (kept_refusals h day caller acts.Download n) row) where
-    asks : no_file it.found.1 path.now ≡ refusal h day caller (DownloadFile n path)
-    asks = first_of_three (denial_at h day caller acts.Download it.found.1) (gone_refusal h n) (no_file it.found.1 path.now) it.free ∙ ap (λ o. first_some (of_deposit o (file_refusals h day caller n path.now))) (sym it.there)
+  module _ (row : DepositRow) (it : IsFoundRow h n (kept_refusals h day caller.now acts.Download n) row) where
+    asks : no_file it.found.1 path.now ≡ refusal h day caller.now (DownloadFile n path)
+    asks = first_of_three (denial_at h day caller.now acts.Download it.found.1) (gone_refusal h n) (no_file it.found.1 path.now) it.free ∙ ap (λ o. first_some (of_deposit o (file_refusals h day caller.now n path.now))) (sym it.there)
 
     -- its content, where the bag has the path
-    pub file_told : (content : Option (List ℕ)) → content ≡ content_at it.found.1.bag path.now → Pictures h db → IsServed h day caller (DownloadFile n path) (file_answer content) db
-    file_told None e pictured = refused_serves h day caller (DownloadFile n path) db NoFile (ap (λ o. answer_if (is_none o) NoFile) e ∙ asks) pictured
+    pub file_told : (content : Option (List ℕ)) → content ≡ content_at it.found.1.bag path.now → Pictures h db → IsServed h (day, caller, DownloadFile n path) (file_answer content) db
+    file_told None e pictured = refused_serves h (day, caller, DownloadFile n path) db NoFile (ap (λ o. answer_if (is_none o) NoFile) e ∙ asks) pictured
     file_told (Some content) e pictured =
-        read_serves h day caller (DownloadFile n path) db (answers.File content)
+        read_serves h (day, caller, DownloadFile n path) db (answers.File content)
         (ap (λ o. answer_if (is_none o) NoFile) e ∙ asks)
         (ap file_answer e ∙ ap (λ o. told_of o (λ (found : Date × Deposit). file_answer (content_at found.1.bag path.now))) (sym it.there))
         refl pictured

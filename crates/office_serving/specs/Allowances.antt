@@ -2,11 +2,10 @@
 use Rattle.std.specs.Prelude.{◌≡◌, ℕ, ◌&&◌, Bool, List, Some, IfSome, is_none, bytes_eq}
 use Rattle.std.specs.HashMap.{get}
 use denote.Ref.{Bor}
-use Rattle.jiff.specs.Types.{Date}
 use Rattle.office_core.specs.declared.action.Action.{Action}
 use Rattle.office_history.specs.Histories.{History}
 use Rattle.office_history.specs.Refusals.{denial}
-use Rattle.office_asking.specs.Asking.{IsAsker}
+use Rattle.office_asking.specs.Asking.{IsAsker, Visit}
 use Rattle.office_serving.specs.declared.allowances.Allowances.{Allowances}
 
 -- a collection and a class
@@ -16,12 +15,12 @@ CollectionAndClass = Bor (List ℕ) × Bor (List ℕ)
 abbrev pub same_pair : CollectionAndClass → CollectionAndClass → Bool
 same_pair a b = bytes_eq a.0.now b.0.now && bytes_eq a.1.now b.1.now
 
--- on this day the rules let the caller do that with the deposits of this collection and this class
-abbrev pub is_allowed : History → Date → List ℕ → Action → List ℕ → List ℕ → Bool
-is_allowed h day caller action collection class = is_none (denial h day caller action (Some collection) (Some class))
+-- on that day the rules let the caller do this with the deposits of this collection and this class
+abbrev pub is_allowed : History → Visit → Action → List ℕ → List ℕ → Bool
+is_allowed h visit action collection class = is_none (denial h visit.day visit.caller action (Some collection) (Some class))
 
 -- they are those of this day, this caller and this action, and what is known of a pair is what the rules say of it
-pub record AreOf (h : History) (day : Date) (caller : List ℕ) (action : Action) (these : Allowances) : Type 0 where
-  pub asker : IsAsker h day caller these.asker.now
+pub record AreOf (h : History) (visit : Visit) (action : Action) (these : Allowances) : Type 0 where
+  pub asker : IsAsker h visit these.asker.now
   pub action_is : these.action ≡ action
-  pub right : (pair : CollectionAndClass) → IfSome (get same_pair these.known pair) (λ is. is ≡ is_allowed h day caller action pair.0.now pair.1.now)
+  pub right : (pair : CollectionAndClass) → IfSome (get same_pair these.known pair) (λ is. is ≡ is_allowed h visit action pair.0.now pair.1.now)

@@ -1,6 +1,5 @@
 -- What an audit says of the files that are stored, whoever wrote them.
 use Rattle.std.specs.Prelude.{◌≡◌, ℕ, List, Option, Some, None}
-use Rattle.jiff.specs.Types.{Date}
 use Rattle.bag_text.specs.BagList.{list_fault}
 use Rattle.bag_text.specs.FaultTexts.{set_fault_text}
 use Rattle.bag_text.specs.TransferForm.{File}
@@ -13,8 +12,10 @@ use Rattle.office_core.specs.declared.answer.AuditReport.TheVariants.{Invalid}
 use Rattle.office_rows.specs.Rows.{Tables}
 use Rattle.office_history.specs.Bags.{report_on}
 use Rattle.office_history.specs.Answers.{audit_report}
+use Rattle.office_asking.specs.Asking.{Visit}
+use Rattle.office_asking.specs.ByRows.{IsAskedIn}
 use Rattle.office_serving.specs.Files.{stored_files}
-use Rattle.office_serving.specs.FilesByRows.{IsAnswerIn}
+use Rattle.office_serving.specs.FilesByRows.{IsAnswerBy}
 
 abbrev pub audit_unless : Option SetFault → List File → AuditReport
 audit_unless (Some fault) files = Invalid (set_fault_text fault)
@@ -27,5 +28,5 @@ audit_of files = audit_unless (list_fault files) files
 
 -- The audit of the files that stand in the tables for that deposit, where the rows tell that the caller may ask for it; else the
 -- first refusal that they tell.
-abbrev pub IsAuditOf : Tables → Date → List ℕ → ℕ → Answer → Type 0
-IsAuditOf t day caller n = IsAnswerIn t day caller acts.Audit n (λ row answer. answer ≡ Audit n (audit_of (stored_files n t)))
+abbrev pub IsAuditOf : Tables → Visit → ℕ → Answer → Type 0
+IsAuditOf t visit n = IsAnswerBy (IsAskedIn t visit acts.Audit n) (λ row answer. answer ≡ Audit n (audit_of (stored_files n t)))

@@ -2,7 +2,6 @@
 use Rattle.std.specs.Prelude.{◌≡◌, ℕ, ℤ, pos, List, Vec, Option, None, Result, Ok, Err, map, option_map, if◌then◌else◌}
 use Rattle.std.specs.List.{AllByRecursion}
 use Rattle.bag_text.specs.Paths.{is_good}
-use Rattle.jiff.specs.Types.{Date}
 use Rattle.bag_text.specs.TransferForm.{IsBag, set_text}
 use Rattle.office_core.specs.declared.action.Action.{Action}
 use Rattle.office_core.specs.declared.action.Action.TheVariants as acts
@@ -12,6 +11,7 @@ use Rattle.office_core.specs.declared.answer.LiveHold.{LiveHold}
 use Rattle.office_core.specs.declared.refusal.Refusal.{Refusal}
 use Rattle.office_rows.specs.Rows.{DepositRow, FileRow, Tables, file_at, live_holds}
 use Rattle.office_history.specs.Answers.{file_answer}
+use Rattle.office_asking.specs.Asking.{Visit}
 use Rattle.office_asking.specs.ByRows.{AreReleasedOnDays, IsAskedIn, IsHoldIn}
 use Rattle.office_serving.specs.Files.{stored_files}
 
@@ -22,31 +22,30 @@ abbrev pub IsAnswerTo : Result DepositRow Refusal → (DepositRow → Answer →
 IsAnswerTo (Ok row) is_so answer = is_so row answer
 IsAnswerTo (Err why) is_so answer = answer ≡ Refused why
 
--- the caller may ask this of the deposit, and this is so of its row and of the answer; or the answer is the first refusal that the
--- rows tell
-pub record IsAnswerIn (t : Tables) (day : Date) (caller : List ℕ) (action : Action) (n : ℕ) (is_so : DepositRow → Answer → Type 0) (answer : Answer) : Type 0 where
+-- a row is found, and this is so of it and of the answer; or the refusal that is found is the answer
+pub record IsAnswerBy (IsAsked : Result DepositRow Refusal → Type 0) (is_so : DepositRow → Answer → Type 0) (answer : Answer) : Type 0 where
   pub asked : Result DepositRow Refusal
-  pub is_asked : IsAskedIn t day caller action n asked
+  pub is_asked : IsAsked asked
   pub answers : IsAnswerTo asked is_so answer
 
 -- ---- its files
 
 -- the caller may ask this of the deposit, where rows are answered, and else the first refusal that the rows tell
-abbrev pub AreAskedIn : {A : Type 0} → Tables → Date → List ℕ → Action → ℕ → Result (Vec FileRow A) Refusal → Type 0
-AreAskedIn t day caller action n (Ok rows) = (row : DepositRow) × IsAskedIn t day caller action n (Ok row)
-AreAskedIn t day caller action n (Err why) = IsAskedIn t day caller action n (Err why)
+abbrev pub AreAskedIn : {A : Type 0} → Tables → Visit → Action → ℕ → Result (Vec FileRow A) Refusal → Type 0
+AreAskedIn t visit action n (Ok rows) = (row : DepositRow) × IsAskedIn t visit action n (Ok row)
+AreAskedIn t visit action n (Err why) = IsAskedIn t visit action n (Err why)
 
 -- the transfer form of the files that stand there, which are a bag
-abbrev pub IsBagIn : Tables → Date → List ℕ → ℕ → Answer → Type 0
-IsBagIn t day caller n = IsAnswerIn t day caller acts.Download n (λ row answer. IsBag (stored_files n t) × (answer ≡ Bag (set_text (stored_files n t))))
+abbrev pub IsBagIn : Tables → Visit → ℕ → Answer → Type 0
+IsBagIn t visit n = IsAnswerBy (IsAskedIn t visit acts.Download n) (λ row answer. IsBag (stored_files n t) × (answer ≡ Bag (set_text (stored_files n t))))
 
 -- the content of the file that stands there at a path, which is any bytes: a path that no bag may have is that of no file, whatever stands there
 abbrev pub content_stored : ℕ → List ℕ → Tables → Option (List ℕ)
 content_stored n path t = if is_good path then option_map (λ (file : FileRow). file.content) (file_at (pos n) path t.files) else None
 
 -- the file that stands there at that path, or that there is none
-abbrev pub IsFileIn : Tables → Date → List ℕ → ℕ → List ℕ → Answer → Type 0
-IsFileIn t day caller n path = IsAnswerIn t day caller acts.Download n (λ row answer. answer ≡ file_answer (content_stored n path t))
+abbrev pub IsFileIn : Tables → Visit → ℕ → List ℕ → Answer → Type 0
+IsFileIn t visit n path = IsAnswerBy (IsAskedIn t visit acts.Download n) (λ row answer. answer ≡ file_answer (content_stored n path t))
 
 -- ---- the holds that cover it
 
@@ -62,5 +61,5 @@ pub record AreHoldsOver (t : Tables) (n : ℕ) (collection class : List ℕ) (to
   pub are : AreHoldsOf t (live_holds (pos n) collection class t) told
 
 -- the live holds over the deposit, which is of the collection and the class that its row names
-abbrev pub AreHoldsIn : Tables → Date → List ℕ → ℕ → Answer → Type 0
-AreHoldsIn t day caller n = IsAnswerIn t day caller acts.Holds n (λ row answer. (told : List LiveHold) × AreHoldsOver t n row.collection row.class told × (answer ≡ Holds told))
+abbrev pub AreHoldsIn : Tables → Visit → ℕ → Answer → Type 0
+AreHoldsIn t visit n = IsAnswerBy (IsAskedIn t visit acts.Holds n) (λ row answer. (told : List LiveHold) × AreHoldsOver t n row.collection row.class told × (answer ≡ Holds told))

@@ -1,17 +1,16 @@
 //! What the rules let a caller do on a day with the deposits of a collection and a class, asked once for each
 //! pair that comes up.
 
-ghost use Rattle.std.specs.Prelude.{◌≡◌, List, ℕ};
-ghost use Rattle.jiff.specs.Types.{Date};
+ghost use Rattle.std.specs.Prelude.{◌≡◌, Some};
 ghost use Rattle.office_core.specs.declared.action.Action.{Action};
 ghost use Rattle.office_tables.specs.Calls.{GoesOnInTurn, Keeps, Tells};
 ghost use Rattle.office_rows.specs.Rows.{Tables};
 ghost use Rattle.office_history.specs.Histories.{History};
-ghost use Rattle.office_asking.specs.Asking.{IsAsker};
-ghost use Rattle.office_asking.specs.ByRows.{IsAskerIn};
+ghost use Rattle.office_asking.specs.Asking.{IsAsker, Visit};
+ghost use Rattle.office_asking.specs.ByRows.{IsAskerIn, deciding_row};
 ghost use Rattle.office_asking.specs.Serving.{Finds};
 ghost use Rattle.office_serving.specs.Allowances.{AreOf, is_allowed};
-ghost use Rattle.office_serving.specs.ListsByRows.{AreIn, IsAllowedIn};
+ghost use Rattle.office_serving.specs.ListsByRows.{AreIn, IsAllowanceBy};
 
 use office_asking::Asker;
 use office_core::Action;
@@ -32,10 +31,10 @@ pub struct Allowances<'a> {
 impl<'a> Allowances<'a> {
     /// Those of the asker and an action, of no pair yet.
     pub fn new(alloc: Global, asker: &'a Asker, action: Action) -> Allowances<'a>
-        ensures those { (h : History) (day : Date) (caller : List ℕ)
-            → IsAsker h day caller asker.now → AreOf h day caller action result }
-        ensures rows { (tables : Tables) (day : Date) (caller : List ℕ)
-            → IsAskerIn tables day caller asker.now → AreIn tables day caller action result }
+        ensures those { (h : History) (visit : Visit)
+            → IsAsker h visit asker.now → AreOf h visit action result }
+        ensures rows { (tables : Tables) (visit : Visit)
+            → IsAskerIn tables visit asker.now → AreIn tables visit action result }
     {
         Allowances {
             asker,
@@ -55,15 +54,15 @@ impl<'a> Allowances<'a> {
     ) -> Result<bool, TableFault>
         ensures inside { GoesOnInTurn S.Store tx.old.conn tx.new.conn result }
         ensures allowed { Finds S.Store tx.old.conn.now tx.new.conn.now result (λ h is.
-            (day : Date) (caller : List ℕ) (action : Action) → AreOf h day caller action self.old
-            → AreOf h day caller action self.new
-            × (is ≡ is_allowed h day caller action collection.now class.now)) }
+            (visit : Visit) (action : Action) → AreOf h visit action self.old
+            → AreOf h visit action self.new
+            × (is ≡ is_allowed h visit action collection.now class.now)) }
         ensures same { Keeps S.Store tx.old.conn.now tx.new.conn.now result }
         ensures rows { Tells S.Store tx.old.conn.now tx.new.conn.now result (λ tables is.
-            (day : Date) (caller : List ℕ) (action : Action)
-            → AreIn tables day caller action self.old
-            → AreIn tables day caller action self.new
-            × IsAllowedIn tables day caller action collection.now class.now is) }
+            (visit : Visit) (action : Action) → AreIn tables visit action self.old
+            → AreIn tables visit action self.new
+            × IsAllowanceBy
+            (deciding_row tables visit action (Some collection.now) (Some class.now)) is) }
     {
         if let Some(is) = self.known.get(&(collection, class)).copied() {
             return Ok(is);

@@ -9,6 +9,7 @@ ghost use Rattle.office_tables.specs.Faults.{IsFailure};
 ghost use Rattle.office_tables.specs.Calls.{GoesOnInside, Keeps, Tells};
 ghost use Rattle.office_tables.specs.Deposits.{files_by_path};
 ghost use Rattle.office_history.specs.Refusals.{kept_refusals};
+ghost use Rattle.office_asking.specs.Asking.{visit_on};
 ghost use Rattle.office_asking.specs.Serving.{Finds, Decides};
 ghost use Rattle.office_serving.specs.Files.{file_in, AreFilesAsked};
 ghost use Rattle.office_serving.specs.FilesByRows.{AreAskedIn, IsBagIn};
@@ -99,7 +100,7 @@ pub fn kept_files<S: Alter>(
         IfOk asked (λ rows. rows.items ≡ files_by_path (pos number) tables)) }
     ensures same { Keeps S.Store tx.old.conn.now tx.new.conn.now result }
     ensures rows { Tells S.Store tx.old.conn.now tx.new.conn.now result (λ tables asked.
-        AreAskedIn tables day caller.now action number asked) }
+        AreAskedIn tables (visit_on day caller.now) action number asked) }
 {
     // A bag that is kept is a bag.
     sound_bags();
@@ -120,11 +121,11 @@ pub fn download_bag<S: Alter>(
     number: u32,
 ) -> Result<Answer, TableFault>
     ensures inside { GoesOnInside S.Store tx.old.conn tx.new.conn result }
-    ensures decides { Decides S.Store tx.old.conn.now tx.new.conn.now result day caller.now
-        (requests.DownloadBag number) }
+    ensures decides { Decides S.Store tx.old.conn.now tx.new.conn.now result
+        (day, caller.entry, requests.DownloadBag number) }
     ensures same { Keeps S.Store tx.old.conn.now tx.new.conn.now result }
     ensures rows { Tells S.Store tx.old.conn.now tx.new.conn.now result (λ tables answer.
-        IsBagIn tables day caller.now number answer) }
+        IsBagIn tables (visit_on day caller.now) number answer) }
 {
     match kept_files(alloc, tx, day, caller, Action::Download, number)? {
         Ok(rows) => Ok(Answer::Bag {

@@ -1,12 +1,11 @@
 //! The deposits that a caller may destroy on a day.
 
-ghost use Rattle.std.specs.Prelude.{◌≡◌, List, ℕ, pos, map, filter};
-ghost use Rattle.jiff.specs.Types.{Date};
+ghost use Rattle.std.specs.Prelude.{◌≡◌, pos, map, filter};
 ghost use Rattle.office_core.specs.declared.request.Request.TheVariants as requests;
 ghost use Rattle.office_tables.specs.Calls.{GoesOnInTurn, GoesOnInside, Keeps, Tells};
 ghost use Rattle.office_rows.specs.Told.{PlaceRow as Place};
 ghost use Rattle.office_history.specs.Answers.{due_list};
-ghost use Rattle.office_asking.specs.Asking.{IsAsker};
+ghost use Rattle.office_asking.specs.Asking.{IsAsker, Visit, visit_on};
 ghost use Rattle.office_asking.specs.ByRows.{IsAskerIn};
 ghost use Rattle.office_asking.specs.Serving.{Finds, Decides};
 ghost use Rattle.office_serving.specs.Listing.{may_destroy};
@@ -29,13 +28,13 @@ fn allowed_among<S: Alter>(
 ) -> Result<Vec<u32>, TableFault>
     ensures inside { GoesOnInTurn S.Store tx.old.conn tx.new.conn result }
     ensures allowed { Finds S.Store tx.old.conn.now tx.new.conn.now result (λ h numbers.
-        (day : Date) (caller : List ℕ) → IsAsker h day caller asker.now
+        (visit : Visit) → IsAsker h visit asker.now
         → map pos numbers.items
-        ≡ map (λ (p : Place). p.number) (filter (may_destroy h day caller) places.now)) }
+        ≡ map (λ (p : Place). p.number) (filter (may_destroy h visit) places.now)) }
     ensures same { Keeps S.Store tx.old.conn.now tx.new.conn.now result }
     ensures rows { Tells S.Store tx.old.conn.now tx.new.conn.now result (λ tables numbers.
-        (day : Date) (caller : List ℕ) → IsAskerIn tables day caller asker.now
-        → AreAllowedIn tables day caller places.now numbers.items) }
+        (visit : Visit) → IsAskerIn tables visit asker.now
+        → AreAllowedIn tables visit places.now numbers.items) }
 {
     let mut allowances = Allowances::new(alloc, asker, Action::Dispose);
     let mut numbers = Vec::new(alloc);
@@ -64,7 +63,7 @@ pub fn due_numbers<S: Alter>(
         numbers.items ≡ due_list h day caller.now) }
     ensures same { Keeps S.Store tx.old.conn.now tx.new.conn.now result }
     ensures rows { Tells S.Store tx.old.conn.now tx.new.conn.now result (λ tables numbers.
-        AreDueIn tables day caller.now numbers.items) }
+        AreDueIn tables (visit_on day caller.now) numbers.items) }
 {
     let asker = Asker::read(tx, day, caller)?;
     let places = due_rows(alloc, tx, day.number() as i64)?;
@@ -81,10 +80,11 @@ pub fn due_list<S: Alter>(
     caller: &str,
 ) -> Result<Answer, TableFault>
     ensures inside { GoesOnInside S.Store tx.old.conn tx.new.conn result }
-    ensures decides { Decides S.Store tx.old.conn.now tx.new.conn.now result day caller.now requests.DueList }
+    ensures decides { Decides S.Store tx.old.conn.now tx.new.conn.now result
+        (day, caller.entry, requests.DueList) }
     ensures same { Keeps S.Store tx.old.conn.now tx.new.conn.now result }
     ensures rows { Tells S.Store tx.old.conn.now tx.new.conn.now result (λ tables given.
-        IsDueListIn tables day caller.now given) }
+        IsDueListIn tables (visit_on day caller.now) given) }
 {
     let numbers = due_numbers(alloc, tx, day, caller)?;
     Ok(Answer::DueList {

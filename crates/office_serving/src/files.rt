@@ -8,6 +8,7 @@ ghost use Rattle.office_core.specs.declared.request.Request.TheVariants as reque
 ghost use Rattle.office_tables.specs.Calls.{GoesOnInTurn, GoesOnInside, Keeps, Tells};
 ghost use Rattle.office_history.specs.Histories.{Deposit, deposit_numbered, destruction_day};
 ghost use Rattle.office_history.specs.Answers.{file_answer};
+ghost use Rattle.office_asking.specs.Asking.{visit_on};
 ghost use Rattle.office_asking.specs.Serving.{Finds, Decides};
 ghost use Rattle.office_serving.specs.FilesByRows.{IsFileIn, content_stored};
 
@@ -77,11 +78,11 @@ pub fn download_file<S: Alter>(
     path: &[u8],
 ) -> Result<Answer, TableFault>
     ensures inside { GoesOnInside S.Store tx.old.conn tx.new.conn result }
-    ensures decides { Decides S.Store tx.old.conn.now tx.new.conn.now result day caller.now
-        (requests.DownloadFile number path.entry) }
+    ensures decides { Decides S.Store tx.old.conn.now tx.new.conn.now result
+        (day, caller.entry, requests.DownloadFile number path.entry) }
     ensures same { Keeps S.Store tx.old.conn.now tx.new.conn.now result }
     ensures rows { Tells S.Store tx.old.conn.now tx.new.conn.now result (λ tables answer.
-        IsFileIn tables day caller.now number path.now answer) }
+        IsFileIn tables (visit_on day caller.now) number path.now answer) }
 {
     match kept_deposit(tx, day, caller, Action::Download, number)? {
         Ok(_) => Ok(file_answer(content_of(tx, number, path)?)),

@@ -6,6 +6,7 @@ ghost use Rattle.office_core.specs.declared.request.Request.TheVariants as reque
 ghost use Rattle.office_tables.specs.Calls.{GoesOnInTurn, GoesOnInside, Keeps, Tells};
 ghost use Rattle.office_history.specs.Histories.{Deposit};
 ghost use Rattle.office_history.specs.Answers.{told_hold, told_holds};
+ghost use Rattle.office_asking.specs.Asking.{visit_on};
 ghost use Rattle.office_asking.specs.Serving.{Finds, Decides};
 ghost use Rattle.office_serving.specs.FilesByRows.{AreHoldsIn, AreHoldsOf, AreHoldsOver};
 
@@ -67,11 +68,11 @@ pub fn holds<S: Alter>(
     number: u32,
 ) -> Result<Answer, TableFault>
     ensures inside { GoesOnInside S.Store tx.old.conn tx.new.conn result }
-    ensures decides { Decides S.Store tx.old.conn.now tx.new.conn.now result day caller.now
-        (requests.Holds number) }
+    ensures decides { Decides S.Store tx.old.conn.now tx.new.conn.now result
+        (day, caller.entry, requests.Holds number) }
     ensures same { Keeps S.Store tx.old.conn.now tx.new.conn.now result }
     ensures rows { Tells S.Store tx.old.conn.now tx.new.conn.now result (λ tables answer.
-        AreHoldsIn tables day caller.now number answer) }
+        AreHoldsIn tables (visit_on day caller.now) number answer) }
 {
     match kept_deposit(tx, day, caller, Action::Holds, number)? {
         Ok(row) => Ok(Answer::Holds {

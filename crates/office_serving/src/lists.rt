@@ -1,6 +1,6 @@
 //! Lists of deposits.
 
-ghost use Rattle.std.specs.Prelude.{◌≡◌, List, Some, ℕ, option_copied};
+ghost use Rattle.std.specs.Prelude.{◌≡◌, Some, ℕ, option_copied};
 ghost use Rattle.jiff.specs.Types.{Date};
 ghost use Rattle.office_core.specs.declared.action.Action.TheVariants as acts;
 ghost use Rattle.office_core.specs.declared.request.Request.TheVariants as requests;
@@ -9,11 +9,11 @@ ghost use Rattle.office_tables.specs.Calls.{GoesOnInTurn, GoesOnInside, Keeps, T
 ghost use Rattle.office_history.specs.Histories.{Deposit, deposit_numbered};
 ghost use Rattle.office_history.specs.Pictures.{deposit_row, deposit_rows, due_row, due_rows};
 ghost use Rattle.office_history.specs.Answers.{is_asked, listed_records};
-ghost use Rattle.office_asking.specs.Asking.{IsAsker};
+ghost use Rattle.office_asking.specs.Asking.{IsAsker, Visit, visit_on};
 ghost use Rattle.office_asking.specs.ByRows.{IsAskerIn};
 ghost use Rattle.office_asking.specs.Serving.{Finds, Decides};
 ghost use Rattle.office_serving.specs.Allowances.{AreOf};
-ghost use Rattle.office_serving.specs.Listing.{is_shown, shown_record};
+ghost use Rattle.office_serving.specs.Listing.{is_shown, shown_record, wanted_of};
 ghost use Rattle.office_serving.specs.ListsByRows.{AreIn, AreListedIn, IsListIn, IsShownIn, IsToldIn, is_wanted};
 
 use crate::allowances::Allowances;
@@ -36,8 +36,7 @@ fn is_asked(only: Option<&Name<'_>>, name: &str) -> bool
 
 /// Whether the deposit of the row is of the collection and the class that are asked for.
 fn is_wanted(row: &DepositRow, collection: Option<&Name<'_>>, class: Option<&Name<'_>>) -> bool
-    ensures { result
-        ≡ is_wanted (option_copied collection.entry) (option_copied class.entry) row.now }
+    ensures { result ≡ is_wanted (wanted_of collection.entry class.entry) row.now }
 {
     is_asked(collection, &row.collection) && is_asked(class, &row.class)
 }
@@ -52,18 +51,15 @@ fn is_shown<'a, S: Alter>(
 ) -> Result<bool, TableFault>
     ensures inside { GoesOnInTurn S.Store tx.old.conn tx.new.conn result }
     ensures shown { Finds S.Store tx.old.conn.now tx.new.conn.now result (λ h is.
-        (day : Date) (caller : List ℕ) → AreOf h day caller acts.List allowances.old
-        → AreOf h day caller acts.List allowances.new
+        (visit : Visit) → AreOf h visit acts.List allowances.old
+        → AreOf h visit acts.List allowances.new
         × ((n : ℕ) (found : Date × Deposit) → row.now ≡ deposit_row h n found
-        → is
-        ≡ is_shown h day caller (option_copied collection.entry)
-        (option_copied class.entry) n found.1)) }
+        → is ≡ is_shown h visit (wanted_of collection.entry class.entry) n found.1)) }
     ensures same { Keeps S.Store tx.old.conn.now tx.new.conn.now result }
     ensures rows { Tells S.Store tx.old.conn.now tx.new.conn.now result (λ tables is.
-        (day : Date) (caller : List ℕ) → AreIn tables day caller acts.List allowances.old
-        → AreIn tables day caller acts.List allowances.new
-        × IsShownIn tables day caller (option_copied collection.entry)
-        (option_copied class.entry) row.now is) }
+        (visit : Visit) → AreIn tables visit acts.List allowances.old
+        → AreIn tables visit acts.List allowances.new
+        × IsShownIn tables visit (wanted_of collection.entry class.entry) row.now is) }
 {
     if !is_wanted(row, collection, class) {
         return Ok(false);
@@ -86,19 +82,16 @@ fn shown_record<'a, S: Alter>(
 ) -> Result<Option<DepositRecord>, TableFault>
     ensures inside { GoesOnInTurn S.Store tx.old.conn tx.new.conn result }
     ensures shown { Finds S.Store tx.old.conn.now tx.new.conn.now result (λ h told.
-        (day : Date) (caller : List ℕ) → AreOf h day caller acts.List allowances.old
-        → AreOf h day caller acts.List allowances.new
+        (visit : Visit) → AreOf h visit acts.List allowances.old
+        → AreOf h visit acts.List allowances.new
         × ((n : ℕ) (found : Date × Deposit) → deposit_numbered h n ≡ Some found
         → row.now ≡ (deposit_row h n found, due_row h n found)
-        → told
-        ≡ shown_record h day caller (option_copied collection.entry)
-        (option_copied class.entry) n)) }
+        → told ≡ shown_record h visit (wanted_of collection.entry class.entry) n)) }
     ensures same { Keeps S.Store tx.old.conn.now tx.new.conn.now result }
     ensures rows { Tells S.Store tx.old.conn.now tx.new.conn.now result (λ tables told.
-        (day : Date) (caller : List ℕ) → AreIn tables day caller acts.List allowances.old
-        → AreIn tables day caller acts.List allowances.new
-        × IsToldIn tables day caller (option_copied collection.entry)
-        (option_copied class.entry) row.now told) }
+        (visit : Visit) → AreIn tables visit acts.List allowances.old
+        → AreIn tables visit acts.List allowances.new
+        × IsToldIn tables visit (wanted_of collection.entry class.entry) row.now told) }
 {
     if is_shown(tx, allowances, collection, class, &row.deposit)? {
         Ok(Some(record_in(alloc, &row.deposit, &row.kept)?))
@@ -118,16 +111,15 @@ fn shown_among<S: Alter>(
 ) -> Result<Vec<DepositRecord>, TableFault>
     ensures inside { GoesOnInTurn S.Store tx.old.conn tx.new.conn result }
     ensures listed { Finds S.Store tx.old.conn.now tx.new.conn.now result (λ h told.
-        (day : Date) (caller : List ℕ) → IsAsker h day caller asker.now
+        (visit : Visit) → IsAsker h visit asker.now
         → rows.now ≡ beside (deposit_rows h) (due_rows h)
         → told.items
-        ≡ listed_records h day caller (option_copied collection.entry)
-        (option_copied class.entry)) }
+        ≡ listed_records h visit.day visit.caller (wanted_of collection.entry class.entry)) }
     ensures same { Keeps S.Store tx.old.conn.now tx.new.conn.now result }
     ensures rows { Tells S.Store tx.old.conn.now tx.new.conn.now result (λ tables told.
-        (day : Date) (caller : List ℕ) → IsAskerIn tables day caller asker.now
-        → AreListedIn tables day caller (option_copied collection.entry)
-        (option_copied class.entry) rows.now told.items) }
+        (visit : Visit) → IsAskerIn tables visit asker.now
+        → AreListedIn tables visit (wanted_of collection.entry class.entry) rows.now
+        told.items) }
 {
     let mut allowances = Allowances::new(alloc, asker, Action::List);
     let mut told = Vec::new(alloc);
@@ -152,12 +144,12 @@ pub fn list<S: Alter>(
     class: Option<&Name<'_>>,
 ) -> Result<Answer, TableFault>
     ensures inside { GoesOnInside S.Store tx.old.conn tx.new.conn result }
-    ensures decides { Decides S.Store tx.old.conn.now tx.new.conn.now result day caller.now
-        (requests.List (option_copied collection.entry) (option_copied class.entry)) }
+    ensures decides { Decides S.Store tx.old.conn.now tx.new.conn.now result
+        (day, caller.entry,
+        requests.List (option_copied collection.entry) (option_copied class.entry)) }
     ensures same { Keeps S.Store tx.old.conn.now tx.new.conn.now result }
     ensures rows { Tells S.Store tx.old.conn.now tx.new.conn.now result (λ tables given.
-        IsListIn tables day caller.now (option_copied collection.entry)
-        (option_copied class.entry) given) }
+        IsListIn tables (visit_on day caller.now) (wanted_of collection.entry class.entry) given) }
 {
     let asker = Asker::read(tx, day, caller)?;
     let rows = deposits_and_dues(alloc, tx)?;

@@ -10,6 +10,7 @@ ghost use Rattle.office_tables.specs.declared.fault.TableFault.TheVariants.{Memo
 ghost use Rattle.office_history.specs.Histories.{Deposit, deposit_numbered};
 ghost use Rattle.office_history.specs.Pictures.{deposit_row};
 ghost use Rattle.office_history.specs.Answers.{record_of};
+ghost use Rattle.office_asking.specs.Asking.{visit_on};
 ghost use Rattle.office_asking.specs.Serving.{Finds, Decides};
 ghost use Rattle.office_serving.specs.ListsByRows.{IsRecordBy, IsRecordIn};
 ghost use Rattle.office_serving.specs.Told.{IsRecordOf};
@@ -90,11 +91,11 @@ pub fn record<S: Alter>(
     number: u32,
 ) -> Result<Answer, TableFault>
     ensures inside { GoesOnInside S.Store tx.old.conn tx.new.conn result }
-    ensures decides { Decides S.Store tx.old.conn.now tx.new.conn.now result day caller.now
-        (requests.Record number) }
+    ensures decides { Decides S.Store tx.old.conn.now tx.new.conn.now result
+        (day, caller.entry, requests.Record number) }
     ensures same { Keeps S.Store tx.old.conn.now tx.new.conn.now result }
     ensures rows { Tells S.Store tx.old.conn.now tx.new.conn.now result (λ tables given.
-        IsRecordIn tables day caller.now number given) }
+        IsRecordIn tables (visit_on day caller.now) number given) }
 {
     match kept_deposit(tx, day, caller, Action::Record, number)? {
         Ok(row) => Ok(Answer::Record(record_of(alloc, tx, &row)?)),

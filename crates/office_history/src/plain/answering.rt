@@ -66,7 +66,9 @@ fn is_listed(
     class: &Option<Name<'_>>,
     deposit: &Deposit,
 ) -> bool
-    ensures { result ≡ is_listed office.now day caller.now collection.now class.now deposit.now }
+    ensures { result
+        ≡ is_listed office.now day caller.now
+        (record { collection = collection.now; class = class.now }) deposit.now }
 {
     is_asked(collection, &deposit.collection)
         && is_asked(class, &deposit.class)
@@ -83,7 +85,9 @@ fn listed_record(
     number: u32,
 ) -> Result<Option<DepositRecord>, AllocError>
     ensures { IfOk result (λ told.
-        told ≡ listed_record office.now day caller.now collection.now class.now number) }
+        told
+        ≡ listed_record office.now day caller.now
+        (record { collection = collection.now; class = class.now }) number) }
 {
     match deposit_numbered(office, number) {
         Some((deposited, deposit)) => {
@@ -108,7 +112,9 @@ fn listed_records(
     class: &Option<Name<'_>>,
 ) -> Result<Vec<DepositRecord>, AllocError>
     ensures { IfOk result (λ told.
-        told.items ≡ listed_records office.now day caller.now collection.now class.now) }
+        told.items
+        ≡ listed_records office.now day caller.now
+        (record { collection = collection.now; class = class.now })) }
 {
     let numbers = kept_numbers(alloc, office)?;
     let mut records = Vec::new(alloc);

@@ -7,7 +7,8 @@ use Rattle.office_history.specs.Refusals.{denial, kept_refusals}
 use Rattle.office_asking.proofs.Readings.{pictured_still}
 use Rattle.office_asking.proofs.DepositAsked.{deposit_read, none_there}
 use Rattle.office_tables.specs.Tables.{tables_of}
-use Rattle.office_asking.specs.ByRows.{IsDenialIn}
+use Rattle.office_asking.specs.Asking.{visit_on}
+use Rattle.office_asking.specs.ByRows.{IsDenialBy, deciding_row, deciding_row_at}
 use Rattle.office_asking.proofs.RowsTold.{office_still, told_before, none_asked, row_asked}
 use Rattle.office_tables.proofs.InTurn.{clean_first, inside_after, inside_failed, same_then, whatever}
 use Rattle.office_asking.proofs.deposits.kept_deposit.Goals as goal
@@ -41,7 +42,7 @@ returns-in_default-clause-rows g c clean office =
     let a = c.args in
     let old = state g.S.Store a.tx.now.conn.now in
     let found = c.in_ok-deposit.ensures.found clean office in
-    none_asked (tables_of old.now) a.day a.caller.now a.action a.number (search (rules, found))
+    none_asked (tables_of old.now) (visit_on a.day a.caller.now) a.action a.number (search (rules, found))
 
 pub returns-clause-rows : goal.returns-clause-rows
 returns-clause-rows g c clean office =
@@ -53,9 +54,10 @@ returns-clause-rows g c clean office =
     let there = sym c.in-Some.is ∙ c.in_ok-deposit.ensures.found early office in
     let collection : c.deref.result.now ≡ row.collection = search rules in
     let class : c.deref-2.result.now ≡ row.class = search rules in
-    let told = told_before same (λ t. IsDenialIn t a.day a.caller.now a.action (Some c.deref.result.now) (Some c.deref-2.result.now) c.in_ok-denied.denied) (c.in_ok-denied.ensures.rows clean (office_still same office)) in
-    let denial : IsDenialIn (tables_of old.now) a.day a.caller.now a.action (Some row.collection) (Some row.class) c.in_ok-denied.denied = rw (collection, class) at told in
-    row_asked (tables_of old.now) a.day a.caller.now a.action a.number row there c.in_ok-denied.denied denial c.unless_refused.result c.unless_refused.ensures.kept c.unless_refused.ensures.refused
+    let visit = visit_on a.day a.caller.now in
+    let told = told_before same (λ t. IsDenialBy (deciding_row t visit a.action (Some c.deref.result.now) (Some c.deref-2.result.now)) c.in_ok-denied.denied) (c.in_ok-denied.ensures.rows clean (office_still same office)) in
+    let denial : IsDenialBy (deciding_row_at (tables_of old.now) visit a.action row) c.in_ok-denied.denied = rw (collection, class) at told in
+    row_asked (tables_of old.now) visit a.action a.number row there c.in_ok-denied.denied denial c.unless_refused.result c.unless_refused.ensures.kept c.unless_refused.ensures.refused
 
 pub returns-in_err-denied-clause-inside : goal.returns-in_err-denied-clause-inside
 returns-in_err-denied-clause-inside g c = inside_failed c.in_ok-deposit.ensures.inside c.denial.ensures.inside _ (search rules) (search rules)

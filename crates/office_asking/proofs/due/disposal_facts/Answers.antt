@@ -14,7 +14,7 @@ use Rattle.office_asking.proofs.DuesTold.{due_back}
 use Rattle.std.proofs.Common.{refl, subst}
 use Rattle.office_tables.specs.Tables.{tables_of}
 use Rattle.office_rows.specs.Rows.{due_numbered}
-use Rattle.office_asking.specs.ByRows.{IsCountedIn}
+use Rattle.office_asking.specs.ByRows.{IsCountedIn, IsLeastIn}
 use Rattle.office_asking.proofs.InTurn.{same_twice}
 use Rattle.office_asking.proofs.RowsTold.{office_still, told_before}
 use Rattle.office_tables.proofs.InTurn.{clean_first, failed_before, failed_in_turn, inside_as, inside_failed, inside_then, then_in_turn}
@@ -39,18 +39,18 @@ returns-clause-facts g c clean h legal pictured =
     let counts : c.kept.inside.holds ≡ c.in_ok-kept.kept.holds = search rules in
     let falls : due_number c.in_ok-due.due ≡ c.in_ok-kept.kept.due = search rules in (
       held.0,
-      λ day caller is n found there row_is.
+      λ visit is n found there row_is.
           let same : c.row.inside.number ≡ n = same_count c.row.inside.number n (count ∙ ap (λ (r : DepositRow). r.number) row_is) in
           let kept_is : c.in_ok-kept.kept ≡ due_row h c.row.inside.number found = kept.1 found (ap (deposit_numbered h) same ∙ there) in
-          same_facts h day caller n found row row_is c.in_ok-decision.decision c.in_ok-days.days.gone c.in_ok-hold.hold c.in_ok-due.due
-          (decided.1 day caller is ∙ (λ i. deciding_rule h day caller acts.Dispose (Some (collection i)) (Some (class i))))
+          same_facts h visit.day visit.caller n found row row_is c.in_ok-decision.decision c.in_ok-days.days.gone c.in_ok-hold.hold c.in_ok-due.due
+          (decided.1 visit is ∙ (λ i. deciding_rule h visit.day visit.caller acts.Dispose (Some (collection i)) (Some (class i))))
           gone
           (held.1 found.1 (sym (ap (λ (r : DepositRow). r.collection) row_is) ∙ sym covered) (sym (ap (λ (r : DepositRow). r.class) row_is) ∙ sym covered_of) (to_z-of_z w64 c.kept.inside.holds fits ∙ counts ∙ ap (λ (k : DueRow). k.holds) kept_is) ∙ ap (λ m. least_hold h m found.1) same)
           (due_back c.in_ok-due.due (due h found.1) (falls ∙ ap (λ (k : DueRow). k.due) kept_is)),
     )
 
 pub returns-clause-rows : goal.returns-clause-rows
-returns-clause-rows g c clean office day caller is n numbered =
+returns-clause-rows g c clean office visit is n numbered =
     let a = c.args in
     let s0 = state g.S.Store a.tx.now.conn.now in
     let s1 = state g.S.Store c.decision.new.tx.conn.now in
@@ -70,10 +70,10 @@ returns-clause-rows g c clean office day caller is n numbered =
     let counts : c.kept.inside.holds ≡ c.in_ok-kept.kept.holds = search rules in
     let kept = c.in_ok-kept.kept in
     let there = told_before same1 (λ t. Some kept ≡ due_numbered (pos c.row.inside.number) t.dues) (c.in_ok-kept.ensures.rows before_last office1) in
-    let held = told_before same2 (λ t. IsCountedIn t (to_z w64 (of_z w64 c.kept.inside.holds)) c.row.inside.number c.deref-3.result.now c.deref-4.result.now c.in_ok-hold.hold) (c.in_ok-hold.ensures.rows clean (office_still same2 office)) in
+    let held = told_before same2 (λ t. IsCountedIn t (to_z w64 (of_z w64 c.kept.inside.holds)) (IsLeastIn t c.row.inside.number c.deref-3.result.now c.deref-4.result.now) c.in_ok-hold.hold) (c.in_ok-hold.ensures.rows clean (office_still same2 office)) in
     record {
       action = refl;
-      decided = rw (collection, class) at (c.in_ok-decision.ensures.rows early office day caller is);
+      decided = rw (collection, class) at (c.in_ok-decision.ensures.rows early office visit is);
       days = c.in_ok-days.days;
       are_days = c.in_ok-days.ensures.days;
       gone = refl;

@@ -7,7 +7,8 @@ use Rattle.office_history.specs.Histories.{with_changes, DefinedClass}
 use Rattle.office_history.specs.Refusals.{denial}
 use Rattle.office_rows.specs.Told.{class_closings}
 use Rattle.office_tables.specs.Tables.{tables_of}
-use Rattle.office_asking.specs.ByRows.{IsDenialIn}
+use Rattle.office_asking.specs.Asking.{visit_on}
+use Rattle.office_asking.specs.ByRows.{IsDenialBy, deciding_row}
 use Rattle.office_asking.specs.Pictures.{Pictures}
 use Rattle.office_asking.proofs.Serving.{refused_serves, allowed_serves, one_refusal}
 use Rattle.office_asking.proofs.RowsTold.{office_still, told_before}
@@ -21,7 +22,7 @@ returns-in-Some-clause-decides g c clean h legal pictured =
     let a = c.args in
     let asked = c.in_ok-why.ensures.denied clean h legal pictured in
     let said : Some c.in-Some.why ≡ denial h a.day a.caller.now acts.Class None (Some a.name.now) = search (rules, asked.1) in
-    refused_serves h a.day a.caller.now (requests.DefineClass a.name.now a.years) _ c.in-Some.why (said ∙ one_refusal _) asked.0
+    refused_serves h (a.day, a.caller, requests.DefineClass a.name.now a.years) _ c.in-Some.why (said ∙ one_refusal _) asked.0
 
 pub returns-clause-decides : goal.returns-clause-decides
 returns-clause-decides g c clean h legal pictured =
@@ -32,15 +33,15 @@ returns-clause-decides g c clean h legal pictured =
     let said : None ≡ denial h a.day a.caller.now acts.Class None (Some a.name.now) = search (rules, asked.1) in
     let name = c.as_str-2.ensures.text in
     let grew : Pictures (with_changes h (DefinedClass a.day a.name.now a.years ∷ [])) new.now = rw name at (c.in_ok-put_years.ensures.defined a.day clean h legal asked.0 tt) in
-    allowed_serves h a.day a.caller.now (requests.DefineClass a.name.now a.years) new.now _ (said ∙ one_refusal _) (ap (λ n. answers.Class n a.years) c.in_ok-defined.ensures) grew
+    allowed_serves h (a.day, a.caller, requests.DefineClass a.name.now a.years) new.now _ (said ∙ one_refusal _) (ap (λ n. answers.Class n a.years) c.in_ok-defined.ensures) grew
 
 pub returns-in-Some-clause-rows : goal.returns-in-Some-clause-rows
 returns-in-Some-clause-rows g c clean office =
     let a = c.args in
     let t = tables_of (state g.S.Store a.tx.now.conn.now).now in
     let name = c.as_str.ensures.text in
-    let denied = subst (λ (n : List ℕ). IsDenialIn t a.day a.caller.now acts.Class None (Some n) c.in_ok-why.field-0) name (c.in_ok-why.ensures.rows clean office) in
-    class_denied t a.day a.caller.now a.name.now a.years c.in_ok-why.field-0 c.in-Some.why c.in-Some.is denied
+    let denied = subst (λ (n : List ℕ). IsDenialBy (deciding_row t (visit_on a.day a.caller.now) acts.Class None (Some n)) c.in_ok-why.field-0) name (c.in_ok-why.ensures.rows clean office) in
+    class_denied t (visit_on a.day a.caller.now) a.name.now a.years c.in_ok-why.field-0 c.in-Some.why c.in-Some.is denied
 
 pub returns-clause-rows : goal.returns-clause-rows
 returns-clause-rows g c clean office =
@@ -49,7 +50,7 @@ returns-clause-rows g c clean office =
     let early = clean_first c.put_years.ensures.inside.stays clean in
     let same = c.in_ok-why.ensures.same early office in
     let none : c.in_ok-why.field-0 ≡ None = search rules in
-    let denied = subst (λ (n : List ℕ). IsDenialIn (tables_of old.now) a.day a.caller.now acts.Class None (Some n) c.in_ok-why.field-0) c.as_str.ensures.text (c.in_ok-why.ensures.rows early office) in
+    let denied = subst (λ (n : List ℕ). IsDenialBy (deciding_row (tables_of old.now) (visit_on a.day a.caller.now) acts.Class None (Some n)) c.in_ok-why.field-0) c.as_str.ensures.text (c.in_ok-why.ensures.rows early office) in
     let told = told_before same (λ t. AreClosedOnDays (class_closings c.as_str-2.result.now t)) (c.in_ok-put_years.ensures.rows clean (office_still same office)) in
     let closed = subst (λ (n : List ℕ). AreClosedOnDays (class_closings n (tables_of old.now))) c.as_str-2.ensures.text told in
-    subst (λ (n : List ℕ). IsClassDefinedIn (tables_of old.now) a.day a.caller.now a.name.now a.years (answers.Class n a.years)) (sym c.in_ok-defined.ensures) (class_allowed (tables_of old.now) a.day a.caller.now a.name.now a.years c.in_ok-why.field-0 none denied closed)
+    subst (λ (n : List ℕ). IsClassDefinedIn (tables_of old.now) (visit_on a.day a.caller.now) a.name.now a.years (answers.Class n a.years)) (sym c.in_ok-defined.ensures) (class_allowed (tables_of old.now) (visit_on a.day a.caller.now) a.name.now a.years c.in_ok-why.field-0 none denied closed)

@@ -1,10 +1,11 @@
 use Rattle.std.proofs.Common.{rules, ◌≡◌, true, false, ◌∙◌}
 use Rattle.office_tables.proofs.InTurn.{clean_first, same_then}
-use Rattle.office_history.specs.Pictures.{held_class, held_collection}
 use Rattle.office_history.specs.Refusals.{denial}
-use Rattle.office_asking.specs.ByRows.{IsDenialIn}
+use Rattle.office_asking.specs.Asking.{visit_on}
+use Rattle.office_asking.specs.ByRows.{IsDenialBy}
 use Rattle.office_asking.proofs.Readings.{pictured_still}
 use Rattle.office_asking.proofs.RowsTold.{office_still, told_before}
+use Rattle.office_holding.specs.ByRows.{deciding_row_on}
 use Rattle.office_holding.specs.Holds.{target_of}
 use Rattle.office_holding.proofs.NamesTold.{there_told}
 use Rattle.office_holding.proofs.asking.name_denial.Goals as goal
@@ -35,7 +36,7 @@ returns-clause-rows g c clean office =
     let same = c.in_ok-is_there.ensures.same early office in
     let some : true ≡ c.in_ok-is_there.field-0 = search rules in
     let there = some ∙ c.in_ok-is_there.ensures.found early office in
-    (there, told_before same (λ t. IsDenialIn t a.day a.caller.now a.action (held_collection (target_of a.target)) (held_class (target_of a.target)) c.in_ok-why.why) (rw (c.names_of.ensures.collection, c.names_of.ensures.class) at (c.in_ok-why.ensures.rows clean (office_still same office))))
+    (there, told_before same (λ t. IsDenialBy (deciding_row_on t (visit_on a.day a.caller.now) a.action (target_of a.target)) c.in_ok-why.why) (rw (c.names_of.ensures.collection, c.names_of.ensures.class) at (c.in_ok-why.ensures.rows clean (office_still same office))))
 
 pub returns-clause-same : goal.returns-clause-same
 returns-clause-same g c = same_then c.in_ok-is_there.ensures.inside c.in_ok-why.ensures.inside c.in_ok-is_there.ensures.same c.in_ok-why.ensures.same

@@ -6,6 +6,7 @@ use Rattle.office_tables.specs.ShownHolds as shown
 use Rattle.office_tables.proofs.InTurn.{clean_first}
 use Rattle.office_history.specs.Histories.{with_changes}
 use Rattle.office_history.specs.Refusals.{full_of_holds}
+use Rattle.office_asking.specs.Asking.{visit_on}
 use Rattle.office_asking.specs.Pictures.{Pictures}
 use Rattle.office_asking.proofs.Serving.{allowed_serves, refused_serves}
 use Rattle.office_holding.specs.Holds.{IsNextOrRefused, hold_denials, hold_request, target_of}
@@ -23,7 +24,7 @@ returns-in_ok-place-in-Ok-clause-decides g c clean h legal pictured =
     let early = clean_first c.place.ensures.inside.stays clean in
     let found = c.in_ok-hold.ensures.found early h legal pictured in
     let place = subst (IsNextOrRefused h (hold_denials h a.day a.caller.now target ++ full_of_holds h ∷ [])) c.in-Ok.is found.1 in
-    allowed_serves h a.day a.caller.now (hold_request target a.matter.now) new (answers.HoldPlaced c.in-Ok.hold) (place.0 ∙ refused_as h a.day a.caller.now target a.matter.now)
+    allowed_serves h (a.day, a.caller, hold_request target a.matter.now) new (answers.HoldPlaced c.in-Ok.hold) (place.0 ∙ refused_as h a.day a.caller.now target a.matter.now)
     (ap answers.HoldPlaced place.1 ∙ answered_as h a.day a.caller.now target a.matter.now)
     (subst (λ changes. Pictures (with_changes h changes) new) (changed_as h a.day a.caller.now target a.matter.now) (c.in_ok-place-in-Ok.ensures.placed clean h legal found.0 place.1))
 
@@ -34,7 +35,7 @@ returns-in-Err-clause-decides g c clean h legal pictured =
     let target = target_of a.target in
     let found = c.in_ok-hold.ensures.found clean h legal pictured in
     let said = subst (IsNextOrRefused h (hold_denials h a.day a.caller.now target ++ full_of_holds h ∷ [])) c.in-Err.is found.1 in
-    refused_serves h a.day a.caller.now (hold_request target a.matter.now) new c.in-Err.why (said ∙ refused_as h a.day a.caller.now target a.matter.now) found.0
+    refused_serves h (a.day, a.caller, hold_request target a.matter.now) new c.in-Err.why (said ∙ refused_as h a.day a.caller.now target a.matter.now) found.0
 
 pub returns-in_ok-place-in-Ok-clause-rows : goal.returns-in_ok-place-in-Ok-clause-rows
 returns-in_ok-place-in-Ok-clause-rows g c clean office =
@@ -43,7 +44,7 @@ returns-in_ok-place-in-Ok-clause-rows g c clean office =
     let early = clean_first c.place.ensures.inside.stays clean in
     let counts = told_then c.in_ok-hold.ensures.inside c.in_ok-place-in-Ok.ensures.inside c.in_ok-hold.ensures.same (λ t _. IsCountableOn t (shown.held_deposit a.target) (pos 1)) c.in_ok-place-in-Ok.ensures.rows clean office in record {
       place = Ok c.in-Ok.hold;
-      is_place = subst (IsPlaceIn t a.day a.caller.now (target_of a.target)) c.in-Ok.is (c.in_ok-hold.ensures.rows early office);
+      is_place = subst (IsPlaceIn t (visit_on a.day a.caller.now) (target_of a.target)) c.in-Ok.is (c.in_ok-hold.ensures.rows early office);
       counts = subst (λ deposit. IsCountableOn t deposit (pos 1)) (same_deposit a.target) counts;
       is = refl;
     }
@@ -52,4 +53,4 @@ pub returns-in-Err-clause-rows : goal.returns-in-Err-clause-rows
 returns-in-Err-clause-rows g c clean office =
     let a = c.args in
     let t = tables_of (state g.S.Store a.tx.now.conn.now).now in
-    record { place = Err c.in-Err.why; is_place = subst (IsPlaceIn t a.day a.caller.now (target_of a.target)) c.in-Err.is (c.in_ok-hold.ensures.rows clean office); counts = tt; is = refl }
+    record { place = Err c.in-Err.why; is_place = subst (IsPlaceIn t (visit_on a.day a.caller.now) (target_of a.target)) c.in-Err.is (c.in_ok-hold.ensures.rows clean office); counts = tt; is = refl }

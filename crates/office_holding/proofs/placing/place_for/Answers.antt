@@ -4,6 +4,7 @@ use Rattle.sqlite.specs.Held.{state}
 use Rattle.office_core.specs.FirstOf.{first_some}
 use Rattle.office_tables.specs.Tables.{tables_of}
 use Rattle.office_tables.proofs.InTurn.{clean_first, same_then}
+use Rattle.office_asking.specs.Asking.{visit_on}
 use Rattle.office_holding.specs.Holds.{hold_denials, target_of}
 use Rattle.office_holding.specs.ByRows.{IsHoldDenialIn, IsNextHoldIn}
 use Rattle.office_holding.proofs.CallsTold.{told_then}
@@ -29,7 +30,7 @@ pub returns-in-Some-clause-rows : goal.returns-in-Some-clause-rows
 returns-in-Some-clause-rows g c clean office =
     let a = c.args in
     let t = tables_of (state g.S.Store a.tx.now.conn.now).now in
-    refused t a.day a.caller.now (target_of a.target) c.in-Some.why (subst (IsHoldDenialIn t a.day a.caller.now (target_of a.target)) c.in-Some.is (c.in_ok-why.ensures.rows clean office))
+    refused t (visit_on a.day a.caller.now) (target_of a.target) c.in-Some.why (subst (IsHoldDenialIn t (visit_on a.day a.caller.now) (target_of a.target)) c.in-Some.is (c.in_ok-why.ensures.rows clean office))
 
 pub returns-clause-rows : goal.returns-clause-rows
 returns-clause-rows g c clean office =
@@ -37,8 +38,8 @@ returns-clause-rows g c clean office =
     let t = tables_of (state g.S.Store a.tx.now.conn.now).now in
     let early = clean_first c.next_hold.ensures.inside.stays clean in
     let none : c.in_ok-why.field-0 ≡ None = search rules in
-    let denial = subst (IsHoldDenialIn t a.day a.caller.now (target_of a.target)) none (c.in_ok-why.ensures.rows early office) in
-    IfOk-weaker c.next_hold.result _ _ (placed t a.day a.caller.now (target_of a.target) denial) (told_then c.in_ok-why.ensures.inside c.next_hold.ensures.inside c.in_ok-why.ensures.same IsNextHoldIn c.next_hold.ensures.rows clean office)
+    let denial = subst (IsHoldDenialIn t (visit_on a.day a.caller.now) (target_of a.target)) none (c.in_ok-why.ensures.rows early office) in
+    IfOk-weaker c.next_hold.result _ _ (placed t (visit_on a.day a.caller.now) (target_of a.target) denial) (told_then c.in_ok-why.ensures.inside c.next_hold.ensures.inside c.in_ok-why.ensures.same IsNextHoldIn c.next_hold.ensures.rows clean office)
 
 pub returns-clause-same : goal.returns-clause-same
 returns-clause-same g c = same_then c.in_ok-why.ensures.inside c.next_hold.ensures.inside c.in_ok-why.ensures.same c.next_hold.ensures.same

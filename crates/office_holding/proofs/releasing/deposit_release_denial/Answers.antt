@@ -8,7 +8,8 @@ use Rattle.office_history.specs.Refusals.{denial}
 use Rattle.office_asking.proofs.Readings.{pictured_still}
 use Rattle.office_asking.proofs.DepositAsked.{deposit_read}
 use Rattle.office_holding.proofs.HoldAsked.{asked_of_deposit}
-use Rattle.office_asking.specs.ByRows.{IsDenialIn}
+use Rattle.office_asking.specs.Asking.{visit_on}
+use Rattle.office_asking.specs.ByRows.{IsDenialBy, deciding_row_at}
 use Rattle.office_asking.proofs.RowsTold.{office_still, there_is, told_before}
 use Rattle.office_tables.proofs.InTurn.{clean_first, same_then}
 use Rattle.office_holding.proofs.releasing.deposit_release_denial.Goals as goal
@@ -34,7 +35,7 @@ returns-clause-rows g c clean office =
     let there = there_is c.in_ok-found.found Store row c.in_ok-deposit.ensures ∙ c.in_ok-found.ensures.found early office in
     let collection : c.deref.result.now ≡ row.collection = search rules in
     let class : c.deref-2.result.now ≡ row.class = search rules in
-    IfOk-weaker c.denial.result _ _ (λ why is. record { row = row; there = there; is = told_before same (λ t. IsDenialIn t a.day a.caller.now acts.Release (Some row.collection) (Some row.class) why) (rw (collection, class) at is) })
+    IfOk-weaker c.denial.result _ _ (λ why is. record { row = row; there = there; is = told_before same (λ t. IsDenialBy (deciding_row_at t (visit_on a.day a.caller.now) acts.Release row) why) (rw (collection, class) at is) })
     (c.denial.ensures.rows clean (office_still same office))
 
 pub returns-clause-same : goal.returns-clause-same

@@ -4,6 +4,7 @@ use Rattle.sqlite.specs.Held.{state}
 use Rattle.office_tables.specs.ShownHolds as shown
 use Rattle.office_history.specs.Histories.{hold_numbered}
 use Rattle.office_history.specs.Pictures.{hold_row}
+use Rattle.office_asking.specs.Asking.{visit_on}
 use Rattle.office_asking.proofs.Readings.{pictured_still}
 use Rattle.office_asking.proofs.HoldTold.{hold_read}
 use Rattle.office_holding.proofs.CallsTold.{told_then}
@@ -39,7 +40,7 @@ returns-in_default-clause-rows g c clean office =
     let a = c.args in
     let t = tables_of (state g.S.Store a.tx.now.conn.now).now in
     let none : None ≡ c.in_ok-hold.field-0 = search rules in
-    no_row t a.day a.caller.now a.number (none ∙ c.in_ok-hold.ensures.found clean office)
+    no_row t (visit_on a.day a.caller.now) a.number (none ∙ c.in_ok-hold.ensures.found clean office)
 
 pub returns-clause-rows : goal.returns-clause-rows
 returns-clause-rows g c clean office =
@@ -51,8 +52,8 @@ returns-clause-rows g c clean office =
     let target = c.in_ok-target.target in
     let denied = c.in_ok-denied.denied in
     let names : IsNamedIn row target = record { deposit = search rules; collection = search rules; class = search rules } in
-    let denial = told_then c.in_ok-hold.ensures.inside c.in_ok-denied.ensures.inside c.in_ok-hold.ensures.same (λ t. IsReleaseDenialIn t a.day a.caller.now (shown.held_deposit target) (shown.held_collection target) (shown.held_class target)) c.in_ok-denied.ensures.rows clean office in
-    IfOk-weaker c.unless_refused.result _ _ (row_asked (tables_of old.now) a.day a.caller.now a.number row there target denied names denial) c.unless_refused.ensures.rows
+    let denial = told_then c.in_ok-hold.ensures.inside c.in_ok-denied.ensures.inside c.in_ok-hold.ensures.same (λ t. IsReleaseDenialIn t (visit_on a.day a.caller.now) (shown.held_deposit target, shown.held_collection target, shown.held_class target)) c.in_ok-denied.ensures.rows clean office in
+    IfOk-weaker c.unless_refused.result _ _ (row_asked (tables_of old.now) (visit_on a.day a.caller.now) a.number row there target denied names denial) c.unless_refused.ensures.rows
 
 pub returns-clause-same : goal.returns-clause-same
 returns-clause-same g c clean office = whatever c.unless_refused.result (same_then c.in_ok-hold.ensures.inside c.in_ok-denied.ensures.inside c.in_ok-hold.ensures.same c.in_ok-denied.ensures.same clean office)

@@ -4,6 +4,7 @@ use Rattle.office_core.specs.declared.answer.Answer.TheVariants as answers
 use Rattle.office_core.specs.declared.request.Request.TheVariants as requests
 use Rattle.office_tables.specs.ShownHolds as shown
 use Rattle.office_history.proofs.Accepted.{releasable}
+use Rattle.office_asking.specs.Asking.{visit_on}
 use Rattle.office_asking.proofs.Serving.{refused_serves, allowed_serves}
 use Rattle.office_holding.specs.Holds.{IsReleaseAsked}
 use Rattle.office_holding.proofs.CallsTold.{told_then}
@@ -19,7 +20,7 @@ returns-in-Err-clause-decides g c clean h legal pictured =
     let new = state g.S.Store c.releasable_hold.new.tx.conn.now in
     let asked = c.in_ok-row.ensures.asked clean h legal pictured in
     let said = subst (IsReleaseAsked h a.day a.caller.now a.hold) c.in-Err.is asked.1 in
-    refused_serves h a.day a.caller.now (requests.Release a.hold) new.now c.in-Err.why said asked.0
+    refused_serves h (a.day, a.caller, requests.Release a.hold) new.now c.in-Err.why said asked.0
 
 pub returns-in_ok-end-in-Ok-clause-decides : goal.returns-in_ok-end-in-Ok-clause-decides
 returns-in_ok-end-in-Ok-clause-decides g c clean h legal pictured =
@@ -32,13 +33,13 @@ returns-in_ok-end-in-Ok-clause-decides g c clean h legal pictured =
     let target = c.in_ok-target-in-Ok.target in
     let names : IsNamedIn row target = record { deposit = search rules; collection = search rules; class = search rules } in
     let live = live_on h a.hold row found.1 (releasable h a.day a.caller.now a.hold (sym found.0)) target names in
-    allowed_serves h a.day a.caller.now (requests.Release a.hold) new.now (answers.HoldReleased a.hold a.day) found.0 refl (c.in_ok-end-in-Ok.ensures.ended clean h legal asked.0 live)
+    allowed_serves h (a.day, a.caller, requests.Release a.hold) new.now (answers.HoldReleased a.hold a.day) found.0 refl (c.in_ok-end-in-Ok.ensures.ended clean h legal asked.0 live)
 
 pub returns-in-Err-clause-rows : goal.returns-in-Err-clause-rows
 returns-in-Err-clause-rows g c clean office =
     let a = c.args in
     let t = tables_of (state g.S.Store a.tx.now.conn.now).now in
-    record { asked = Err c.in-Err.why; is_asked = subst (IsReleasableIn t a.day a.caller.now a.hold) c.in-Err.is (c.in_ok-row.ensures.rows clean office); counts = tt; is = refl }
+    record { asked = Err c.in-Err.why; is_asked = subst (IsReleasableIn t (visit_on a.day a.caller.now) a.hold) c.in-Err.is (c.in_ok-row.ensures.rows clean office); counts = tt; is = refl }
 
 pub returns-in_ok-end-in-Ok-clause-rows : goal.returns-in_ok-end-in-Ok-clause-rows
 returns-in_ok-end-in-Ok-clause-rows g c clean office =
@@ -49,7 +50,7 @@ returns-in_ok-end-in-Ok-clause-rows g c clean office =
     let target = c.in_ok-target-in-Ok.target in
     let deposit : shown.held_deposit target ≡ row.deposit = search rules in record {
       asked = Ok row;
-      is_asked = subst (IsReleasableIn (tables_of old.now) a.day a.caller.now a.hold) c.in-Ok.is (c.in_ok-row.ensures.rows early office);
+      is_asked = subst (IsReleasableIn (tables_of old.now) (visit_on a.day a.caller.now) a.hold) c.in-Ok.is (c.in_ok-row.ensures.rows early office);
       counts = subst (λ held. IsCountableOn (tables_of old.now) held (negsuc 0)) deposit (told_then c.in_ok-row.ensures.inside c.in_ok-end-in-Ok.ensures.inside c.in_ok-row.ensures.same (λ t _. IsCountableOn t (shown.held_deposit target) (negsuc 0)) c.in_ok-end-in-Ok.ensures.rows clean office);
       is = refl;
     }

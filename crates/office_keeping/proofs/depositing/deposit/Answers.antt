@@ -25,7 +25,7 @@ returns-in-Err-clause-decides g c clean h legal pictured =
     let asked = c.in_ok-new.ensures.asked clean h legal pictured in
     let these = refusals h q.day q.caller.now (requests.Deposit q.collection.now q.class.now q.accession.now q.closed bag) in
     let stands : Some c.in-Err.why ≡ first_some these = subst (IsAskedFor h bag.now these) c.in-Err.is asked.1 in
-    refused_serves h q.day q.caller.now (requests.Deposit q.collection.now q.class.now q.accession.now q.closed bag) new.now c.in-Err.why stands asked.0
+    refused_serves h (q.day, q.caller, requests.Deposit q.collection.now q.class.now q.accession.now q.closed bag) new.now c.in-Err.why stands asked.0
 
 pub returns-clause-decides : goal.returns-clause-decides
 returns-clause-decides g c clean h legal pictured =
@@ -37,7 +37,7 @@ returns-clause-decides g c clean h legal pictured =
     let these = refusals h q.day q.caller.now (requests.Deposit q.collection.now q.class.now q.accession.now q.closed bag) in
     let next : IsNextBag h bag.now these c.in-Ok.new = subst (IsAskedFor h bag.now these) c.in-Ok.is asked.1 in
     let kept = c.in_ok-keep.ensures.kept clean h legal asked.0 next.number in
-    allowed_serves h q.day q.caller.now (requests.Deposit q.collection.now q.class.now q.accession.now q.closed bag) new.now (answers.Deposited c.in-Ok.new.number)
+    allowed_serves h (q.day, q.caller, requests.Deposit q.collection.now q.class.now q.accession.now q.closed bag) new.now (answers.Deposited c.in-Ok.new.number)
     (sym next.free) (ap answers.Deposited next.number)
     (subst (λ (x : History). Pictures x new.now) (λ i. with_changes h (deposit_change q.day q.collection.now q.class.now q.accession.now q.closed (sym next.bag i))) kept)
 

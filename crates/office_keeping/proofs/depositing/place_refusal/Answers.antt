@@ -1,4 +1,4 @@
-use Rattle.std.proofs.Common.{rules, ◌≡◌, true, false, ◌∙◌, is_some, Some, option_map}
+use Rattle.std.proofs.Common.{rules, ◌≡◌, true, false, ◌∙◌, is_some, option_map}
 use Rattle.std.proofs.lemmas.Result.{IfOk-weaker}
 use Rattle.sqlite.specs.Held.{state}
 use Rattle.office_asking.proofs.Readings.{pictured_still}
@@ -7,8 +7,8 @@ use Rattle.office_asking.proofs.CollectionTold.{collection_told}
 use Rattle.office_keeping.proofs.Placing.{no_collection, no_class, both_there}
 use Rattle.office_rows.specs.Rows.{ClassRow, class_named}
 use Rattle.office_tables.specs.Tables.{tables_of}
-use Rattle.office_core.specs.declared.action.Action.TheVariants as acts
-use Rattle.office_asking.specs.ByRows.{IsDenialIn}
+use Rattle.office_asking.specs.Asking.{visit_on}
+use Rattle.office_keeping.specs.ByRows.{IsPlaceDenialIn}
 use Rattle.office_keeping.proofs.Written.{tells_then}
 use Rattle.office_keeping.proofs.RowsTold.{collection_missing, class_missing, both_there as both_there_in}
 use Rattle.office_tables.proofs.InTurn.{clean_first, inside_after, inside_failed, inside_then, same_then}
@@ -63,7 +63,7 @@ pub returns-then-not-branch-clause-rows : goal.returns-then-not-branch-clause-ro
 returns-then-not-branch-clause-rows g c clean office =
     let q = c.args.asked.now in
     let none : false ≡ c.in_ok-has_collection.field-0 = search rules in
-    collection_missing (tables_of (state g.S.Store c.args.tx.now.conn.now).now) q.day q.caller.now q.collection.now q.class.now (none ∙ (rw c.as_str-collection.ensures.text at (c.in_ok-has_collection.ensures.found clean office)))
+    collection_missing (tables_of (state g.S.Store c.args.tx.now.conn.now).now) (visit_on q.day q.caller.now) q.collection.now q.class.now (none ∙ (rw c.as_str-collection.ensures.text at (c.in_ok-has_collection.ensures.found clean office)))
 
 pub returns-then-is_none-clause-rows : goal.returns-then-is_none-clause-rows
 returns-then-is_none-clause-rows g c clean office =
@@ -74,7 +74,7 @@ returns-then-is_none-clause-rows g c clean office =
     let none : false ≡ is_some c.in_ok-class_of.field-0 = search rules in
     let there = rw c.as_str-collection.ensures.text at (first.found (clean_first second.inside.stays clean) office) in
     let read = tells_then first.inside second.inside first.same (λ t years. years ≡ option_map (λ (r : ClassRow). r.years) (class_named q.class.now t.classes)) (rw c.as_str-class.ensures.text at second.found) clean office in
-    class_missing (tables_of (state g.S.Store c.args.tx.now.conn.now).now) q.day q.caller.now q.collection.now q.class.now (some ∙ there) c.in_ok-class_of.field-0 read none
+    class_missing (tables_of (state g.S.Store c.args.tx.now.conn.now).now) (visit_on q.day q.caller.now) q.collection.now q.class.now (some ∙ there) c.in_ok-class_of.field-0 read none
 
 pub returns-clause-rows : goal.returns-clause-rows
 returns-clause-rows g c clean office =
@@ -87,8 +87,8 @@ returns-clause-rows g c clean office =
     let some : true ≡ is_some c.in_ok-class_of.field-0 = search rules in
     let there = rw c.as_str-collection.ensures.text at (first.found (clean_first second.inside.stays early) office) in
     let read = tells_then first.inside second.inside first.same (λ t years. years ≡ option_map (λ (r : ClassRow). r.years) (class_named q.class.now t.classes)) (rw c.as_str-class.ensures.text at second.found) early office in
-    IfOk-weaker c.denial.result _ _ (both_there_in (tables_of (state g.S.Store c.args.tx.now.conn.now).now) q.day q.caller.now q.collection.now q.class.now (yes ∙ there) c.in_ok-class_of.field-0 read some)
-    (tells_then (inside_then first.inside second.inside) third.inside (same_then first.inside second.inside first.same second.same) (λ t. IsDenialIn t q.day q.caller.now acts.Deposit (Some q.collection.now) (Some q.class.now))
+    IfOk-weaker c.denial.result _ _ (both_there_in (tables_of (state g.S.Store c.args.tx.now.conn.now).now) (visit_on q.day q.caller.now) q.collection.now q.class.now (yes ∙ there) c.in_ok-class_of.field-0 read some)
+    (tells_then (inside_then first.inside second.inside) third.inside (same_then first.inside second.inside first.same second.same) (λ t. IsPlaceDenialIn t (visit_on q.day q.caller.now) q.collection.now q.class.now)
     (rw (c.as_str-collection.ensures.text, c.as_str-class.ensures.text) at third.rows) clean office)
 
 pub returns-in_err-class_of-clause-inside : goal.returns-in_err-class_of-clause-inside

@@ -4,6 +4,7 @@ use Rattle.office_core.specs.FirstOf.{first_some}
 use Rattle.office_history.specs.Refusals.{place_refusals, taken_refusal, closed_ahead_refusal}
 use Rattle.office_history.proofs.PlainLemmas.{first_in_front, first_behind, one_only}
 use Rattle.office_tables.specs.Tables.{tables_of}
+use Rattle.office_asking.specs.Asking.{visit_on}
 use Rattle.office_keeping.proofs.RowsTold.{of_accession}
 use Rattle.office_keeping.proofs.Written.{tells_then}
 use Rattle.office_keeping.specs.ByRows.{IsPlaceRefusalIn, IsTakenIn, values_of}
@@ -41,7 +42,7 @@ pub returns-in-Some-clause-rows : goal.returns-in-Some-clause-rows
 returns-in-Some-clause-rows g c clean office =
     let q = c.args.asked.now in
     let t = tables_of (state g.S.Store c.args.tx.now.conn.now).now in
-    record { place = Some c.in-Some.why; of_place = subst (IsPlaceRefusalIn t q.day q.caller.now q.collection.now q.class.now) c.in-Some.is (c.in_ok-why.ensures.rows clean office); first = refl }
+    record { place = Some c.in-Some.why; of_place = subst (IsPlaceRefusalIn t (visit_on q.day q.caller.now) q.collection.now q.class.now) c.in-Some.is (c.in_ok-why.ensures.rows clean office); first = refl }
 
 pub returns-in-Some-2-clause-rows : goal.returns-in-Some-2-clause-rows
 returns-in-Some-2-clause-rows g c clean office =

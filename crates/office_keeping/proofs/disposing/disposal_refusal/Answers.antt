@@ -11,6 +11,7 @@ use Rattle.office_core.specs.declared.refusal.Refusal.TheVariants.{NoSuch}
 use Rattle.office_core.specs.declared.refusal.Subject.TheVariants as subjects
 use Rattle.office_rows.specs.Rows.{deposit_numbered}
 use Rattle.office_tables.specs.Tables.{tables_of}
+use Rattle.office_asking.specs.Asking.{visit_on}
 use Rattle.office_asking.specs.ByRows.{AreFactsIn, IsAskerIn}
 use Rattle.office_asking.proofs.RowsTold.{office_still, told_before}
 use Rattle.office_keeping.specs.ByRows.{IsDisposalRefusalOf, IsVerdictIn}
@@ -37,7 +38,7 @@ returns-clause-refusal g c clean h legal pictured =
     let found = there h a.day a.caller.now acts.Dispose a.number row some in
     let asked = c.in_ok-asker.ensures.asker clean2 h legal still in
     let known = c.in_ok-facts.ensures.facts clean h legal asked.0 in
-    let facts = known.1 a.day a.caller.now asked.1 a.number found.0 found.1 found.2 in
+    let facts = known.1 (visit_on a.day a.caller.now) asked.1 a.number found.0 found.1 found.2 in
     let told : c.refusal_of.result ≡ refusal_of (verdict_of c.in_ok-facts.facts a.day) = search rules in
     (known.0, told ∙ ap (λ f. refusal_of (verdict_of f a.day)) facts ∙ sym (c.verdicts_decide.ensures.disposal h a.day a.caller.now a.number found.0 found.1))
 
@@ -46,7 +47,7 @@ returns-in_default-clause-rows g c clean office =
     let a = c.args in
     let t = tables_of (state g.S.Store a.tx.now.conn.now).now in
     let none : None ≡ c.in_ok-deposit.field-0 = search rules in
-    subst (λ row. IsDisposalRefusalOf t a.day a.caller.now a.number row (Some (NoSuch subjects.Deposit))) (none ∙ c.in_ok-deposit.ensures.found clean office) refl
+    subst (λ row. IsDisposalRefusalOf t (visit_on a.day a.caller.now) a.number row (Some (NoSuch subjects.Deposit))) (none ∙ c.in_ok-deposit.ensures.found clean office) refl
 
 pub returns-clause-rows : goal.returns-clause-rows
 returns-clause-rows g c clean office =
@@ -59,11 +60,12 @@ returns-clause-rows g c clean office =
     let same2 = c.in_ok-asker.ensures.same clean2 office1 in
     let row = c.in-Some.deposit in
     let found : Some row ≡ deposit_numbered (pos a.number) (tables_of old.now).deposits = sym c.in-Some.is ∙ c.in_ok-deposit.ensures.found clean1 office in
-    let asker = subst (λ db. IsAskerIn (tables_of db) a.day a.caller.now c.in_ok-asker.asker) (sym same2) (c.in_ok-asker.ensures.rows clean2 office1) in
-    let facts = c.in_ok-facts.ensures.rows clean (office_still same2 office1) a.day a.caller.now asker a.number (row_number (tables_of old.now) a.number row found) in
+    let visit = visit_on a.day a.caller.now in
+    let asker = subst (λ db. IsAskerIn (tables_of db) visit c.in_ok-asker.asker) (sym same2) (c.in_ok-asker.ensures.rows clean2 office1) in
+    let facts = c.in_ok-facts.ensures.rows clean (office_still same2 office1) visit asker a.number (row_number (tables_of old.now) a.number row found) in
     let told : c.refusal_of.result ≡ refusal_of (verdict_of c.in_ok-facts.facts a.day) = search rules in
-    let verdict : IsVerdictIn (tables_of old.now) a.day a.caller.now a.number row c.refusal_of.result = record { facts = c.in_ok-facts.facts; are = told_before (same2 ∙ same1) (λ t. AreFactsIn t a.day a.caller.now a.number row c.in_ok-facts.facts) facts; comes_to = told } in
-    subst (λ o. IsDisposalRefusalOf (tables_of old.now) a.day a.caller.now a.number o c.refusal_of.result) found verdict
+    let verdict : IsVerdictIn (tables_of old.now) visit a.number row c.refusal_of.result = record { facts = c.in_ok-facts.facts; are = told_before (same2 ∙ same1) (λ t. AreFactsIn t visit a.number row c.in_ok-facts.facts) facts; comes_to = told } in
+    subst (λ o. IsDisposalRefusalOf (tables_of old.now) visit a.number o c.refusal_of.result) found verdict
 
 pub returns-in_err-asker-clause-inside : goal.returns-in_err-asker-clause-inside
 returns-in_err-asker-clause-inside g c = inside_failed c.in_ok-deposit.ensures.inside c.read.ensures.inside _ (search rules) (search rules)

@@ -18,13 +18,13 @@ returns-in_ok-audit_of-in-Ok-clause-decides g c clean h legal pictured =
     let bag = there.it.found.1.bag in
     let verdict : c.in_ok-audit_of-in-Ok.field-0 ≡ audit_of (map file_in c.in-Ok.rows.items) = search rules in
     let sound : audit_of bag ≡ audit_report (report_on bag) = on_a_bag bag ((c.one_list_fault.ensures.none bag).1 there.bag) in
-    told_serves c.args.day c.args.caller.now acts.Audit there.it refl (λ found. answers.Audit number (audit_report (report_on found.1.bag))) refl refl
+    told_serves c.args.day c.args.caller acts.Audit there.it refl (λ found. answers.Audit number (audit_report (report_on found.1.bag))) refl refl
     (ap (answers.Audit number) (verdict ∙ ap audit_of there.are ∙ sound)) asked.0
 
 pub returns-in-Err-clause-decides : goal.returns-in-Err-clause-decides
 returns-in-Err-clause-decides g c clean h legal pictured =
     let asked = rw c.in-Err.is at c.in_ok-rows.ensures.asked clean h legal pictured in
-    refused_serves _ _ _ _ _ _ asked.1 asked.0
+    refused_serves _ _ _ _ asked.1 asked.0
 
 pub returns-in_ok-audit_of-in-Ok-clause-rows : goal.returns-in_ok-audit_of-in-Ok-clause-rows
 returns-in_ok-audit_of-in-Ok-clause-rows g c clean office =

@@ -12,12 +12,12 @@ returns-in_ok-text_of-in-Ok-clause-decides g c clean h legal pictured =
     let asked = rw c.in-Ok.is at c.in_ok-rows.ensures.asked clean h legal pictured in
     let there = asked.1 in
     let text : c.of.result ≡ set_text (map file_in c.in-Ok.rows.items) = search rules in
-    told_serves c.args.day c.args.caller.now acts.Download there.it refl (λ found. answers.Bag (set_text found.1.bag)) refl refl (ap answers.Bag (text ∙ ap set_text there.are)) asked.0
+    told_serves c.args.day c.args.caller acts.Download there.it refl (λ found. answers.Bag (set_text found.1.bag)) refl refl (ap answers.Bag (text ∙ ap set_text there.are)) asked.0
 
 pub returns-in-Err-clause-decides : goal.returns-in-Err-clause-decides
 returns-in-Err-clause-decides g c clean h legal pictured =
     let asked = rw c.in-Err.is at c.in_ok-rows.ensures.asked clean h legal pictured in
-    refused_serves _ _ _ _ _ _ asked.1 asked.0
+    refused_serves _ _ _ _ asked.1 asked.0
 
 pub returns-in_ok-text_of-in-Ok-clause-rows : goal.returns-in_ok-text_of-in-Ok-clause-rows
 returns-in_ok-text_of-in-Ok-clause-rows g c clean office =

@@ -19,7 +19,7 @@ returns-in-Ok-clause-asked g c clean h legal pictured =
       record {
         row = _;
         it = it;
-        are = bag_read asked.0 a.number it.found it.there (is_kept a.day a.caller.now a.action it) bag _ (read.found clean asked.0.office);
+        are = bag_read asked.0 a.number it.found it.there (is_kept a.day a.caller a.action it) bag _ (read.found clean asked.0.office);
         bag = bag;
       },
     )

@@ -1,5 +1,4 @@
-use Rattle.std.proofs.Common.{Ok, ◌≡◌, List, ℕ, pos, map, filter, take}
-use Rattle.jiff.specs.Types.{Date}
+use Rattle.std.proofs.Common.{Ok, ◌≡◌, pos, map, filter, take}
 use Rattle.sqlite.specs.State.{HasCleanDisk}
 use Rattle.sqlite.specs.Held.{state}
 use Rattle.office_core.specs.declared.action.Action.TheVariants as acts
@@ -8,7 +7,7 @@ use Rattle.office_tables.specs.Calls.{GoesOnInTurn}
 use Rattle.office_tables.specs.Tables.{IsOffice, tables_of}
 use Rattle.office_history.specs.Histories.{History}
 use Rattle.office_history.specs.Runs.{IsLegal}
-use Rattle.office_asking.specs.Asking.{IsAsker}
+use Rattle.office_asking.specs.Asking.{IsAsker, Visit}
 use Rattle.office_asking.specs.ByRows.{IsAskerIn}
 use Rattle.office_asking.specs.Pictures.{Pictures}
 use Rattle.office_serving.specs.Allowances.{AreOf}
@@ -23,9 +22,9 @@ invariant-loop-place g l =
     record {
       inside : GoesOnInTurn {T = Unit {0}} g.S.Store l.fn.tx.conn l.tx.conn (Ok tt);
       told : HasCleanDisk now → (h : History) → IsLegal h → Pictures h old.now → Pictures h now.now
-          × ((day : Date) (caller : List ℕ) → IsAsker h day caller l.asker → AreOf h day caller acts.Dispose l.allowances
-          × (map pos l.numbers.items ≡ map (λ (p : PlaceRow). p.number) (filter (may_destroy h day caller) (take l.place-index l.places))));
+          × ((visit : Visit) → IsAsker h visit l.asker → AreOf h visit acts.Dispose l.allowances
+          × (map pos l.numbers.items ≡ map (λ (p : PlaceRow). p.number) (filter (may_destroy h visit) (take l.place-index l.places))));
       same : HasCleanDisk now → IsOffice old.now → now.now ≡ old.now;
-      by_rows : HasCleanDisk now → IsOffice old.now → (day : Date) (caller : List ℕ) → IsAskerIn (tables_of old.now) day caller l.asker
-          → AreIn (tables_of old.now) day caller acts.Dispose l.allowances × AreAllowedIn (tables_of old.now) day caller (take l.place-index l.places) l.numbers.items;
+      by_rows : HasCleanDisk now → IsOffice old.now → (visit : Visit) → IsAskerIn (tables_of old.now) visit l.asker
+          → AreIn (tables_of old.now) visit acts.Dispose l.allowances × AreAllowedIn (tables_of old.now) visit (take l.place-index l.places) l.numbers.items;
     }

@@ -11,7 +11,7 @@ returns-clause-decides g c clean h legal pictured =
     let new = state g.S.Store c.due_numbers.new.tx.conn.now in
     let found = c.in_ok-numbers.ensures.due clean h legal pictured in
     let given : c.of.result ≡ c.in_ok-numbers.numbers.items = search rules in
-    read_serves h a.day a.caller.now requests.DueList new.now (answers.DueList a.day c.of.result) refl (ap (answers.DueList a.day) (given ∙ found.1)) refl found.0
+    read_serves h (a.day, a.caller, requests.DueList) new.now (answers.DueList a.day c.of.result) refl (ap (answers.DueList a.day) (given ∙ found.1)) refl found.0
 
 pub returns-clause-rows : goal.returns-clause-rows
 returns-clause-rows g c clean office =

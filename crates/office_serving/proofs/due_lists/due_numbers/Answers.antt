@@ -1,12 +1,12 @@
-use Rattle.std.proofs.Common.{◌≡◌, List, ℕ, ap, subst, ◌∙◌, rules, w32, w64, map, filter}
+use Rattle.std.proofs.Common.{◌≡◌, ap, subst, ◌∙◌, rules, w32, w64, map, filter}
 use mir.Val.{SFits}
 use Rattle.std.proofs.lemmas.Int.{to_z-of_z}
 use Rattle.std.proofs.lemmas.Result.{IfOk-weaker}
 use Rattle.jiff.specs.Words.{epoch_day}
-use Rattle.jiff.specs.Types.{Date}
 use Rattle.sqlite.specs.Held.{state}
 use Rattle.office_rows.specs.Told.{PlaceRow, due_places}
 use Rattle.office_tables.specs.Tables.{tables_of}
+use Rattle.office_asking.specs.Asking.{Visit, visit_on}
 use Rattle.office_asking.specs.ByRows.{IsAskerIn}
 use Rattle.office_asking.proofs.RowsTold.{office_still, told_before}
 use Rattle.office_asking.proofs.Readings.{pictured_still}
@@ -31,7 +31,7 @@ returns-clause-due g c clean h legal pictured =
     let places_are = c.deref.ensures.value ∙ found in
     IfOk-weaker c.allowed_among.result _ _ (λ numbers says. (
       says.0,
-      due_list_is h a.day a.caller.now (tables_of s1.now) asked.0.are numbers.items (says.1 a.day a.caller.now asked.1 ∙ ap (λ ps. map (λ (p : PlaceRow). p.number) (filter (may_destroy h a.day a.caller.now) ps)) places_are),
+      due_list_is h (visit_on a.day a.caller.now) (tables_of s1.now) asked.0.are numbers.items (says.1 (visit_on a.day a.caller.now) asked.1 ∙ ap (λ ps. map (λ (p : PlaceRow). p.number) (filter (may_destroy h (visit_on a.day a.caller.now)) ps)) places_are),
     ))
     (c.allowed_among.ensures.allowed clean h legal still)
 
@@ -52,8 +52,8 @@ returns-clause-rows g c clean office =
     rw (to_z-of_z w32 c.number.result small, to_z-of_z w64 c.number.result fits, c.number.ensures.value) at (c.in_ok-places.ensures.found clean2 still) in
     let places_are = c.deref.ensures.value ∙ found ∙ ap (λ db. due_places (epoch_day a.day) (tables_of db)) first in
     IfOk-weaker c.allowed_among.result _ _ (λ numbers says.
-    let allowed = told_before same (λ t. (day : Date) (caller : List ℕ) → IsAskerIn t day caller c.in_ok-asker.asker → AreAllowedIn t day caller c.deref.result.now numbers.items) says a.day a.caller.now (c.in_ok-asker.ensures.rows clean1 office) in
-    subst (λ places. AreAllowedIn (tables_of s0.now) a.day a.caller.now places numbers.items) places_are allowed)
+    let allowed = told_before same (λ t. (visit : Visit) → IsAskerIn t visit c.in_ok-asker.asker → AreAllowedIn t visit c.deref.result.now numbers.items) says (visit_on a.day a.caller.now) (c.in_ok-asker.ensures.rows clean1 office) in
+    subst (λ places. AreAllowedIn (tables_of s0.now) (visit_on a.day a.caller.now) places numbers.items) places_are allowed)
     (c.allowed_among.ensures.rows clean (office_still same office))
 
 pub returns-clause-same : goal.returns-clause-same

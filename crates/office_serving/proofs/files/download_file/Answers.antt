@@ -16,7 +16,7 @@ returns-in-Ok-clause-decides g c clean h legal pictured =
     let asked = rw c.in-Ok.is at c.in_ok-kept_deposit.ensures.asked (clean_first c.content_of.ensures.inside.stays clean) h legal pictured in
     let it = asked.1 in
     let read = c.in_ok-content_of-in-Ok.ensures.content clean h legal asked.0 in
-    rw c.file_answer.ensures (file_told h a.day a.caller.now a.number a.path new.now _ it _ (read.1 it.found it.there (is_kept a.day a.caller.now acts.Download it)) read.0)
+    rw c.file_answer.ensures (file_told h a.day a.caller a.number a.path new.now _ it _ (read.1 it.found it.there (is_kept a.day a.caller acts.Download it)) read.0)
 
 pub returns-clause-decides : goal.returns-clause-decides
 returns-clause-decides g c clean h legal pictured =

@@ -21,13 +21,13 @@ returns-in_ok-told_holds-in-Ok-clause-decides g c clean h legal pictured =
     let collection : c.deref.result.now ≡ c.in-Ok.row.collection = search rules in
     let class : c.deref-in-Ok.result.now ≡ c.in-Ok.row.class = search rules in
     let given : c.of.result ≡ c.in_ok-told_holds-in-Ok.field-0.items = search rules in
-    told_serves a.day a.caller.now acts.Holds it refl (λ found. answers.Holds (told_holds h a.number found.1)) refl refl
+    told_serves a.day a.caller acts.Holds it refl (λ found. answers.Holds (told_holds h a.number found.1)) refl refl
     (ap answers.Holds (given ∙ told.1 it.found.1 (sym (ap (λ (r : DepositRow). r.collection) it.row_is) ∙ sym collection) (sym (ap (λ (r : DepositRow). r.class) it.row_is) ∙ sym class))) told.0
 
 pub returns-in-Err-clause-decides : goal.returns-in-Err-clause-decides
 returns-in-Err-clause-decides g c clean h legal pictured =
     let asked = rw c.in-Err.is at c.in_ok-row.ensures.asked clean h legal pictured in
-    refused_serves _ _ _ _ _ _ asked.1 asked.0
+    refused_serves _ _ _ _ asked.1 asked.0
 
 pub returns-in_ok-told_holds-in-Ok-clause-rows : goal.returns-in_ok-told_holds-in-Ok-clause-rows
 returns-in_ok-told_holds-in-Ok-clause-rows g c clean office =

@@ -1,4 +1,4 @@
-use Rattle.std.proofs.Common.{arith, rules, ◌≡◌, ◌++◌, [], length, get_or, ap, sym, subst, ◌∙◌, append-nil, option_copied, refl}
+use Rattle.std.proofs.Common.{arith, rules, ◌≡◌, ◌++◌, [], length, get_or, ap, sym, subst, ◌∙◌, append-nil, refl}
 use Rattle.std.specs.List.{cons_option, filter_map}
 use Rattle.sqlite.specs.State.{HasCleanDisk}
 use Rattle.sqlite.specs.Held.{state}
@@ -6,7 +6,7 @@ use Rattle.office_core.specs.declared.action.Action.TheVariants as acts
 use Rattle.office_tables.specs.Tables.{tables_of}
 use Rattle.office_history.specs.Lists.{numbers}
 use Rattle.office_asking.proofs.RowsTold.{office_still, told_before}
-use Rattle.office_serving.specs.Listing.{shown_record}
+use Rattle.office_serving.specs.Listing.{shown_record, wanted_of}
 use Rattle.office_serving.specs.ListsByRows.{AreIn, IsToldIn}
 use Rattle.office_serving.proofs.ByRows.{tells_next, tells_all}
 use Rattle.office_serving.proofs.ShownTold.{shown_next, shown_of_rows}
@@ -30,10 +30,10 @@ loop-row-preserved g c =
           let there = inv.told (early clean) h legal pictured in
           let found = c.in_ok-record.ensures.shown clean h legal there.0 in (
             found.0,
-            λ day caller is rows_are.
-                let before = there.1 day caller is rows_are in
-                let said = found.1 day caller before.0 in
-                let next = shown_next h day caller (option_copied a.collection) (option_copied a.class) a.rows.now rows_are place row c.loop-row-test.true c.loop-row.told.items before.1 c.in_ok-record.field-0 (λ n f at row_is. said.1 n f at (item ∙ row_is)) in (
+            λ visit is rows_are.
+                let before = there.1 visit is rows_are in
+                let said = found.1 visit before.0 in
+                let next = shown_next h visit (wanted_of a.collection a.class) a.rows.now rows_are place row c.loop-row-test.true c.loop-row.told.items before.1 c.in_ok-record.field-0 (λ n f at row_is. said.1 n f at (item ∙ row_is)) in (
                   said.0,
                   elim c.match-branch-2.branch [
                     | in-Some+in_ok-push w ↦ ap (λ v. v.items) w.told-is ∙ w.in_ok-push.ensures.items ∙ next.0 w.in-Some.record w.in-Some.is
@@ -44,12 +44,12 @@ loop-row-preserved g c =
       same = λ clean office.
           let before = inv.same (early clean) office in
           c.in_ok-record.ensures.same clean (office_still before office) ∙ before;
-      by_rows = λ clean office day caller is.
+      by_rows = λ clean office visit is.
           let before = inv.same (early clean) office in
-          let known = inv.by_rows (early clean) office day caller is in
-          let said = told_before before (λ t. AreIn t day caller acts.List c.loop-row.allowances → AreIn t day caller acts.List c.shown_record.new.allowances × IsToldIn t day caller (option_copied a.collection) (option_copied a.class) row c.in_ok-record.field-0)
-          (c.in_ok-record.ensures.rows clean (office_still before office) day caller) known.0 in
-          let told = IsToldIn (tables_of old.now) day caller (option_copied a.collection) (option_copied a.class) in (
+          let known = inv.by_rows (early clean) office visit is in
+          let said = told_before before (λ t. AreIn t visit acts.List c.loop-row.allowances → AreIn t visit acts.List c.shown_record.new.allowances × IsToldIn t visit (wanted_of a.collection a.class) row c.in_ok-record.field-0)
+          (c.in_ok-record.ensures.rows clean (office_still before office) visit) known.0 in
+          let told = IsToldIn (tables_of old.now) visit (wanted_of a.collection a.class) in (
             said.0,
             tells_next told a.rows.now place row c.loop-row-test.true c.loop-row.told.items known.1 c.in_ok-record.field-0 (subst (λ r. told r c.in_ok-record.field-0) item said.1) _ (elim c.match-branch-2.branch [
               | in-Some+in_ok-push w ↦ ap (λ v. v.items) w.told-is ∙ w.in_ok-push.ensures.items ∙ ap (λ o. c.loop-row.told.items ++ cons_option o []) (sym w.in-Some.is)
@@ -64,23 +64,23 @@ returns-clause-listed g c clean h legal pictured =
     let there = c.loop-row.invariant.told clean h legal pictured in
     let finished : c.loop-row.row-index ≡ length a.rows.now = omega (arith, c.loop-row-test.false, c.loop-row.auto.row-index-end) in (
       there.0,
-      λ day caller is rows_are. shown_of_rows h day caller (option_copied a.collection) (option_copied a.class) a.rows.now rows_are c.loop-row.told.items
-          ((there.1 day caller is rows_are).1 ∙ ap (λ k. filter_map (shown_record h day caller (option_copied a.collection) (option_copied a.class)) (numbers k)) finished),
+      λ visit is rows_are. shown_of_rows h visit (wanted_of a.collection a.class) a.rows.now rows_are c.loop-row.told.items
+          ((there.1 visit is rows_are).1 ∙ ap (λ k. filter_map (shown_record h visit (wanted_of a.collection a.class)) (numbers k)) finished),
     )
 
 pub returns-clause-rows : goal.returns-clause-rows
-returns-clause-rows g c clean office day caller is =
+returns-clause-rows g c clean office visit is =
     let a = c.args in
     let t = tables_of (state g.S.Store a.tx.now.conn.now).now in
     let finished : c.loop-row.row-index ≡ length a.rows.now = omega (arith, c.loop-row-test.false, c.loop-row.auto.row-index-end) in
-    tells_all (IsToldIn t day caller (option_copied a.collection) (option_copied a.class)) a.rows.now c.loop-row.row-index finished c.loop-row.told.items (c.loop-row.invariant.by_rows clean office day caller is).1
+    tells_all (IsToldIn t visit (wanted_of a.collection a.class)) a.rows.now c.loop-row.row-index finished c.loop-row.told.items (c.loop-row.invariant.by_rows clean office visit is).1
 
 pub loop-row-init : goal.loop-row-init
 loop-row-init g c = record {
   inside = none_called _ tt;
-  told = λ clean h legal pictured. (pictured, λ day caller is rows_are. (c.new-allowances.ensures.those h day caller is, c.new-told.ensures.items));
+  told = λ clean h legal pictured. (pictured, λ visit is rows_are. (c.new-allowances.ensures.those h visit is, c.new-told.ensures.items));
   same = λ clean office. refl;
-  by_rows = λ clean office day caller is. (c.new-allowances.ensures.rows (tables_of (state g.S.Store c.args.tx.now.conn.now).now) day caller is, c.new-told.ensures.items);
+  by_rows = λ clean office visit is. (c.new-allowances.ensures.rows (tables_of (state g.S.Store c.args.tx.now.conn.now).now) visit is, c.new-told.ensures.items);
 }
 
 pub returns-clause-same : goal.returns-clause-same

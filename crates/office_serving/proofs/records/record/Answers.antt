@@ -4,6 +4,7 @@ use Rattle.office_core.specs.declared.action.Action.TheVariants as acts
 use Rattle.office_core.specs.declared.answer.Answer.TheVariants as answers
 use Rattle.office_tables.specs.Tables.{tables_of}
 use Rattle.office_history.specs.Answers.{record_of}
+use Rattle.office_asking.specs.Asking.{visit_on}
 use Rattle.office_asking.specs.ByRows.{IsAskedIn}
 use Rattle.office_asking.proofs.RowsTold.{office_still, told_before}
 use Rattle.office_asking.proofs.Serving.{refused_serves}
@@ -19,19 +20,19 @@ returns-in_ok-record_of-in-Ok-clause-decides g c clean h legal pictured =
     let asked = rw c.in-Ok.is at c.in_ok-row.ensures.asked (clean_first c.record_of.ensures.inside.stays clean) h legal pictured in
     let it = asked.1 in
     let told = c.in_ok-record_of-in-Ok.ensures.told clean h legal asked.0 in
-    told_serves a.day a.caller.now acts.Record it refl (λ found. answers.Record (record_of h a.number found)) refl refl (ap answers.Record (told.1 a.number it.found it.there it.row_is)) told.0
+    told_serves a.day a.caller acts.Record it refl (λ found. answers.Record (record_of h a.number found)) refl refl (ap answers.Record (told.1 a.number it.found it.there it.row_is)) told.0
 
 pub returns-in-Err-clause-decides : goal.returns-in-Err-clause-decides
 returns-in-Err-clause-decides g c clean h legal pictured =
     let asked = rw c.in-Err.is at c.in_ok-row.ensures.asked clean h legal pictured in
-    refused_serves _ _ _ _ _ _ asked.1 asked.0
+    refused_serves _ _ _ _ asked.1 asked.0
 
 pub returns-in_ok-record_of-in-Ok-clause-rows : goal.returns-in_ok-record_of-in-Ok-clause-rows
 returns-in_ok-record_of-in-Ok-clause-rows g c clean office =
     let a = c.args in
     let old = state g.S.Store a.tx.now.conn.now in
     let early = clean_first c.record_of.ensures.inside.stays clean in
-    let asked : IsAskedIn (tables_of old.now) a.day a.caller.now acts.Record a.number (Ok c.in-Ok.row) = rw c.in-Ok.is at c.in_ok-row.ensures.rows early office in
+    let asked : IsAskedIn (tables_of old.now) (visit_on a.day a.caller.now) acts.Record a.number (Ok c.in-Ok.row) = rw c.in-Ok.is at c.in_ok-row.ensures.rows early office in
     let same = c.in_ok-row.ensures.same early office in
     let told = told_before same (λ t. (n : ℕ) → pos n ≡ c.in-Ok.row.number → IsRecordBy t n c.in-Ok.row c.in_ok-record_of-in-Ok.field-0) (c.in_ok-record_of-in-Ok.ensures.rows clean (office_still same office)) in
     let number = sym (found_number (pos a.number) (tables_of old.now).deposits c.in-Ok.row asked.0) in
@@ -39,7 +40,7 @@ returns-in_ok-record_of-in-Ok-clause-rows g c clean office =
 
 pub returns-in-Err-clause-rows : goal.returns-in-Err-clause-rows
 returns-in-Err-clause-rows g c clean office =
-    let asked : IsAskedIn (tables_of (state g.S.Store c.args.tx.now.conn.now).now) c.args.day c.args.caller.now acts.Record c.args.number (Err c.in-Err.why) = rw c.in-Err.is at c.in_ok-row.ensures.rows clean office in
+    let asked : IsAskedIn (tables_of (state g.S.Store c.args.tx.now.conn.now).now) (visit_on c.args.day c.args.caller.now) acts.Record c.args.number (Err c.in-Err.why) = rw c.in-Err.is at c.in_ok-row.ensures.rows clean office in
     record { asked = Err c.in-Err.why; is_asked = asked; answers = refl }
 
 pub returns-in_ok-record_of-in-Ok-clause-same : goal.returns-in_ok-record_of-in-Ok-clause-same

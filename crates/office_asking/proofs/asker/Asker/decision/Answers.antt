@@ -14,7 +14,7 @@ returns-in_ok-decision_in-in-Some-clause-decided g c clean h legal pictured =
     let fits : SFits w64 c.number.result = search rules in
     let found = rw (to_z-of_z w32 c.number.result small, to_z-of_z w64 c.number.result fits, c.number.ensures.value) at (c.in_ok-found.ensures.found clean pictured.office) in (
       pictured_still pictured (c.in_ok-found.ensures.same clean pictured.office),
-      λ day caller is. rule_found legal pictured day caller a.self.now is a.action (option_copied a.collection) (option_copied a.class) c.in-Some.row (search (rules, found)) c.in_ok-decision_in-in-Some.field-0 (search rules),
+      λ visit is. rule_found legal pictured visit a.self.now is a.action (option_copied a.collection) (option_copied a.class) c.in-Some.row (search (rules, found)) c.in_ok-decision_in-in-Some.field-0 (search rules),
     )
 
 pub returns-in-None-clause-decided : goal.returns-in-None-clause-decided
@@ -24,23 +24,23 @@ returns-in-None-clause-decided g c clean h legal pictured =
     let fits : SFits w64 c.number.result = search rules in
     let found = rw (to_z-of_z w32 c.number.result small, to_z-of_z w64 c.number.result fits, c.number.ensures.value) at (c.in_ok-found.ensures.found clean pictured.office) in (
       pictured_still pictured (c.in_ok-found.ensures.same clean pictured.office),
-      λ day caller is. none_found legal pictured day caller a.self.now is a.action (option_copied a.collection) (option_copied a.class) (search (rules, found)),
+      λ visit is. none_found legal pictured visit a.self.now is a.action (option_copied a.collection) (option_copied a.class) (search (rules, found)),
     )
 
 pub returns-in_ok-decision_in-in-Some-clause-rows : goal.returns-in_ok-decision_in-in-Some-clause-rows
-returns-in_ok-decision_in-in-Some-clause-rows g c clean office day caller is =
+returns-in_ok-decision_in-in-Some-clause-rows g c clean office visit is =
     let a = c.args in
     let old = state g.S.Store a.tx.now.conn.now in
     let small : SFits w32 c.number.result = search rules in
     let fits : SFits w64 c.number.result = search rules in
     let found = rw (to_z-of_z w32 c.number.result small, to_z-of_z w64 c.number.result fits, c.number.ensures.value) at (c.in_ok-found.ensures.found clean office) in
-    decided_by_row (tables_of old.now) day caller a.self.now is a.action (option_copied a.collection) (option_copied a.class) c.in-Some.row (search (rules, found)) c.in_ok-decision_in-in-Some.field-0 (search rules)
+    decided_by_row (tables_of old.now) visit a.self.now is a.action (option_copied a.collection) (option_copied a.class) c.in-Some.row (search (rules, found)) c.in_ok-decision_in-in-Some.field-0 (search rules)
 
 pub returns-in-None-clause-rows : goal.returns-in-None-clause-rows
-returns-in-None-clause-rows g c clean office day caller is =
+returns-in-None-clause-rows g c clean office visit is =
     let a = c.args in
     let old = state g.S.Store a.tx.now.conn.now in
     let small : SFits w32 c.number.result = search rules in
     let fits : SFits w64 c.number.result = search rules in
     let found = rw (to_z-of_z w32 c.number.result small, to_z-of_z w64 c.number.result fits, c.number.ensures.value) at (c.in_ok-found.ensures.found clean office) in
-    none_by_row (tables_of old.now) day caller a.self.now is a.action (option_copied a.collection) (option_copied a.class) (search (rules, found))
+    none_by_row (tables_of old.now) visit a.self.now is a.action (option_copied a.collection) (option_copied a.class) (search (rules, found))
