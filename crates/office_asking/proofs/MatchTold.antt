@@ -15,7 +15,7 @@ use Rattle.office_core.specs.Policies.{PolicyValue, IsPolicy, IsNamed, HasNames}
 use Rattle.office_core.specs.Rules.{Question, decision_of}
 use Rattle.office_core.specs.declared.rule.Rule.{Rule}
 use Rattle.office_rows.specs.Rows.{RuleRow}
-use Rattle.office_rows.specs.Matching.{counts_on, fits_name, rule_fits, matching_rule}
+use Rattle.office_rows.specs.Matching.{counts_on, fits_attempt, fits_name, matching_rule}
 use Rattle.office_history.specs.Pictures.{pattern_text, effect_number, rule_row, rule_rows}
 use Rattle.office_core.specs.declared.rule.Decision.{Decision}
 use Rattle.office_asking.specs.Asking.{IsDecisionOf, or_empty, place_and_effect, rule_and_effect}
@@ -41,7 +41,13 @@ five true false c d e = refl
 five false b c d e = refl
 
 abbrev fits : Question → RuleRow → Bool
-fits asked = rule_fits asked.role (action_text asked.action) (or_empty asked.collection) (or_empty asked.class) (epoch_day asked.day)
+fits asked = fits_attempt (record {
+  role = asked.role;
+  action = action_text asked.action;
+  collection = or_empty asked.collection;
+  class = or_empty asked.class;
+  day = epoch_day asked.day;
+})
 
 row_fits : (row : RuleRow) (asked : Question) → IsSaid row.collection → IsSaid row.class → fits asked row ≡ row_matches row asked
 row_fits row asked collection class =

@@ -5,7 +5,7 @@ use Rattle.std.specs.Ordering.{int_cmp, is_gt, is_lt}
 use Rattle.std.proofs.lemmas.Int.{ints}
 use Rattle.office_core.specs.Days.{IsDayNumber, first_day_number, last_day_number}
 use Rattle.office_rows.specs.Rows.{HoldRow, holds_class, holds_collection, holds_deposit}
-use Rattle.office_tables.specs.Releases.{is_outside, is_released_outside}
+use Rattle.office_tables.specs.Releases.{is_outside, is_outside_of, is_over}
 
 or_none : (a b : Bool) → (a || b) ≡ false → (a ≡ false) × (b ≡ false)
 or_none true b e = absurd cc
@@ -19,9 +19,9 @@ on_a_day true None e is = tt
 on_a_day true (Some day) e is = inside day e
 on_a_day false released e is = absurd cc
 
-pub released_on_days : (n : ℤ) (collection class : List ℕ) (holds : List HoldRow) → list_any (is_released_outside first_day_number last_day_number n collection class) holds ≡ false
+pub released_on_days : (n : ℤ) (collection class : List ℕ) (holds : List HoldRow) → list_any (is_outside_of (is_over n collection class) first_day_number last_day_number) holds ≡ false
     → AllByRecursion (λ (h : HoldRow). (holds_deposit n h || (holds_collection collection h || holds_class class h)) ≡ true → IfSome h.released IsDayNumber) holds
 released_on_days n collection class [] none = tt
 released_on_days n collection class (h ∷ holds) none =
-    let parts = or_none (is_released_outside first_day_number last_day_number n collection class h) (list_any (is_released_outside first_day_number last_day_number n collection class) holds) none in
+    let parts = or_none (is_outside_of (is_over n collection class) first_day_number last_day_number h) (list_any (is_outside_of (is_over n collection class) first_day_number last_day_number) holds) none in
     (on_a_day (holds_deposit n h || (holds_collection collection h || holds_class class h)) h.released parts.0, released_on_days n collection class holds parts.1)

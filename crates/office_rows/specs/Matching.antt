@@ -24,11 +24,6 @@ abbrev pub fits_attempt : Attempt → RuleRow → Bool
 fits_attempt a r =
     fits_name r.role a.role && (fits_name r.action a.action && (fits_name r.collection a.collection && (fits_name r.class a.class && counts_on a.day r)))
 
--- the same of an attempt that is told in parts
-abbrev pub rule_fits : List ℕ → List ℕ → List ℕ → List ℕ → ℤ → RuleRow → Bool
-rule_fits role action collection class day =
-    fits_attempt (record { role = role; action = action; collection = collection; class = class; day = day })
-
 -- of rules that ascend by place: the one of the least place that fits
 abbrev pub matching_rule : List ℕ → List ℕ → List ℕ → List ℕ → ℤ → List RuleRow → Option RuleRow
 matching_rule role action collection class day =

@@ -15,7 +15,3 @@ is_outside_of those first last h = those h && is_outside first last h.released
 -- the hold is on the deposit, on the collection or on the class
 abbrev pub is_over : ℤ → List ℕ → List ℕ → HoldRow → Bool
 is_over n collection class h = holds_deposit n h || (holds_collection collection h || holds_class class h)
-
--- the same, and its day of release lies outside of these days
-abbrev pub is_released_outside : ℤ → ℤ → ℤ → List ℕ → List ℕ → HoldRow → Bool
-is_released_outside first last n collection class = is_outside_of (is_over n collection class) first last

@@ -4,7 +4,7 @@ use Rattle.std.proofs.lemmas.Result.{IfOk-weaker}
 use Rattle.sqlite.specs.Held.{state}
 use Rattle.office_core.specs.Days.{first_day_number, last_day_number}
 use Rattle.office_rows.specs.Rows.{live_holds}
-use Rattle.office_tables.specs.Releases.{is_released_outside}
+use Rattle.office_tables.specs.Releases.{is_outside_of, is_over}
 use Rattle.office_tables.specs.Tables.{tables_of}
 use Rattle.office_asking.proofs.HoldTold.{live_read}
 use Rattle.office_asking.proofs.InTurn.{ok_both}
@@ -35,7 +35,7 @@ returns-clause-rows g c clean office =
     let early = clean_first c.live_holds.ensures.inside.stays clean in
     let same = c.in_ok-outside.ensures.same early office in
     let inside : c.in_ok-outside.outside ≡ false = search rules in
-    let none : list_any (is_released_outside first_day_number last_day_number (pos a.number) a.collection.now a.class.now) (tables_of old.now).holds ≡ false =
+    let none : list_any (is_outside_of (is_over (pos a.number) a.collection.now a.class.now) first_day_number last_day_number) (tables_of old.now).holds ≡ false =
     sym (c.in_ok-outside.ensures.found early office) ∙ inside in
     IfOk-weaker c.live_holds.result _ _ (λ numbers are. (
       told_before same (λ t. map pos numbers.items ≡ live_holds (pos a.number) a.collection.now a.class.now t) are,
