@@ -47,7 +47,7 @@ fn place<S: Alter>(
         (record {
           was_so = λ h. IsNext h number;
           changes =
-            PlacedHold day (record { target = target_of target.entry; matter = matter.now }) ∷ [];
+              PlacedHold day (record { target = target_of target.entry; matter = matter.now }) ∷ [];
         }) }
     ensures rows { Tells S.Store tx.old.conn.now tx.new.conn.now result (λ tables _.
         IsCountableOn tables (held_deposit target.entry) (pos 1)) }

@@ -205,10 +205,12 @@ pub fn deposit<S: Alter>(
     bag: &[u8],
 ) -> Result<Answer, TableFault>
     ensures inside { GoesOnInside S.Store tx.old.conn tx.new.conn result }
-    ensures decides { Decides S.Store tx.old.conn.now tx.new.conn.now result
-        (asked.now.day, asked.now.caller,
-        requests.Deposit asked.now.collection.now asked.now.class.now asked.now.accession.now
-        asked.now.closed bag.entry) }
+    ensures decides { Decides S.Store tx.old.conn.now tx.new.conn.now result (
+      asked.now.day,
+      asked.now.caller,
+      requests.Deposit asked.now.collection.now asked.now.class.now asked.now.accession.now
+          asked.now.closed bag.entry,
+    ) }
     ensures rows { Tells S.Store tx.old.conn.now tx.new.conn.now result (λ tables given.
         IsDepositedIn tables (values_of asked.now) bag.entry.now given) }
 {

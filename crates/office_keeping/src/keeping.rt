@@ -144,14 +144,14 @@ pub(crate) fn keep<S: Alter>(
         (record {
           was_so = λ h. number ≡ length (deposits h) + 1;
           changes =
-            Deposited asked.now.day
-            (record {
-              collection = asked.now.collection.now;
-              class = asked.now.class.now;
-              accession = asked.now.accession.now;
-              closed = asked.now.closed;
-              bag = bag.now;
-            }) ∷ [];
+              Deposited asked.now.day
+              (record {
+                collection = asked.now.collection.now;
+                class = asked.now.class.now;
+                accession = asked.now.accession.now;
+                closed = asked.now.closed;
+                bag = bag.now;
+              }) ∷ [];
         }) }
     ensures rows { Tells S.Store tx.old.conn.now tx.new.conn.now result (λ tables _.
         (due : Due) × IsDueIn tables asked.now.class.now asked.now.closed due) }

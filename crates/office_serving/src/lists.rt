@@ -144,9 +144,11 @@ pub fn list<S: Alter>(
     class: Option<&Name<'_>>,
 ) -> Result<Answer, TableFault>
     ensures inside { GoesOnInside S.Store tx.old.conn tx.new.conn result }
-    ensures decides { Decides S.Store tx.old.conn.now tx.new.conn.now result
-        (day, caller.entry,
-        requests.List (option_copied collection.entry) (option_copied class.entry)) }
+    ensures decides { Decides S.Store tx.old.conn.now tx.new.conn.now result (
+      day,
+      caller.entry,
+      requests.List (option_copied collection.entry) (option_copied class.entry),
+    ) }
     ensures same { Keeps S.Store tx.old.conn.now tx.new.conn.now result }
     ensures rows { Tells S.Store tx.old.conn.now tx.new.conn.now result (λ tables given.
         IsListIn tables (visit_on day caller.now) (wanted_of collection.entry class.entry) given) }
