@@ -5,8 +5,8 @@ use Rattle.std.proofs.lemmas.List.{append-nil}
 use Rattle.bag_text.specs.declared.header.Flaw.{Flaw}
 use Rattle.bag_text.specs.declared.header.Flaw.TheVariants.{Short, Bad}
 use Rattle.bag_text.specs.Answers.{◌>>=◌}
-use Rattle.bag_text.specs.TransferReading.{Head, Place, End, Entry, literal_at, number_at, header_at, place_at}
-use Rattle.bag_text.specs.TransferForm.{header, ending, max_content}
+use Rattle.bag_text.specs.TransferReading.{Place, End, Entry, literal_at, number_at, header_at, place_at}
+use Rattle.bag_text.specs.TransferForm.{Head, header, ending, max_content}
 use Rattle.bag_text.specs.Paths.{max_path}
 use Rattle.bag_text.specs.TransferFaults.{BeginsWith, IsProperBeginning, HasSizes, IsEndOrHeader}
 use Rattle.bag_text.proofs.NumberLemmas.{number_ok, number_again, number_short, number_bad}

@@ -12,8 +12,8 @@ use Rattle.bag_text.specs.declared.set_fault.SetFault.{SetFault}
 use Rattle.bag_text.specs.declared.set_fault.SetFault.TheVariants.{BadEntry, Truncated, OutOfOrder, BadPath, TrailingBytes, PathClash}
 use Rattle.bag_text.specs.Paths.{path_fault}
 use Rattle.bag_text.specs.Answers.{◌>>=◌, Gives}
-use Rattle.bag_text.specs.TransferReading.{Head, Place, End, Entry, literal_at, header_at, place_at, file_at, result_at, entry_of, entry_at, files_at, after_opening, set_of, named_set_fault}
-use Rattle.bag_text.specs.TransferForm.{File, header, entry, opening, ending, set_text, max_content, max_files, Ascends, clashes, Fits, IsBag}
+use Rattle.bag_text.specs.TransferReading.{Place, End, Entry, literal_at, header_at, place_at, file_at, result_at, entry_of, entry_at, files_at, after_opening, set_of, named_set_fault}
+use Rattle.bag_text.specs.TransferForm.{File, Head, header, entry, opening, ending, set_text, max_content, max_files, Ascends, clashes, Fits, IsBag}
 use Rattle.bag_text.specs.Paths.{max_path, is_good, comes_before}
 use Rattle.bag_text.proofs.ResultLemmas.{ok_is}
 use Rattle.bag_text.proofs.NumberLemmas.{InBounds}

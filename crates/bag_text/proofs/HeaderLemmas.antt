@@ -6,8 +6,8 @@ use Rattle.std.proofs.lemmas.Bool.{eqb-true}
 use Rattle.bag_text.specs.declared.header.Flaw.{Flaw}
 use Rattle.bag_text.specs.declared.header.Flaw.TheVariants.{Short, Bad}
 use Rattle.bag_text.specs.Answers.{◌>>=◌}
-use Rattle.bag_text.specs.TransferReading.{Head, literal_at, number_at, header_at}
-use Rattle.bag_text.specs.TransferForm.{header, max_content}
+use Rattle.bag_text.specs.TransferReading.{literal_at, number_at, header_at}
+use Rattle.bag_text.specs.TransferForm.{Head, header, max_content}
 use Rattle.bag_text.specs.Paths.{max_path}
 use Rattle.bag_text.proofs.ResultLemmas.{ok_is}
 use Rattle.bag_text.proofs.NumberLemmas.{InBounds, number_ok, number_again}

@@ -9,9 +9,9 @@ use Rattle.bag_text.specs.declared.header.Flaw.TheVariants.{Short, Bad}
 use Rattle.bag_text.specs.declared.set_fault.SetFault.{SetFault}
 use Rattle.bag_text.specs.declared.set_fault.SetFault.TheVariants.{BadOpening, BadEntry, Truncated, OutOfOrder, BadPath, TooManyFiles, TrailingBytes, PathClash, Memory}
 use Rattle.bag_text.specs.Paths.{is_good, comes_before}
-use Rattle.bag_text.specs.TransferForm.{File, header, entry, opening, ending, set_text, max_files, Ascends, clashes, Fits, IsBag}
-use Rattle.bag_text.specs.TransferFaults.{BeginsWith, IsProperBeginning, IsOpening, HasSizes, IsEndOrHeader, EntryFault, PlaceFault, last_path, GoOn, FaultIs}
-use Rattle.bag_text.specs.TransferReading.{Head, Place, End, Entry, literal_at, place_at, file_at, result_at, entry_at, files_at, after_opening, set_of}
+use Rattle.bag_text.specs.TransferForm.{File, Head, header, entry, opening, ending, set_text, max_files, Ascends, clashes, Fits, IsBag}
+use Rattle.bag_text.specs.TransferFaults.{BeginsWith, IsProperBeginning, IsOpening, IsEndOrHeader, IsHeaded, EntryFault, PlaceFault, last_path, GoOn, FaultIs}
+use Rattle.bag_text.specs.TransferReading.{Place, End, Entry, literal_at, place_at, file_at, result_at, entry_at, files_at, after_opening, set_of}
 use Rattle.bag_text.proofs.ResultLemmas.{same_ok, same_err, never_both}
 use Rattle.bag_text.proofs.HeaderLemmas.{literal_ok, literal_again, literal_ends, literal_bad}
 use Rattle.bag_text.proofs.FormLemmas.{place_ok, place_header, end_trails, entry_again, files_again, set_ok, set_again}
@@ -128,37 +128,38 @@ entry_judged offset before path content b more p c rest pl cl is =
     rw (all, long, take_at path (content ++ b ∷ more) p pl, drop_at path (content ++ b ∷ more) p pl, take_at content (b ∷ more) c cl, drop_at content (b ∷ more) c cl) refl
 
 -- A fault of an entry is the one that reading it gives.
-file_refused : (offset : ℕ) (before : List ℕ) (p c : ℕ) (rest : List ℕ) (f : SetFault) → EntryFault offset before p c rest f → file_at offset before (head_is p c rest) ≡ Err f
+file_refused : (offset : ℕ) (before : List ℕ) (head : Head) (f : SetFault) → EntryFault offset before head f → file_at offset before head ≡ Err f
 unfolding file_at
-file_refused offset before p c rest Truncated short = let is : ltb (length rest) (p + c + 1) ≡ true = lt-ltb _ _ short in rw is refl
-file_refused offset before p c rest (BadEntry n) (at, (path, content, b, more, pl, cl, other, is)) =
+file_refused offset before head Truncated short = let is : ltb (length head.rest) (head.path_len + head.content_len + 1) ≡ true = lt-ltb _ _ short in rw is refl
+file_refused offset before head (BadEntry n) (at, (path, content, b, more, pl, cl, other, is)) =
     let no : eqb b 10 ≡ false = grind (arith, nat_tests) in
-    entry_judged offset before path content b more p c rest pl cl is ∙ rw (at, no) refl
-file_refused offset before p c rest (BadPath n) (at, (path, content, more, pl, cl, is, bad)) =
-    entry_judged offset before path content 10 more p c rest pl cl is ∙ rw (at, bad) refl
-file_refused offset before p c rest (OutOfOrder n) (at, (path, content, more, pl, cl, is, good, order)) =
-    entry_judged offset before path content 10 more p c rest pl cl is ∙ rw (at, good, order) refl
-file_refused offset before p c rest BadOpening h = absurd h
-file_refused offset before p c rest TooManyFiles h = absurd h
-file_refused offset before p c rest TrailingBytes h = absurd h
-file_refused offset before p c rest PathClash h = absurd h
-file_refused offset before p c rest Memory h = absurd h
+    entry_judged offset before path content b more head.path_len head.content_len head.rest pl cl is ∙ rw (at, no) refl
+file_refused offset before head (BadPath n) (at, (path, content, more, pl, cl, is, bad)) =
+    entry_judged offset before path content 10 more head.path_len head.content_len head.rest pl cl is ∙ rw (at, bad) refl
+file_refused offset before head (OutOfOrder n) (at, (path, content, more, pl, cl, is, good, order)) =
+    entry_judged offset before path content 10 more head.path_len head.content_len head.rest pl cl is ∙ rw (at, good, order) refl
+file_refused offset before head BadOpening h = absurd h
+file_refused offset before head TooManyFiles h = absurd h
+file_refused offset before head TrailingBytes h = absurd h
+file_refused offset before head PathClash h = absurd h
+file_refused offset before head Memory h = absurd h
 
 -- ---- a fault at an entry's place
 
-header_refused : (offset left : ℕ) (before t : List ℕ) (p c : ℕ) (rest : List ℕ) (f : SetFault) → HasSizes p c → t ≡ header p c ++ rest → 0 < left → EntryFault offset before p c rest f → entry_at offset left before t ≡ Err f
+header_refused : (offset left : ℕ) (before t : List ℕ) (head : Head) (f : SetFault) → IsHeaded head t → 0 < left → EntryFault offset before head f → entry_at offset left before t ≡ Err f
 unfolding entry_at
-header_refused offset zero before t p c rest f sizes is lt h = absurd (omega arith)
-header_refused offset (suc more) before t p c rest f sizes is lt h =
-    rw (is, place_header p c rest (fit p c sizes), file_refused offset before p c rest f h) refl
+header_refused offset zero before t head f is lt h = absurd (omega arith)
+header_refused offset (suc more) before t head f is lt h =
+    let fails : file_at offset before (head_is head.path_len head.content_len head.rest) ≡ Err f = file_refused offset before head f h in
+    rw (is.text, place_header head.path_len head.content_len head.rest (fit head.path_len head.content_len is.sizes), fails) refl
 
 place_fails : (offset left : ℕ) (before t : List ℕ) (flaw : Flaw) (f : SetFault) → place_at t ≡ Err flaw → result_at offset (place_at t) ≡ Err f → entry_at offset left before t ≡ Err f
 unfolding entry_at
 place_fails offset left before t flaw f e g = rw g refl
 
-too_many : (offset : ℕ) (before t : List ℕ) (p c : ℕ) (rest : List ℕ) → HasSizes p c → t ≡ header p c ++ rest → entry_at offset zero before t ≡ Err TooManyFiles
+too_many : (offset : ℕ) (before t : List ℕ) (head : Head) → IsHeaded head t → entry_at offset zero before t ≡ Err TooManyFiles
 unfolding entry_at
-too_many offset before t p c rest sizes is = rw (is, place_header p c rest (fit p c sizes)) refl
+too_many offset before t head is = rw (is.text, place_header head.path_len head.content_len head.rest (fit head.path_len head.content_len is.sizes)) refl
 
 trails : (offset left : ℕ) (before t more : List ℕ) → more ≢ [] → t ≡ ending ++ more → entry_at offset left before t ≡ Err TrailingBytes
 trails offset left before t [] some is = absurd (some refl)
@@ -167,16 +168,16 @@ trails offset left before t (b ∷ more) some is = ap (entry_at offset left befo
 -- A fault at an entry's place is the one that reading gives there.
 entry_refused : (offset left : ℕ) (before t : List ℕ) (f : SetFault) → PlaceFault offset left before t f → entry_at offset left before t ≡ Err f
 entry_refused offset left before t Truncated (inl proper) = let is = place_short t proper in place_fails offset left before t Short Truncated is (rw is refl)
-entry_refused offset left before t Truncated (inr (p, c, rest, sizes, is, lt, h)) = header_refused offset left before t p c rest Truncated sizes is lt h
+entry_refused offset left before t Truncated (inr (head, is, lt, h)) = header_refused offset left before t head Truncated is lt h
 entry_refused offset left before t (BadEntry n) (inl (at, begins, proper)) = let is = place_bad t begins proper in place_fails offset left before t Bad (BadEntry n) is (rw (is, at) refl)
-entry_refused offset left before t (BadEntry n) (inr (p, c, rest, sizes, is, lt, h)) = header_refused offset left before t p c rest (BadEntry n) sizes is lt h
-entry_refused offset left before t TooManyFiles (full, (p, c, rest, sizes, is)) = rw full (too_many offset before t p c rest sizes is)
+entry_refused offset left before t (BadEntry n) (inr (head, is, lt, h)) = header_refused offset left before t head (BadEntry n) is lt h
+entry_refused offset left before t TooManyFiles (full, (head, is)) = rw full (too_many offset before t head is)
 entry_refused offset left before t TrailingBytes (more, some, is) = trails offset left before t more some is
-entry_refused offset left before t (BadPath n) (p, c, rest, sizes, is, lt, h) = header_refused offset left before t p c rest (BadPath n) sizes is lt h
-entry_refused offset left before t (OutOfOrder n) (p, c, rest, sizes, is, lt, h) = header_refused offset left before t p c rest (OutOfOrder n) sizes is lt h
-entry_refused offset left before t BadOpening (p, c, rest, sizes, is, lt, h) = absurd h
-entry_refused offset left before t PathClash (p, c, rest, sizes, is, lt, h) = absurd h
-entry_refused offset left before t Memory (p, c, rest, sizes, is, lt, h) = absurd h
+entry_refused offset left before t (BadPath n) (head, is, lt, h) = header_refused offset left before t head (BadPath n) is lt h
+entry_refused offset left before t (OutOfOrder n) (head, is, lt, h) = header_refused offset left before t head (OutOfOrder n) is lt h
+entry_refused offset left before t BadOpening (head, is, lt, h) = absurd h
+entry_refused offset left before t PathClash (head, is, lt, h) = absurd h
+entry_refused offset left before t Memory (head, is, lt, h) = absurd h
 
 -- A fault after files without fault is the one that reading them all gives.
 files_refused : (whole : ℕ) (fs : List File) (left : ℕ) (before rest : List ℕ) (f : SetFault) → length fs ≤ left → AllByRecursion Fits fs → Ascends before fs

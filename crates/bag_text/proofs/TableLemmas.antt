@@ -10,10 +10,10 @@ use Rattle.bag_text.specs.declared.header.Flaw.TheVariants.{Short, Bad}
 use Rattle.bag_text.specs.declared.set_fault.SetFault.{SetFault}
 use Rattle.bag_text.specs.declared.set_fault.SetFault.TheVariants.{BadOpening, BadEntry, Truncated, OutOfOrder, BadPath, TooManyFiles, TrailingBytes, PathClash, Memory}
 use Rattle.bag_text.specs.Answers.{◌>>=◌, Gives}
-use Rattle.bag_text.specs.TransferReading.{Head, Place, End, Entry, literal_at, place_at, file_at, result_at, entry_of, entry_at, files_at, after_opening, set_of, named_set_fault}
-use Rattle.bag_text.specs.TransferForm.{File, header, entry, opening, ending, max_files, Ascends, clashes, Fits}
+use Rattle.bag_text.specs.TransferReading.{Place, End, Entry, literal_at, place_at, file_at, result_at, entry_of, entry_at, files_at, after_opening, set_of, named_set_fault}
+use Rattle.bag_text.specs.TransferForm.{File, Head, entry, opening, ending, max_files, Ascends, clashes, Fits}
 use Rattle.bag_text.specs.Paths.{is_good, comes_before}
-use Rattle.bag_text.specs.TransferFaults.{HasSizes, EntryFault, PlaceFault, last_path, GoOn, FaultIs}
+use Rattle.bag_text.specs.TransferFaults.{IsHeaded, EntryFault, PlaceFault, last_path, GoOn, FaultIs}
 use Rattle.bag_text.proofs.ResultLemmas.{err_is}
 use Rattle.bag_text.proofs.HeaderLemmas.{literal_ok, literal_again, literal_ends, literal_bad}
 use Rattle.bag_text.proofs.FormLemmas.{place_ok, entry_ok, files_ok}
@@ -22,7 +22,7 @@ use Rattle.bag_text.proofs.FaultLemmas.{sized, short_place, bad_place}
 abbrev wrong : {A : Type 0} → SetFault → Result A SetFault
 wrong f = Err f
 
-pub file_fault : (offset : ℕ) (before : List ℕ) (head : Head) (f : SetFault) → file_at offset before head ≡ Err f → EntryFault offset before head.path_len head.content_len head.rest f
+pub file_fault : (offset : ℕ) (before : List ℕ) (head : Head) (f : SetFault) → file_at offset before head ≡ Err f → EntryFault offset before head f
 unfolding file_at
 file_fault offset before head f e = by_length (ltb (length head.rest) (head.path_len + head.content_len + 1)) refl e
   where
@@ -39,7 +39,7 @@ file_fault offset before head f e = by_length (ltb (length head.rest) (head.path
     made = (record { path = path; content = content }, drop 1 behind)
 
     Is : SetFault → Type 0
-    Is f = EntryFault offset before head.path_len head.content_len head.rest f
+    Is f = EntryFault offset before head f
 
     by_length : (x : Bool) → ltb (length head.rest) (head.path_len + head.content_len + 1) ≡ x → cond x (Err Truncated) (cond (not (eqb (get_or behind 0 0) 10)) (Err (BadEntry offset)) (cond (not (is_good path)) (Err (BadPath offset)) (cond (not (comes_before before path)) (Err (OutOfOrder offset)) (Ok made)))) ≡ Err f → Is f
     by_length true is e = subst Is (err_is Truncated f e) (ltb-true _ _ is)
@@ -75,16 +75,16 @@ file_fault offset before head f e = by_length (ltb (length head.rest) (head.path
                 by_order false is4 e = subst Is (err_is (OutOfOrder offset) f e) (refl, (path, content, drop 1 behind, path_len, content_len, whole 10 (eqb-true _ _ is2), is3, is4))
                 by_order true is4 e = absurd cc
 
-of_entry : (offset left : ℕ) (before t : List ℕ) (p c : ℕ) (rest : List ℕ) (f : SetFault) → HasSizes p c → t ≡ header p c ++ rest → 0 < left → EntryFault offset before p c rest f → PlaceFault offset left before t f
-of_entry offset left before t p c rest Truncated sizes is lt h = inr (p, c, rest, sizes, is, lt, h)
-of_entry offset left before t p c rest (BadEntry n) sizes is lt h = inr (p, c, rest, sizes, is, lt, h)
-of_entry offset left before t p c rest (BadPath n) sizes is lt h = (p, c, rest, sizes, is, lt, h)
-of_entry offset left before t p c rest (OutOfOrder n) sizes is lt h = (p, c, rest, sizes, is, lt, h)
-of_entry offset left before t p c rest BadOpening sizes is lt h = absurd h
-of_entry offset left before t p c rest TooManyFiles sizes is lt h = absurd h
-of_entry offset left before t p c rest TrailingBytes sizes is lt h = absurd h
-of_entry offset left before t p c rest PathClash sizes is lt h = absurd h
-of_entry offset left before t p c rest Memory sizes is lt h = absurd h
+of_entry : (offset left : ℕ) (before t : List ℕ) (head : Head) (f : SetFault) → IsHeaded head t → 0 < left → EntryFault offset before head f → PlaceFault offset left before t f
+of_entry offset left before t head Truncated is lt h = inr (head, is, lt, h)
+of_entry offset left before t head (BadEntry n) is lt h = inr (head, is, lt, h)
+of_entry offset left before t head (BadPath n) is lt h = (head, is, lt, h)
+of_entry offset left before t head (OutOfOrder n) is lt h = (head, is, lt, h)
+of_entry offset left before t head BadOpening is lt h = absurd h
+of_entry offset left before t head TooManyFiles is lt h = absurd h
+of_entry offset left before t head TrailingBytes is lt h = absurd h
+of_entry offset left before t head PathClash is lt h = absurd h
+of_entry offset left before t head Memory is lt h = absurd h
 
 pub entry_fault : (offset left : ℕ) (before t : List ℕ) (f : SetFault) → entry_at offset left before t ≡ Err f → PlaceFault offset left before t f
 unfolding entry_at
@@ -101,14 +101,14 @@ entry_fault offset left before t f e = by_place left (place_at t) refl e
         by_rest false is2 e = subst (λ (f : SetFault). PlaceFault offset left before t f) (err_is TrailingBytes f e) (b ∷ rest, (λ none. absurd cc), (place_ok t (End (b ∷ rest)) is).at_end (b ∷ rest) refl)
     by_place zero (Ok (Entry head)) is e =
         let h = (place_ok t (Entry head) is).at_entry head refl in
-        subst (λ (f : SetFault). PlaceFault offset zero before t f) (err_is TooManyFiles f e) (refl, (head.path_len, head.content_len, head.rest, sized head.path_len head.content_len h.1, h.0))
+        subst (λ (f : SetFault). PlaceFault offset zero before t f) (err_is TooManyFiles f e) (refl, (head, record { sizes = sized head.path_len head.content_len h.1; text = h.0 }))
     by_place (suc more) (Ok (Entry head)) is e = by_file (file_at offset before head) refl e
       where
         by_file : (r : Result (File × List ℕ) SetFault) → file_at offset before head ≡ r → (r >>= λ file. Ok (Some file)) ≡ Err f → PlaceFault offset (suc more) before t f
         by_file (Ok x) is2 e = absurd cc
         by_file (Err g) is2 e =
             let h = (place_ok t (Entry head) is).at_entry head refl in
-            of_entry offset (suc more) before t head.path_len head.content_len head.rest f (sized head.path_len head.content_len h.1) h.0 (omega arith) (file_fault offset before head f (is2 ∙ (let k : g ≡ f = cc in rw k refl)))
+            of_entry offset (suc more) before t head f (record { sizes = sized head.path_len head.content_len h.1; text = h.0 }) (omega arith) (file_fault offset before head f (is2 ∙ (let k : g ≡ f = cc in rw k refl)))
 
 -- files without fault, and a fault in what follows them
 pub record Later (whole left : ℕ) (before t : List ℕ) (f : SetFault) : Type 0 where
@@ -164,8 +164,8 @@ going_on : (t body : List ℕ) (f : SetFault) (later : Later (length t) max_file
 going_on t body f later is = record { text = is ∙ ap (λ (r : List ℕ). opening ++ r) later.text ∙ sym (append_assoc opening (flat_map entry later.files) later.rest); few = later.few; each = later.each; ascending = later.up }
 
 of_later : (t body : List ℕ) (f : SetFault) (later : Later (length t) max_files [] body f) → t ≡ opening ++ body → FaultIs t f
-of_later t body BadOpening later is = absurd later.fault.6
-of_later t body PathClash later is = absurd later.fault.6
+of_later t body BadOpening later is = absurd later.fault.3
+of_later t body PathClash later is = absurd later.fault.3
 of_later t body Truncated later is = inr (later.files, later.rest, going_on t body Truncated later is, later.fault)
 of_later t body (BadEntry n) later is = (later.files, later.rest, going_on t body (BadEntry n) later is, later.fault)
 of_later t body (OutOfOrder n) later is = (later.files, later.rest, going_on t body (OutOfOrder n) later is, later.fault)

@@ -4,7 +4,7 @@ use Rattle.std.specs.List.{flat_map, AllByRecursion}
 use Rattle.bag_text.specs.declared.set_fault.SetFault.{SetFault}
 use Rattle.bag_text.specs.declared.set_fault.SetFault.TheVariants.{BadOpening, BadEntry, Truncated, OutOfOrder, BadPath, TooManyFiles, TrailingBytes, PathClash}
 use Rattle.bag_text.specs.Paths.{max_path, is_good, comes_before}
-use Rattle.bag_text.specs.TransferForm.{File, header, entry, opening, ending, max_content, max_files, Ascends, clashes, Fits}
+use Rattle.bag_text.specs.TransferForm.{File, Head, header, entry, opening, ending, max_content, max_files, Ascends, clashes, Fits}
 
 abbrev pub BeginsWith : (List ℕ → Type 0) → List ℕ → Type 0
 BeginsWith P t = (front : List ℕ) × (rest : List ℕ) × P front × (t ≡ front ++ rest)
@@ -25,30 +25,34 @@ pub record HasSizes (p c : ℕ) : Type 0 where
 abbrev pub IsEndOrHeader : List ℕ → Type 0
 IsEndOrHeader t = (t ≡ ending) ⊎ ((p : ℕ) × (c : ℕ) × HasSizes p c × (t ≡ header p c))
 
--- An entry after a header of p and c bytes: what ends before its last byte, has another byte there,
--- a bad path, or one that isn't greater than the one before.
-abbrev pub EntryFault : ℕ → List ℕ → ℕ → ℕ → List ℕ → SetFault → Type 0
-EntryFault offset before p c rest Truncated = length rest < p + c + 1
-EntryFault offset before p c rest (BadEntry n) =
-    (n ≡ offset) × ((path : List ℕ) × (content : List ℕ) × (b : ℕ) × (more : List ℕ) × (length path ≡ p) × (length content ≡ c) × (b ≢ 10) × (rest ≡ path ++ content ++ b ∷ more))
-EntryFault offset before p c rest (BadPath n) =
-    (n ≡ offset) × ((path : List ℕ) × (content : List ℕ) × (more : List ℕ) × (length path ≡ p) × (length content ≡ c) × (rest ≡ path ++ content ++ 10 ∷ more) × (is_good path ≡ false))
-EntryFault offset before p c rest (OutOfOrder n) =
-    (n ≡ offset) × ((path : List ℕ) × (content : List ℕ) × (more : List ℕ) × (length path ≡ p) × (length content ≡ c) × (rest ≡ path ++ content ++ 10 ∷ more) × (is_good path ≡ true) × (comes_before before path ≡ false))
-EntryFault offset before p c rest fault = ⊥
+-- the text begins with this header, whose sizes an entry may have
+pub record IsHeaded (head : Head) (t : List ℕ) : Type 0 where
+  pub sizes : HasSizes head.path_len head.content_len
+  pub text : t ≡ header head.path_len head.content_len ++ head.rest
+
+-- An entry after its header: what ends before its last byte, has another byte there, a bad path, or
+-- one that isn't greater than the one before.
+abbrev pub EntryFault : ℕ → List ℕ → Head → SetFault → Type 0
+EntryFault offset before head Truncated = length head.rest < head.path_len + head.content_len + 1
+EntryFault offset before head (BadEntry n) =
+    (n ≡ offset) × ((path : List ℕ) × (content : List ℕ) × (b : ℕ) × (more : List ℕ) × (length path ≡ head.path_len) × (length content ≡ head.content_len) × (b ≢ 10) × (head.rest ≡ path ++ content ++ b ∷ more))
+EntryFault offset before head (BadPath n) =
+    (n ≡ offset) × ((path : List ℕ) × (content : List ℕ) × (more : List ℕ) × (length path ≡ head.path_len) × (length content ≡ head.content_len) × (head.rest ≡ path ++ content ++ 10 ∷ more) × (is_good path ≡ false))
+EntryFault offset before head (OutOfOrder n) =
+    (n ≡ offset) × ((path : List ℕ) × (content : List ℕ) × (more : List ℕ) × (length path ≡ head.path_len) × (length content ≡ head.content_len) × (head.rest ≡ path ++ content ++ 10 ∷ more) × (is_good path ≡ true) × (comes_before before path ≡ false))
+EntryFault offset before head fault = ⊥
 
 -- what stands at an entry's place, where so many more files may stand
 abbrev pub PlaceFault : ℕ → ℕ → List ℕ → List ℕ → SetFault → Type 0
 PlaceFault offset left before t Truncated =
     IsProperBeginning IsEndOrHeader t
-    ⊎ ((p : ℕ) × (c : ℕ) × (rest : List ℕ) × HasSizes p c × (t ≡ header p c ++ rest) × (0 < left) × EntryFault offset before p c rest Truncated)
+    ⊎ ((head : Head) × IsHeaded head t × (0 < left) × EntryFault offset before head Truncated)
 PlaceFault offset left before t (BadEntry n) =
     ((n ≡ offset) × (BeginsWith IsEndOrHeader t → ⊥) × (IsProperBeginning IsEndOrHeader t → ⊥))
-    ⊎ ((p : ℕ) × (c : ℕ) × (rest : List ℕ) × HasSizes p c × (t ≡ header p c ++ rest) × (0 < left) × EntryFault offset before p c rest (BadEntry n))
-PlaceFault offset left before t TooManyFiles = (left ≡ 0) × ((p : ℕ) × (c : ℕ) × (rest : List ℕ) × HasSizes p c × (t ≡ header p c ++ rest))
+    ⊎ ((head : Head) × IsHeaded head t × (0 < left) × EntryFault offset before head (BadEntry n))
+PlaceFault offset left before t TooManyFiles = (left ≡ 0) × ((head : Head) × IsHeaded head t)
 PlaceFault offset left before t TrailingBytes = (more : List ℕ) × (more ≢ []) × (t ≡ ending ++ more)
-PlaceFault offset left before t fault =
-    (p : ℕ) × (c : ℕ) × (rest : List ℕ) × HasSizes p c × (t ≡ header p c ++ rest) × (0 < left) × EntryFault offset before p c rest fault
+PlaceFault offset left before t fault = (head : Head) × IsHeaded head t × (0 < left) × EntryFault offset before head fault
 
 abbrev pub last_path : List ℕ → List File → List ℕ
 last_path before [] = before

@@ -16,6 +16,12 @@ ending = codes "END" ++ 10 ∷ []
 abbrev pub header : ℕ → ℕ → List ℕ
 header p c = codes "FILE " ++ decimal p ++ 32 ∷ [] ++ decimal c ++ 10 ∷ []
 
+-- the sizes that a header gives, and what stands after it
+pub record Head : Type 0 where
+  pub path_len : ℕ
+  pub content_len : ℕ
+  pub rest : List ℕ
+
 abbrev pub entry : File → List ℕ
 entry f = header (length f.path) (length f.content) ++ f.path ++ f.content ++ 10 ∷ []
 

@@ -5,7 +5,7 @@ use Rattle.std.specs.List.Sorted.{IsPartitionPoint}
 use denote.Ref.{Bor}
 use Rattle.bag_text.specs.Answers.{◌>>=◌}
 use Rattle.bag_text.specs.Paths.{max_path, is_good, comes_before}
-use Rattle.bag_text.specs.TransferForm.{File, opening, ending, max_content, max_files, clashes}
+use Rattle.bag_text.specs.TransferForm.{File, Head, opening, ending, max_content, max_files, clashes}
 use Rattle.bag_text.specs.declared.header.Header.{Header}
 use Rattle.bag_text.specs.declared.header.EntryPlace.{EntryPlace}
 use Rattle.bag_text.specs.declared.header.EntryPlace.TheVariants as places
@@ -32,11 +32,6 @@ unfoldable pub number_at : ℕ → ℕ → ℕ → List ℕ → Result (ℕ × L
 number_at stop least most [] = Err Short
 number_at stop least most (b ∷ text) =
     if is_ascii_digit b && nat_le least (b - 48) then digits_at stop most (b - 48) text else Err Bad
-
-pub record Head : Type 0 where
-  pub path_len : ℕ
-  pub content_len : ℕ
-  pub rest : List ℕ
 
 unfoldable pub header_at : List ℕ → Result Head Flaw
 header_at text = do

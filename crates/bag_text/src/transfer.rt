@@ -3,7 +3,7 @@
 ghost use Rattle.std.specs.Prelude.{◌≡◌, ◌<◌, ◌≤◌, ◌^◌, List, [], length, map, ℕ, Option, option_map, codes, None, Some, Ok, Err, IfOk, IfSome, MatchResult};
 ghost use Rattle.bag_text.specs.Answers.{Gives};
 ghost use Rattle.bag_text.specs.TransferForm.{File, opening, ending, max_content, max_files};
-ghost use Rattle.bag_text.specs.TransferReading.{literal_at, digits_at, number_at, header_at, place_at, file_at, files_at, set_of, named_set_fault, file_of, files_of, Head, head_of, place_read, after_opening, flaw_at, result_at, entry_at};
+ghost use Rattle.bag_text.specs.TransferReading.{literal_at, digits_at, number_at, header_at, place_at, file_at, files_at, set_of, named_set_fault, file_of, files_of, head_of, place_read, after_opening, flaw_at, result_at, entry_at};
 
 use crate::clash::do_clash;
 use crate::header::{EntryPlace, Flaw, Header};
