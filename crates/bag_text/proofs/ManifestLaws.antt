@@ -26,7 +26,7 @@ use Rattle.bag_text.specs.declared.listing.LineFault.TheVariants.{NotUtf8, ByteO
 use Rattle.bag_text.specs.Text.{AreBlanks, has_mark, begins_with}
 use Rattle.bag_text.specs.Lines.{lines}
 use Rattle.bag_text.specs.Paths.{GoodPath, is_good}
-use Rattle.bag_text.specs.Manifest.{Spells, decode, has_coded, size_of, checksum_of, IsEntry, LineIs, ListsOn, LineLists, Lists, IsManifest, AscendingPaths, sum_text, path_text, IsReached, ManifestFault}
+use Rattle.bag_text.specs.Manifest.{Spells, decode, has_coded, size_of, checksum_of, IsEntry, LineIs, as_manifest, ListsOn, LineLists, Lists, IsManifest, AscendingPaths, sum_text, path_text, IsReached, ManifestFault}
 use Rattle.bag_text.specs.Answers.{FailsAs, Gives}
 use Rattle.bag_text.proofs.ResultLemmas.{never_both, same_err}
 use Rattle.bag_text.specs.ManifestReading.{Entry, Entries, checksum_in, path_of, entry_of, manifest_of, is_owned, entry_in, entries_in, paths_of, HasEntry, HasPath, listing_at, is_listed, named_line_fault}
@@ -46,7 +46,7 @@ spells_iff v s p = (spelled_is_decoded v s p, λ e. subst (λ (q : List ℕ). Sp
 -- what is wrong with a line that is reached: it can't be read, or lists a path again
 data RowAt (v : Version) (a : Algorithm) (text : List ℕ) (number : ℕ) (line : List ℕ) (fault : LineFault) : Type 0 where
   unread : entry_of v a number line ≡ Err fault → RowAt v a text number line fault
-  listed_again : (first : ℕ) (path one two : List ℕ) → fault ≡ ListedTwice number → first < number → ListsOn v a text first path one → IsEntry v a line path two → RowAt v a text number line fault
+  listed_again : (first : ℕ) (path one two : List ℕ) → fault ≡ ListedTwice number → first < number → ListsOn (as_manifest v a text) first path one → IsEntry v a line path two → RowAt v a text number line fault
 
 record LineRow (v : Version) (a : Algorithm) (text : List ℕ) (fault : LineFault) : Type 0 where
   number : ℕ
@@ -98,7 +98,7 @@ as_row v a text Memory utf8 unmarked is = absurd is
 
 -- a line at fault is neither blanks nor does it list a path of its own
 no_row : (v : Version) (a : Algorithm) (text : List ℕ) (fault : LineFault) (row : LineRow v a text fault) → AreBlanks row.line ⊎ IsSomeEntry v a row.line
-    → ((first : ℕ) (path one two : List ℕ) → first < row.number → ListsOn v a text first path one → ListsOn v a text row.number path two → ⊥) → ⊥
+    → ((first : ℕ) (path one two : List ℕ) → first < row.number → ListsOn (as_manifest v a text) first path one → ListsOn (as_manifest v a text) row.number path two → ⊥) → ⊥
 no_row v a text fault row (inl blank) once = true≢false (sym blank ∙ row.reached.full)
 no_row v a text fault row (inr (p, sum, is)) once = of_row row.row
   where
@@ -177,7 +177,7 @@ fault_is_refused v a text Memory is = absurd is
 -- ---- the entries
 
 -- each entry is what its line lists
-pub entry_is_listed : (v : Version) (a : Algorithm) (text : List ℕ) (es : Entries) (path : List ℕ) (entry : Entry) → manifest_of v a text ≡ Ok es → Contains es (path, entry) → LineLists v a text entry.line path entry.checksum
+pub entry_is_listed : (v : Version) (a : Algorithm) (text : List ℕ) (es : Entries) (path : List ℕ) (entry : Entry) → manifest_of v a text ≡ Ok es → Contains es (path, entry) → LineLists (as_manifest v a text) entry.line path entry.checksum
 unfolding IsOutcome
 entry_is_listed v a text es path entry e has =
     let outcome = subst (λ (r : Result Entries LineFault). IsOutcome v a text r) e (manifest_outcome v a text) in
@@ -197,7 +197,7 @@ abbrev pub HasRead : Entries → List ℕ → Checksum → ℕ → Type 0
 HasRead es path checksum line = (is_decoded : Bool) × Contains es (path, record { checksum = checksum; line = line; is_decoded = is_decoded })
 
 -- what a line lists is an entry
-pub listed_is_entry : (v : Version) (a : Algorithm) (text : List ℕ) (es : Entries) (number : ℕ) (path : List ℕ) (checksum : Checksum) → manifest_of v a text ≡ Ok es → LineLists v a text number path checksum → HasRead es path checksum number
+pub listed_is_entry : (v : Version) (a : Algorithm) (text : List ℕ) (es : Entries) (number : ℕ) (path : List ℕ) (checksum : Checksum) → manifest_of v a text ≡ Ok es → LineLists (as_manifest v a text) number path checksum → HasRead es path checksum number
 unfolding IsOutcome
 listed_is_entry v a text es number path checksum e (bytes, is, (line, at, entry)) =
     let outcome = subst (λ (r : Result Entries LineFault). IsOutcome v a text r) e (manifest_outcome v a text) in
@@ -213,7 +213,7 @@ listed_is_entry v a text es number path checksum e (bytes, is, (line, at, entry)
     )
 
 -- an entry of a path, with its checksum and its line, is what the line lists
-pub entries_iff : (v : Version) (a : Algorithm) (text : List ℕ) (es : Entries) (path : List ℕ) (checksum : Checksum) (number : ℕ) → manifest_of v a text ≡ Ok es → HasRead es path checksum number ↔ LineLists v a text number path checksum
+pub entries_iff : (v : Version) (a : Algorithm) (text : List ℕ) (es : Entries) (path : List ℕ) (checksum : Checksum) (number : ℕ) → manifest_of v a text ≡ Ok es → HasRead es path checksum number ↔ LineLists (as_manifest v a text) number path checksum
 entries_iff v a text es path checksum number e =
     (λ h. entry_is_listed v a text es path (record { checksum = checksum; line = number; is_decoded = h.0 }) e h.1, λ l. listed_is_entry v a text es number path checksum e l)
 
@@ -225,13 +225,13 @@ entries_ascend v a text es e = (subst (λ (r : Result Entries LineFault). IsOutc
 -- ---- some line of the text
 
 -- some line has a number
-lists_on : (v : Version) (a : Algorithm) (text path checksum : List ℕ) → Lists v a text path checksum → (number : ℕ) × ListsOn v a text number path checksum
+lists_on : (v : Version) (a : Algorithm) (text path checksum : List ℕ) → Lists v a text path checksum → (number : ℕ) × ListsOn (as_manifest v a text) number path checksum
 lists_on v a text path checksum (line, (k, within, is), entry) =
     let n : suc k - 1 ≡ k = omega arith in
     (suc k, (line, (omega arith, rw n (slice_get_read (lines text) (length (lines text)) k line refl within (sym is))), entry))
 
 -- the line of a number is some line
-on_lists : (v : Version) (a : Algorithm) (text path checksum : List ℕ) (number : ℕ) → ListsOn v a text number path checksum → Lists v a text path checksum
+on_lists : (v : Version) (a : Algorithm) (text path checksum : List ℕ) (number : ℕ) → ListsOn (as_manifest v a text) number path checksum → Lists v a text path checksum
 on_lists v a text path checksum number (line, at, entry) =
     (line, (number - 1, slice_get_within (lines text) (number - 1) line at.1, get_or_from_slice_get (lines text) (number - 1) line line at.1), entry)
 
@@ -319,7 +319,7 @@ module _ (v : Version) (a : Algorithm) (t : List ℕ) where
       by_fault (inr e) = let read = manifest_is_read v a t is in absurd (never_both read.0 fault (manifest_of v a t) read.1 e)
 
   -- the entries are what the lines list
-  pub says_lists : (r : Result Manifest LineFault) → Gives named_line_fault entries_in r (manifest_of v a t) → IfOk r (λ m. (path : List ℕ) (checksum : Checksum) (line : ℕ) → HasEntry m path checksum line ↔ LineLists v a t line path checksum)
+  pub says_lists : (r : Result Manifest LineFault) → Gives named_line_fault entries_in r (manifest_of v a t) → IfOk r (λ m. (path : List ℕ) (checksum : Checksum) (line : ℕ) → HasEntry m path checksum line ↔ LineLists (as_manifest v a t) line path checksum)
   says_lists (Ok m) g = λ path checksum line.
       let both = entries_iff v a t (entries_in m) path checksum line g in
       (λ h. both.0 (entry_has_read m path checksum line h), λ l. read_has_entry m path checksum line (both.1 l))

@@ -19,7 +19,7 @@ use Rattle.bag_text.specs.declared.listing.LineFault.TheVariants.{NotUtf8, ByteO
 use Rattle.bag_text.specs.Text.{is_blank, AreBlanks, has_mark, begins_with}
 use Rattle.bag_text.specs.Lines.{lines}
 use Rattle.bag_text.specs.Paths.{GoodPath, is_good}
-use Rattle.bag_text.specs.Manifest.{Spells, decode, has_coded, size_of, checksum_of, IsEntry, LineIs, ListsOn, IsSoundBefore, AscendingPaths, sum_text, path_text, IsReached, ManifestFault}
+use Rattle.bag_text.specs.Manifest.{Spells, decode, has_coded, size_of, checksum_of, IsEntry, LineIs, as_manifest, ListsOn, IsSoundBefore, AscendingPaths, sum_text, path_text, IsReached, ManifestFault}
 use Rattle.bag_text.specs.Answers.{◌>>=◌}
 use Rattle.bag_text.specs.ManifestReading.{Entry, Entries, checksum_in, path_of, entry_of, is_listed, add_line_of, entries_of, manifest_of}
 use Rattle.bag_text.proofs.ResultLemmas.{ok_is}
@@ -168,7 +168,7 @@ module _ (v : Version) (a : Algorithm) (text : List ℕ) (ls more : List (List �
   back : (n : ℕ) (line : List ℕ) → n < length ls + 1 → LineIs text n line → At ls n line
   back n line lt at = at_back ls more n line lt (subst (λ (x : List (List ℕ)). At x n line) is at)
 
-  lists_back : (n : ℕ) (path checksum : List ℕ) → n < length ls + 1 → ListsOn v a text n path checksum → ListsAt v a ls n path checksum
+  lists_back : (n : ℕ) (path checksum : List ℕ) → n < length ls + 1 → ListsOn (as_manifest v a text) n path checksum → ListsAt v a ls n path checksum
   lists_back n path checksum lt (line, at, entry) = (line, back n line lt at, entry)
 
   lists_front : (n : ℕ) (line : List ℕ) → At ls n line → LineIs text n line

@@ -80,8 +80,18 @@ pub record IsEntry (v : Version) (a : Algorithm) (line path checksum : List ℕ)
 abbrev pub LineIs : List ℕ → ℕ → List ℕ → Type 0
 LineIs text number line = (1 ≤ number) × (slice_get (lines text) (number - 1) ≡ Some line)
 
-abbrev pub ListsOn : Version → Algorithm → List ℕ → ℕ → List ℕ → List ℕ → Type 0
-ListsOn v a text number path checksum = (line : List ℕ) × LineIs text number line × IsEntry v a line path checksum
+-- a text, and the version and the algorithm by which it is read as a manifest
+pub record ManifestText : Type 0 where
+  pub version : Version
+  pub algorithm : Algorithm
+  pub text : List ℕ
+
+abbrev pub as_manifest : Version → Algorithm → List ℕ → ManifestText
+as_manifest v a text = record { version = v; algorithm = a; text = text }
+
+-- the line of this number lists the path with these bytes of a checksum
+abbrev pub ListsOn : ManifestText → ℕ → List ℕ → List ℕ → Type 0
+ListsOn m number path checksum = (line : List ℕ) × LineIs m.text number line × IsEntry m.version m.algorithm line path checksum
 
 -- the checksum of an algorithm with these bytes
 abbrev pub checksum_of : Algorithm → List ℕ → Checksum
@@ -89,8 +99,8 @@ checksum_of Sha256 bytes = sum.Sha256 bytes
 checksum_of Sha512 bytes = sum.Sha512 bytes
 
 -- the line of this number lists the path with the checksum, the algorithm and its bytes
-abbrev pub LineLists : Version → Algorithm → List ℕ → ℕ → List ℕ → Checksum → Type 0
-LineLists v a text number path checksum = (bytes : List ℕ) × (checksum ≡ checksum_of a bytes) × ListsOn v a text number path bytes
+abbrev pub LineLists : ManifestText → ℕ → List ℕ → Checksum → Type 0
+LineLists m number path checksum = (bytes : List ℕ) × (checksum ≡ checksum_of m.algorithm bytes) × ListsOn m number path bytes
 
 -- some line lists the path with the checksum
 abbrev pub Lists : Version → Algorithm → List ℕ → List ℕ → List ℕ → Type 0
@@ -99,7 +109,7 @@ Lists v a text path checksum = (line : List ℕ) × Contains (lines text) line �
 -- the lines before this one are blanks or list a path, each another
 pub record IsSoundBefore (v : Version) (a : Algorithm) (text : List ℕ) (end : ℕ) : Type 0 where
   pub each : (number : ℕ) (line : List ℕ) → number < end → LineIs text number line → AreBlanks line ⊎ ((path : List ℕ) × (checksum : List ℕ) × IsEntry v a line path checksum)
-  pub once : (first second : ℕ) (path one two : List ℕ) → first < second → second < end → ListsOn v a text first path one → ListsOn v a text second path two → ⊥
+  pub once : (first second : ℕ) (path one two : List ℕ) → first < second → second < end → ListsOn (as_manifest v a text) first path one → ListsOn (as_manifest v a text) second path two → ⊥
 
 -- paths that ascend: each comes before all that follow it
 abbrev pub AscendingPaths : List (List ℕ) → Type 0
@@ -111,7 +121,7 @@ pub record IsManifest (v : Version) (a : Algorithm) (text : List ℕ) : Type 0 w
   pub utf8 : is_utf8 text ≡ true
   pub unmarked : has_mark text ≡ false
   pub each : (number : ℕ) (line : List ℕ) → LineIs text number line → AreBlanks line ⊎ ((path : List ℕ) × (checksum : List ℕ) × IsEntry v a line path checksum)
-  pub once : (first second : ℕ) (path one two : List ℕ) → first < second → ListsOn v a text first path one → ListsOn v a text second path two → ⊥
+  pub once : (first second : ℕ) (path one two : List ℕ) → first < second → ListsOn (as_manifest v a text) first path one → ListsOn (as_manifest v a text) second path two → ⊥
 
 -- ---- the faults
 
@@ -144,5 +154,5 @@ ManifestFault v a text (BadPath number) =
     × ((begins_with 42 (path_text line) ≡ true) ⊎ ((path : List ℕ) × Spells v (path_text line) path × (GoodPath path → ⊥)))
 ManifestFault v a text (ListedTwice number) =
     (line : List ℕ) × IsReached v a text number line
-    × ((first : ℕ) × (path : List ℕ) × (one : List ℕ) × (two : List ℕ) × (first < number) × ListsOn v a text first path one × IsEntry v a line path two)
+    × ((first : ℕ) × (path : List ℕ) × (one : List ℕ) × (two : List ℕ) × (first < number) × ListsOn (as_manifest v a text) first path one × IsEntry v a line path two)
 ManifestFault v a text Memory = ⊥

@@ -3,7 +3,7 @@
 ghost use Rattle.std.specs.Prelude.{◌≡◌};
 ghost use Rattle.bag_text.specs.declared.bag_info.InfoFault.TheVariants.{Memory};
 
-use std::alloc::{AllocError, AllocFailed, Global};
+use std::alloc::{AllocError, Global};
 use std::borrow::CowStr;
 
 /// What `bag-info.txt` says: its labels and values, in order. A label is a slice of the text, and so is a value
@@ -35,14 +35,6 @@ impl From<AllocError> for InfoFault {
     ghost from_gives = { λ _ e. e ≡ Memory };
 
     fn from(_e: AllocError) -> InfoFault {
-        InfoFault::Memory
-    }
-}
-
-impl<T: Drop> From<AllocFailed<T>> for InfoFault {
-    ghost from_gives = { λ _ e. e ≡ Memory };
-
-    fn from(_e: AllocFailed<T>) -> InfoFault {
         InfoFault::Memory
     }
 }

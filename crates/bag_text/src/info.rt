@@ -100,7 +100,9 @@ fn continue_last<'a>(
         return Err(InfoFault::StrayContinuation(number));
     };
     let value = join_line(alloc, value, line)?;
-    pairs.push((label, value))?;
+    let Ok(()) = pairs.push((label, value)) else {
+        return Err(InfoFault::Memory);
+    };
     Ok(())
 }
 
@@ -137,7 +139,9 @@ fn add_line<'a>(
         return continue_last(alloc, number, text_of(rest), pairs);
     }
     let (label, value) = read_pair(number, line)?;
-    pairs.push((label, CowStr::Borrowed(value)))?;
+    let Ok(()) = pairs.push((label, CowStr::Borrowed(value))) else {
+        return Err(InfoFault::Memory);
+    };
     Ok(())
 }
 

@@ -6,7 +6,7 @@ ghost use Rattle.bag_text.specs.Lines.{AreLines, lines};
 ghost use Rattle.bag_text.specs.Paths.{GoodPath, is_good, path_fault};
 ghost use Rattle.bag_text.specs.Declaration.{Declares, declaration_fault};
 ghost use Rattle.bag_text.specs.DeclarationReading.{declaration_of};
-ghost use Rattle.bag_text.specs.Manifest.{Spells, decode, IsManifest, ManifestFault, LineLists};
+ghost use Rattle.bag_text.specs.Manifest.{Spells, decode, IsManifest, ManifestFault, as_manifest, LineLists};
 ghost use Rattle.bag_text.specs.ManifestReading.{Entries, manifest_of};
 ghost use Rattle.bag_text.specs.BagInfo.{Pair, SaysInfo, InfoFaultIs};
 ghost use Rattle.bag_text.specs.InfoReading.{info_of};
@@ -107,5 +107,5 @@ pub fn manifests()
         → ((is_decoded : Bool)
         × Contains es
         (path, record { checksum = checksum; line = number; is_decoded = is_decoded }))
-        ↔ LineLists v a text number path checksum }
+        ↔ LineLists (as_manifest v a text) number path checksum }
 {}

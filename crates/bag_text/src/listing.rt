@@ -4,7 +4,7 @@ ghost use Rattle.std.specs.Prelude.{◌≡◌};
 ghost use Rattle.bag_text.specs.declared.listing.LineFault.TheVariants.{Memory};
 
 use crate::checksum::Checksum;
-use std::alloc::{AllocError, AllocFailed, Global};
+use std::alloc::{AllocFailed, Global};
 use std::borrow::CowStr;
 use std::collections::BTreeMap;
 
@@ -43,14 +43,6 @@ pub enum LineFault {
     ListedTwice(usize),
     /// L7: memory ran out.
     Memory,
-}
-
-impl From<AllocError> for LineFault {
-    ghost from_gives = { λ _ e. e ≡ Memory };
-
-    fn from(_e: AllocError) -> LineFault {
-        LineFault::Memory
-    }
 }
 
 impl<T: Drop> From<AllocFailed<T>> for LineFault {

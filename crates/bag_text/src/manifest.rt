@@ -16,7 +16,7 @@ ghost use Rattle.bag_text.specs.declared.checksum.Checksum.{Checksum};
 ghost use Rattle.bag_text.specs.declared.listing.Listing.{Listing};
 ghost use Rattle.bag_text.specs.declared.listing.LineFault.{LineFault};
 ghost use Rattle.bag_text.specs.declared.listing.LineFault.TheVariants.{Memory};
-ghost use Rattle.bag_text.specs.Manifest.{path_text, LineIs, LineLists, IsManifest, AscendingPaths, ManifestFault};
+ghost use Rattle.bag_text.specs.Manifest.{path_text, LineIs, as_manifest, LineLists, IsManifest, AscendingPaths, ManifestFault};
 ghost use Rattle.bag_text.specs.ManifestReading.{entries_in, paths_of, listing_at, HasEntry, HasPath};
 
 use crate::checksum::{Algorithm, Checksum};
@@ -185,14 +185,17 @@ fn read_line<'a>(
     if spelled.is_empty() {
         return Err(LineFault::NoPath(number));
     }
-    let path = read_path(alloc, version, spelled)?.ok_or(LineFault::BadPath(number))?;
-    Ok((
-        path,
-        Listing {
-            checksum,
-            line: number,
-        },
-    ))
+    match read_path(alloc, version, spelled) {
+        Ok(Some(path)) => Ok((
+            path,
+            Listing {
+                checksum,
+                line: number,
+            },
+        )),
+        Ok(None) => Err(LineFault::BadPath(number)),
+        Err(_) => Err(LineFault::Memory),
+    }
 }
 
 /// Adds what a line lists.
@@ -278,7 +281,8 @@ pub fn read_manifest<'a>(
 
     // A path, a checksum and a line are an entry exactly where that line lists the path with the checksum.
     ensures lists { IfOk result (λ m. (path : List ℕ) (checksum : Checksum) (line : ℕ)
-        → HasEntry m path checksum line ↔ LineLists version algorithm text.now line path checksum) }
+        → HasEntry m path checksum line
+        ↔ LineLists (as_manifest version algorithm text.now) line path checksum) }
     ensures ascending { IfOk result (λ m. AscendingPaths (paths_of m)) }
 
     // A path is borrowed exactly where no coded triple stands in its spelling.

@@ -22,4 +22,4 @@ returns-then-is_continuation-clause-value c =
 
 pub returns-clause-marked : goal.returns-clause-marked
 returns-clause-marked c =
-    λ no_end all. marked_more c.args.pairs.now.items c.push.new.self.items _ c.in_ok-push.ensures.items (sym (pair_feed c.args.number c.args.line.now _ c.in_ok-label.ensures no_end)) all
+    λ no_end all. marked_more c.args.pairs.now.items c.push.new.self.items _ c.in-Ok.ensures.items (sym (pair_feed c.args.number c.args.line.now _ c.in_ok-label.ensures no_end)) all
