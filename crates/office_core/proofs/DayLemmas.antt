@@ -1,5 +1,5 @@
 -- Days: one date has one text, and the numbers of the days.
-use Rattle.std.proofs.Common.{◌≡◌, ◌==◌, ◌&&◌, ◌||◌, not, Bool, true, false, if◌then◌else◌, ℕ, Some, ◌+◌, ◌*◌, ◌/◌, ◌%◌, ◌<◌, ◌≤◌, ◌++◌, ◌∷◌, [], List, ℤ, pos, negsuc, neg_ℤ, ◌≤ℤ◌, unsigned_abs, refl, sym, ap, ◌∙◌, inl, arith, rules}
+use Rattle.std.proofs.Common.{◌≡◌, ◌==◌, ◌&&◌, ◌||◌, not, Bool, true, false, if◌then◌else◌, ℕ, Some, ◌+◌, ◌*◌, ◌/◌, ◌%◌, ◌<◌, ◌≤◌, ◌++◌, ◌∷◌, [], List, ℤ, pos, negsuc, neg_ℤ, ◌≤ℤ◌, unsigned_abs, refl, sym, ap, subst, ◌∙◌, inl, arith, rules}
 use Rattle.std.proofs.lemmas.Int.{by_lt_z}
 use Rattle.std.proofs.Props.{props}
 use mathlib.Core.HLevel.{is_prop→PathP}
@@ -88,18 +88,25 @@ assembled : (a b c d x e f y g h k l m n : ℕ) → x ≡ 45 → y ≡ 45 → (a
     → a ∷ b ∷ c ∷ d ∷ x ∷ e ∷ f ∷ y ∷ g ∷ h ∷ [] ≡ parts_text (k, l, m, n)
 assembled a b c d x e f y g h k l m n p q s t u v = rw (p, q, s.0, s.1, t.0, t.1, u.0, u.1, v.0, v.1)
 
--- what is read is what the text writes
-pub text_of_parts : (t : List ℕ) (p : ℕ × ℕ × ℕ × ℕ) → day_parts t ≡ Some p → t ≡ parts_text p
-text_of_parts (a ∷ b ∷ c ∷ d ∷ x ∷ e ∷ f ∷ y ∷ g ∷ h ∷ []) p is =
+-- the parts of ten bytes are the numbers that each two digits make
+pub parts_of_bytes : (a b c d x e f y g h : ℕ) (p : ℕ × ℕ × ℕ × ℕ) → day_parts (a ∷ b ∷ c ∷ d ∷ x ∷ e ∷ f ∷ y ∷ g ∷ h ∷ []) ≡ Some p
+    → (((x == 45) && (y == 45)) ≡ true) × (number_of a b ≡ Some p.0) × (number_of c d ≡ Some p.1) × (number_of e f ≡ Some p.2) × (number_of g h ≡ Some p.3)
+parts_of_bytes a b c d x e f y g h p is =
     let whole = some_if ((x == 45) && (y == 45)) _ p is in
     let century = some_and_then (number_of a b) _ p whole.1 in
     let year = some_and_then (number_of c d) _ p century.2 in
     let month = some_and_then (number_of e f) _ p year.2 in
     let day = some_and_then (number_of g h) _ p month.2 in
     let all : (century.0, year.0, month.0, day.0) ≡ p = same_Some _ _ day.2 in
-    assembled a b c d x e f y g h _ _ _ _ (grind (arith, rules, whole.0)) (grind (arith, rules, whole.0))
-    (digits-number a b century.0 century.1) (digits-number c d year.0 year.1) (digits-number e f month.0 month.1) (digits-number g h day.0 day.1)
-    ∙ ap parts_text all
+    subst (λ (q : ℕ × ℕ × ℕ × ℕ). (((x == 45) && (y == 45)) ≡ true) × (number_of a b ≡ Some q.0) × (number_of c d ≡ Some q.1) × (number_of e f ≡ Some q.2) × (number_of g h ≡ Some q.3)) all
+    (whole.0, century.1, year.1, month.1, day.1)
+
+-- what is read is what the text writes
+pub text_of_parts : (t : List ℕ) (p : ℕ × ℕ × ℕ × ℕ) → day_parts t ≡ Some p → t ≡ parts_text p
+text_of_parts (a ∷ b ∷ c ∷ d ∷ x ∷ e ∷ f ∷ y ∷ g ∷ h ∷ []) p is =
+    let are = parts_of_bytes a b c d x e f y g h p is in
+    assembled a b c d x e f y g h p.0 p.1 p.2 p.3 (grind (arith, rules, are.0)) (grind (arith, rules, are.0))
+    (digits-number a b p.0 are.1) (digits-number c d p.1 are.2) (digits-number e f p.2 are.3) (digits-number g h p.3 are.4)
 text_of_parts _ p is = cc
 
 pub year_pos : (y : ℤ) → first_year ≤ℤ y → y ≡ pos (unsigned_abs y)

@@ -10,7 +10,7 @@ use Rattle.office_core.specs.FirstOf.{◌>>=◌}
 use Rattle.office_core.specs.Days.{first_year, last_year, IsDay, day_text}
 use Rattle.office_core.specs.DayReading.{number_of, day_parts, where_so, date_of, day_of_date, day_of}
 use Rattle.office_core.proofs.OptionLemmas.{some_if, some_and_then}
-use Rattle.office_core.proofs.DayLemmas.{year_pos, parts_of-day, text_of_parts, text_are}
+use Rattle.office_core.proofs.DayLemmas.{year_pos, parts_of_bytes, parts_of-day, text_of_parts, text_are}
 use Rattle.office_core.proofs.DueLemmas.{date_of_parts}
 
 -- ---- a day's text gives the day
@@ -55,14 +55,7 @@ unfolding number_of
 number_below a b n e = grind (arith, rules, e)
 
 parts_below : (t : List ℕ) (p : ℕ × ℕ × ℕ × ℕ) → day_parts t ≡ Some p → p.1 < 100
-parts_below (a ∷ b ∷ c ∷ d ∷ x ∷ e ∷ f ∷ y ∷ g ∷ h ∷ []) p is =
-    let whole = some_if ((x == 45) && (y == 45)) _ p is in
-    let century = some_and_then (number_of a b) _ p whole.1 in
-    let year = some_and_then (number_of c d) _ p century.2 in
-    let month = some_and_then (number_of e f) _ p year.2 in
-    let day = some_and_then (number_of g h) _ p month.2 in
-    let all : (century.0, year.0, month.0, day.0) ≡ p = same_Some _ _ day.2 in
-    subst (λ (q : ℕ × ℕ × ℕ × ℕ). q.1 < 100) all (number_below c d year.0 year.1)
+parts_below (a ∷ b ∷ c ∷ d ∷ x ∷ e ∷ f ∷ y ∷ g ∷ h ∷ []) p is = number_below c d p.1 (parts_of_bytes a b c d x e f y g h p is).2
 parts_below _ p is = cc
 
 day_in_office : (date day : Date) → day_of_date date ≡ Some day → IsDay date × (date ≡ day)

@@ -25,7 +25,7 @@ mod rule_reading;
 mod sequence;
 mod text;
 mod text_kind;
-mod tree;
+pub mod tree;
 
 pub use action::Action;
 pub use answer::{Answer, AuditReport, DepositRecord, LiveHold, Scope};
@@ -42,6 +42,7 @@ pub use names::{
 };
 pub use policy::{MAX_CALLERS, MAX_RULES, Policy, may_have_days, or_stranger, read_policy};
 pub use policy_fault::PolicyFault;
+pub use policy_reading::has_days;
 pub use refusal::{Refusal, Subject};
 pub use request::Request;
 pub use retention::{Due, MAX_YEARS, Years};

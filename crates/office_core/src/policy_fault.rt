@@ -4,7 +4,7 @@ ghost use Rattle.std.specs.Prelude.{◌≡◌, Some};
 ghost use Rattle.office_core.specs.FaultTexts.{policy_fault_text};
 ghost use Rattle.office_core.specs.declared.policy_fault.PolicyFault.TheVariants.{Memory};
 
-use std::alloc::{AllocError, AllocFailed};
+use std::alloc::AllocFailed;
 use std::error::Error;
 use std::fmt;
 
@@ -26,14 +26,6 @@ pub enum PolicyFault {
     TooMany,
     /// Y7: a growth was refused.
     Memory,
-}
-
-impl From<AllocError> for PolicyFault {
-    ghost from_gives = { λ _ e. e ≡ Memory };
-
-    fn from(_e: AllocError) -> PolicyFault {
-        PolicyFault::Memory
-    }
 }
 
 impl<T: Drop> From<AllocFailed<T>> for PolicyFault {

@@ -66,9 +66,12 @@ fn read_name(alloc: Global, text: &str) -> Result<OwnedName, PolicyFault>
     ensures { Gives named_policy_fault (λ name. name) result
         (if is_name text.now then Ok text.now else Err BadCaller) }
 {
-    match Name::read(text) {
-        Some(name) => Ok(name.to_owned(alloc)?),
-        None => Err(PolicyFault::BadCaller),
+    let Some(name) = Name::read(text) else {
+        return Err(PolicyFault::BadCaller);
+    };
+    match name.to_owned(alloc) {
+        Ok(name) => Ok(name),
+        Err(_) => Err(PolicyFault::Memory),
     }
 }
 

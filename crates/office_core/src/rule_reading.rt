@@ -1,9 +1,9 @@
 //! Reading one rule of a policy file.
 
-ghost use Rattle.std.specs.Prelude.{◌≡◌, option_copied};
+ghost use Rattle.std.specs.Prelude.{◌≡◌};
 ghost use Rattle.std.specs.List.{list_all};
 ghost use Rattle.toml.specs.View.{view, table_view};
-ghost use Rattle.office_core.specs.Policies.{text_at, effect_at, action_at, pattern_at, day_at, days_at, effect_in, pattern_in, action_pattern_in, rule_keys, keys_of_rule, is_one_of, entries, rule_of, rule_in};
+ghost use Rattle.office_core.specs.Policies.{effect_at, action_at, pattern_at, days_at, effect_in, pattern_in, action_pattern_in, keys_of_rule, is_one_of, entries, rule_of, rule_in};
 ghost use Rattle.office_core.specs.PolicyReading.{Reads};
 
 use crate::action::Action;
@@ -11,18 +11,9 @@ use crate::day::Day;
 use crate::names::Name;
 use crate::rule::{ActionPattern, Effect, Pattern, Rule};
 use crate::rule_flaw::RuleFlaw;
-use crate::tree::value_at;
+use crate::tree::{day_at, may_have_key, text_at};
 use std::alloc::Global;
 use toml::{Table, Value};
-
-fn text_at<'a>(table: &'a Table, key: &str) -> Option<&'a str>
-    ensures { option_copied result ≡ text_at key.now (table_view table.now) }
-{
-    match value_at(table, key) {
-        Some(value) => value.as_str(),
-        None => None,
-    }
-}
 
 fn read_effect(text: &str) -> Option<Effect>
     ensures { result ≡ effect_in text.now }
@@ -54,9 +45,12 @@ fn read_pattern(alloc: Global, text: &str) -> Result<Pattern, RuleFlaw>
     if text == "*" {
         return Ok(Pattern::Any);
     }
-    match Name::read(text) {
-        Some(name) => Ok(Pattern::Named(name.to_owned(alloc)?)),
-        None => Err(RuleFlaw::Bad),
+    let Some(name) = Name::read(text) else {
+        return Err(RuleFlaw::Bad);
+    };
+    match name.to_owned(alloc) {
+        Ok(name) => Ok(Pattern::Named(name)),
+        Err(_) => Err(RuleFlaw::Memory),
     }
 }
 
@@ -81,19 +75,6 @@ fn pattern_at(alloc: Global, table: &Table, key: &str) -> Result<Pattern, RuleFl
     }
 }
 
-fn is_rule_key(key: &str) -> bool
-    ensures { result ≡ is_one_of rule_keys key.now }
-{
-    key == "effect" || key == "role" || key == "action" || key == "collection" || key == "class"
-}
-
-/// Whether a rule may have the key, where rules have days or don't.
-fn may_have_key(with_days: bool, key: &str) -> bool
-    ensures { result ≡ is_one_of (keys_of_rule with_days) key.now }
-{
-    is_rule_key(key) || (with_days && (key == "first" || key == "last"))
-}
-
 fn has_rule_keys(with_days: bool, table: &Table) -> bool
     ensures { result
         ≡ list_all (λ entry.
@@ -105,15 +86,6 @@ fn has_rule_keys(with_days: bool, table: &Table) -> bool
         }
     }
     true
-}
-
-fn day_at(table: &Table, key: &str, otherwise: Day) -> Option<Day>
-    ensures { result ≡ day_at key.now otherwise (table_view table.now) }
-{
-    match value_at(table, key) {
-        Some(value) => Day::read(value.as_str()?),
-        None => Some(otherwise),
-    }
 }
 
 /// The first day on which a rule counts, and the last, which isn't before it.
