@@ -25,12 +25,16 @@ likeness bytes =
     else if has_tar_mark bytes then Some Tar
     else None
 
+-- what is said of a file that looks like one of this kind
+abbrev pub looks_like : List ℕ → List ℕ
+looks_like kind = codes "this looks like " ++ (kind ++ codes "; a bag's transfer form is wanted, which depot pack makes of a folder")
+
 abbrev pub other_file_words : OtherFile → List ℕ
 other_file_words Folder = codes "this is a folder; a bag's transfer form is wanted, which depot pack makes of it"
-other_file_words Zip = codes "this looks like a zip file; a bag's transfer form is wanted, which depot pack makes of a folder"
-other_file_words Gzip = codes "this looks like a gzip file; a bag's transfer form is wanted, which depot pack makes of a folder"
-other_file_words Tar = codes "this looks like a tar file; a bag's transfer form is wanted, which depot pack makes of a folder"
-other_file_words Declaration = codes "this looks like a bag's bagit.txt; a bag's transfer form is wanted, which depot pack makes of a folder"
+other_file_words Zip = looks_like (codes "a zip file")
+other_file_words Gzip = looks_like (codes "a gzip file")
+other_file_words Tar = looks_like (codes "a tar file")
+other_file_words Declaration = looks_like (codes "a bag's bagit.txt")
 other_file_words ChangedForm = codes "this looks like a transfer form whose line ends were changed; a form is carried byte for byte"
 
 -- ---- what is said of a form that is refused

@@ -11,8 +11,9 @@ ghost use Rattle.fault_words.specs.PolicyReasons.{IsPolicyReason, bad_caller, ca
 
 use crate::in_words::InWords;
 use crate::place::Place;
-use crate::rule_place::{rule_place, value_at};
+use crate::rule_place::rule_place;
 use crate::toml_line::{line_place, tree_in};
+use office_core::tree::value_at;
 use office_core::{Name, PolicyFault};
 use std::alloc::{AllocError, Global};
 use std::fmt::Write;

@@ -1,35 +1,18 @@
 //! The key of a rule that is at fault.
 
-ghost use Rattle.std.specs.Prelude.{◌≡◌, [], Some, is_some, option_copied, option_map};
+ghost use Rattle.std.specs.Prelude.{◌≡◌, [], Some, is_some, option_copied};
 ghost use Rattle.std.specs.Option.{option_map_or};
-ghost use Rattle.toml.specs.Data.{get_member};
 ghost use Rattle.toml.specs.View.{array_view, table_view, view};
-ghost use Rattle.office_core.specs.Policies.{action_at, action_pattern_in, day_at, effect_at, effect_in, elements, has_days, is_one_of, keys_of_rule, pattern_at, pattern_in, rule_keys, text_at};
+ghost use Rattle.office_core.specs.Policies.{action_at, action_pattern_in, effect_at, effect_in, elements, pattern_at, pattern_in};
 ghost use Rattle.office_core.specs.declared.policy_fault.PolicyFault.TheVariants.{BadRule};
 ghost use Rattle.fault_words.specs.Places.{place_words};
 ghost use Rattle.fault_words.specs.PolicyReasons.{bad_day_key, bad_rule_key, key_words, numbered_key, place_in, rule_key, unknown_rule_key, value_key};
 
 use crate::place::Place;
-use office_core::{Action, Day, Name};
+use office_core::tree::{day_at, may_have_key, text_at, value_at};
+use office_core::{Action, Day, Name, has_days};
 use toml::value::Array;
 use toml::{Table, Value};
-
-/// The value of a key, where the table has it.
-pub fn value_at<'a>(table: &'a Table, key: &str) -> Option<&'a Value>
-    ensures { option_map (λ value. view value.now) result
-        ≡ get_member key.now (table_view table.now) }
-{
-    table.get(key)
-}
-
-fn text_at<'a>(table: &'a Table, key: &str) -> Option<&'a str>
-    ensures { option_copied result ≡ text_at key.now (table_view table.now) }
-{
-    match value_at(table, key) {
-        Some(value) => value.as_str(),
-        None => None,
-    }
-}
 
 fn is_effect(text: &str) -> bool
     ensures { result ≡ is_some (effect_in text.now) }
@@ -76,19 +59,6 @@ fn has_pattern(rule: &Table, key: &str) -> bool
     }
 }
 
-fn is_rule_key(key: &str) -> bool
-    ensures { result ≡ is_one_of rule_keys key.now }
-{
-    key == "effect" || key == "role" || key == "action" || key == "collection" || key == "class"
-}
-
-/// Whether a rule may have the key, where rules have days or don't.
-fn may_have_key(with_days: bool, key: &str) -> bool
-    ensures { result ≡ is_one_of (keys_of_rule with_days) key.now }
-{
-    is_rule_key(key) || (with_days && (key == "first" || key == "last"))
-}
-
 fn unknown_rule_key(with_days: bool, rule: &Table) -> Option<&str>
     ensures { option_copied result ≡ unknown_rule_key with_days (table_view rule.now) }
 {
@@ -98,16 +68,6 @@ fn unknown_rule_key(with_days: bool, rule: &Table) -> Option<&str>
         }
     }
     None
-}
-
-/// The day at a key, or the one that is given where the key isn't there.
-fn day_at(rule: &Table, key: &str, otherwise: Day) -> Option<Day>
-    ensures { result ≡ day_at key.now otherwise (table_view rule.now) }
-{
-    match value_at(rule, key) {
-        Some(value) => Day::read(value.as_str()?),
-        None => Some(otherwise),
-    }
 }
 
 /// The key of a day that is none, or of a first day after the last.
@@ -185,16 +145,6 @@ fn key_place(key: Option<&str>) -> Place<'_>
     match key {
         Some(key) => Place::Key(key),
         None => Place::Nowhere,
-    }
-}
-
-/// Whether the rules of the policy may have days.
-fn has_days(tree: &Table) -> bool
-    ensures { result ≡ has_days (table_view tree.now) }
-{
-    match value_at(tree, "version") {
-        Some(value) => value.as_integer() == Some(2),
-        None => false,
     }
 }
 
