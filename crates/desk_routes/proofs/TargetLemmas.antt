@@ -4,21 +4,24 @@ use Rattle.std.proofs.lemmas.Bool.Decides.{nat_tests}
 use Rattle.std.specs.List.{position_or_len, before_first, after_first, AllByRecursion}
 use Rattle.desk_routes.specs.Targets.{Splits, path_part, query_part}
 
-pub path-before : (target : List ℕ) → before_first (λ b. b == 63) target ≡ path_part target
-path-before [] = refl
-path-before (b ∷ rest) = by (b == 63) refl (path-before rest)
+-- the parts of a target are what stands before its first question mark, and after it
+parts_cut : (target : List ℕ) → (before_first (λ b. b == 63) target ≡ path_part target) × (after_first (λ b. b == 63) target ≡ query_part target)
+parts_cut [] = (refl, refl)
+parts_cut (b ∷ rest) = by (b == 63) refl (parts_cut rest)
   where
-    by : (v : Bool) → (b == 63) ≡ v → before_first (λ c. c == 63) rest ≡ path_part rest → before_first (λ c. c == 63) (b ∷ rest) ≡ path_part (b ∷ rest)
-    by true e ih = rw e refl
-    by false e ih = let more : 1 + position_or_len (λ c. c == 63) rest ≡ suc (position_or_len (λ c. c == 63) rest) = omega arith in rw (e, more) (ap (λ l. b ∷ l) ih)
+    by : (v : Bool) → (b == 63) ≡ v → (before_first (λ c. c == 63) rest ≡ path_part rest) × (after_first (λ c. c == 63) rest ≡ query_part rest)
+        → (before_first (λ c. c == 63) (b ∷ rest) ≡ path_part (b ∷ rest)) × (after_first (λ c. c == 63) (b ∷ rest) ≡ query_part (b ∷ rest))
+    by true e ih = (rw e refl, rw e refl)
+    by false e ih =
+        let front : 1 + position_or_len (λ c. c == 63) rest ≡ suc (position_or_len (λ c. c == 63) rest) = omega arith in
+        let back : 1 + position_or_len (λ c. c == 63) rest + 1 ≡ suc (position_or_len (λ c. c == 63) rest + 1) = omega arith in
+        (rw (e, front) (ap (λ l. b ∷ l) ih.0), rw (e, back) ih.1)
+
+pub path-before : (target : List ℕ) → before_first (λ b. b == 63) target ≡ path_part target
+path-before target = (parts_cut target).0
 
 pub query-after : (target : List ℕ) → after_first (λ b. b == 63) target ≡ query_part target
-query-after [] = refl
-query-after (b ∷ rest) = by (b == 63) refl (query-after rest)
-  where
-    by : (v : Bool) → (b == 63) ≡ v → after_first (λ c. c == 63) rest ≡ query_part rest → after_first (λ c. c == 63) (b ∷ rest) ≡ query_part (b ∷ rest)
-    by true e ih = rw e refl
-    by false e ih = let more : 1 + position_or_len (λ c. c == 63) rest + 1 ≡ suc (position_or_len (λ c. c == 63) rest + 1) = omega arith in rw (e, more) ih
+query-after target = (parts_cut target).1
 
 -- ---- the parts are those of the relation
 
