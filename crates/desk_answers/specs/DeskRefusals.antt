@@ -9,29 +9,24 @@ use Rattle.desk_answers.specs.Refusals.{name_data}
 use Rattle.desk_answers.specs.declared.status.Status.{Status}
 use Rattle.desk_answers.specs.declared.status.Status.TheVariants as statuses
 
+-- the status of each refusal and its name
+abbrev pub status_and_name : DeskRefusal → Status × List ℕ
+status_and_name TooLarge = (statuses.ContentTooLarge, codes "TooLarge")
+status_and_name Truncated = (statuses.BadRequest, codes "Truncated")
+status_and_name BadHead = (statuses.BadRequest, codes "BadHead")
+status_and_name Chunked = (statuses.BadRequest, codes "Chunked")
+status_and_name BadLength = (statuses.BadRequest, codes "BadLength")
+status_and_name TwoCallers = (statuses.BadRequest, codes "TwoCallers")
+status_and_name NoRoute = (statuses.NotFound, codes "NoRoute")
+status_and_name (WrongMethod pattern) = (statuses.MethodNotAllowed, codes "Method")
+status_and_name BadQuery = (statuses.BadRequest, codes "BadQuery")
+status_and_name BadBody = (statuses.BadRequest, codes "BadBody")
+
 abbrev pub desk_status : DeskRefusal → Status
-desk_status TooLarge = statuses.ContentTooLarge
-desk_status Truncated = statuses.BadRequest
-desk_status BadHead = statuses.BadRequest
-desk_status Chunked = statuses.BadRequest
-desk_status BadLength = statuses.BadRequest
-desk_status TwoCallers = statuses.BadRequest
-desk_status NoRoute = statuses.NotFound
-desk_status (WrongMethod pattern) = statuses.MethodNotAllowed
-desk_status BadQuery = statuses.BadRequest
-desk_status BadBody = statuses.BadRequest
+desk_status refusal = (status_and_name refusal).0
 
 abbrev pub desk_name : DeskRefusal → List ℕ
-desk_name TooLarge = codes "TooLarge"
-desk_name Truncated = codes "Truncated"
-desk_name BadHead = codes "BadHead"
-desk_name Chunked = codes "Chunked"
-desk_name BadLength = codes "BadLength"
-desk_name TwoCallers = codes "TwoCallers"
-desk_name NoRoute = codes "NoRoute"
-desk_name (WrongMethod pattern) = codes "Method"
-desk_name BadQuery = codes "BadQuery"
-desk_name BadBody = codes "BadBody"
+desk_name refusal = (status_and_name refusal).1
 
 abbrev pub desk_data : DeskRefusal → Data
 desk_data refusal = name_data (desk_name refusal)
@@ -45,15 +40,7 @@ methods_text (method ∷ next ∷ more) = method_text method ++ (codes ", " ++ m
 -- RFC 9110, section 10.2.1: the field `Allow` names the methods that the target takes. It stands where the method was wrong (section 15.5.6), and nowhere else.
 abbrev pub allow_fields : DeskRefusal → List (List ℕ × List ℕ)
 allow_fields (WrongMethod pattern) = (codes "Allow", methods_text (methods_of pattern)) ∷ []
-allow_fields TooLarge = []
-allow_fields Truncated = []
-allow_fields BadHead = []
-allow_fields Chunked = []
-allow_fields BadLength = []
-allow_fields TwoCallers = []
-allow_fields NoRoute = []
-allow_fields BadQuery = []
-allow_fields BadBody = []
+allow_fields refusal = []
 
 -- fields, each by its name and its value, on a line of its own
 abbrev pub lines_text : List (List ℕ × List ℕ) → List ℕ

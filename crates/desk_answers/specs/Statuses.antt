@@ -3,31 +3,25 @@ use Rattle.std.specs.Prelude.{ℕ, List, ◌++◌, codes, decimal}
 use Rattle.desk_answers.specs.declared.status.Status.{Status}
 use Rattle.desk_answers.specs.declared.status.Status.TheVariants.{Success, Created, BadRequest, Forbidden, NotFound, MethodNotAllowed, Conflict, Gone, ContentTooLarge, UnprocessableContent, ServiceUnavailable}
 
+-- the code of each status and its reason phrase
+abbrev pub code_and_phrase : Status → ℕ × List ℕ
+code_and_phrase Success = (200, codes "OK")
+code_and_phrase Created = (201, codes "Created")
+code_and_phrase BadRequest = (400, codes "Bad Request")
+code_and_phrase Forbidden = (403, codes "Forbidden")
+code_and_phrase NotFound = (404, codes "Not Found")
+code_and_phrase MethodNotAllowed = (405, codes "Method Not Allowed")
+code_and_phrase Conflict = (409, codes "Conflict")
+code_and_phrase Gone = (410, codes "Gone")
+code_and_phrase ContentTooLarge = (413, codes "Content Too Large")
+code_and_phrase UnprocessableContent = (422, codes "Unprocessable Content")
+code_and_phrase ServiceUnavailable = (503, codes "Service Unavailable")
+
 abbrev pub code_of : Status → ℕ
-code_of Success = 200
-code_of Created = 201
-code_of BadRequest = 400
-code_of Forbidden = 403
-code_of NotFound = 404
-code_of MethodNotAllowed = 405
-code_of Conflict = 409
-code_of Gone = 410
-code_of ContentTooLarge = 413
-code_of UnprocessableContent = 422
-code_of ServiceUnavailable = 503
+code_of status = (code_and_phrase status).0
 
 abbrev pub phrase_of : Status → List ℕ
-phrase_of Success = codes "OK"
-phrase_of Created = codes "Created"
-phrase_of BadRequest = codes "Bad Request"
-phrase_of Forbidden = codes "Forbidden"
-phrase_of NotFound = codes "Not Found"
-phrase_of MethodNotAllowed = codes "Method Not Allowed"
-phrase_of Conflict = codes "Conflict"
-phrase_of Gone = codes "Gone"
-phrase_of ContentTooLarge = codes "Content Too Large"
-phrase_of UnprocessableContent = codes "Unprocessable Content"
-phrase_of ServiceUnavailable = codes "Service Unavailable"
+phrase_of status = (code_and_phrase status).1
 
 -- the code and the phrase, as a status line has them
 abbrev pub status_text : Status → List ℕ

@@ -69,37 +69,22 @@ pub fn answer_bytes(alloc: Global, answer: &Answer) -> Result<Vec<u8>, AllocErro
     content_bytes(alloc, status_of(answer), "", &content)
 }
 
-fn desk_status(refusal: DeskRefusal) -> Status
-    ensures { result ≡ desk_status refusal }
+/// The status of a refusal of the desk, and its name.
+fn status_and_name(refusal: DeskRefusal) -> (Status, &'static str)
+    ensures status { result.0 ≡ desk_status refusal }
+    ensures name { result.1.now ≡ desk_name refusal }
 {
     match refusal {
-        DeskRefusal::TooLarge => Status::ContentTooLarge,
-        DeskRefusal::NoRoute => Status::NotFound,
-        DeskRefusal::Method(_) => Status::MethodNotAllowed,
-        DeskRefusal::Truncated
-        | DeskRefusal::BadHead
-        | DeskRefusal::Chunked
-        | DeskRefusal::BadLength
-        | DeskRefusal::TwoCallers
-        | DeskRefusal::BadQuery
-        | DeskRefusal::BadBody => Status::BadRequest,
-    }
-}
-
-fn desk_name(refusal: DeskRefusal) -> &'static str
-    ensures { result.now ≡ desk_name refusal }
-{
-    match refusal {
-        DeskRefusal::TooLarge => "TooLarge",
-        DeskRefusal::Truncated => "Truncated",
-        DeskRefusal::BadHead => "BadHead",
-        DeskRefusal::Chunked => "Chunked",
-        DeskRefusal::BadLength => "BadLength",
-        DeskRefusal::TwoCallers => "TwoCallers",
-        DeskRefusal::NoRoute => "NoRoute",
-        DeskRefusal::Method(_) => "Method",
-        DeskRefusal::BadQuery => "BadQuery",
-        DeskRefusal::BadBody => "BadBody",
+        DeskRefusal::TooLarge => (Status::ContentTooLarge, "TooLarge"),
+        DeskRefusal::Truncated => (Status::BadRequest, "Truncated"),
+        DeskRefusal::BadHead => (Status::BadRequest, "BadHead"),
+        DeskRefusal::Chunked => (Status::BadRequest, "Chunked"),
+        DeskRefusal::BadLength => (Status::BadRequest, "BadLength"),
+        DeskRefusal::TwoCallers => (Status::BadRequest, "TwoCallers"),
+        DeskRefusal::NoRoute => (Status::NotFound, "NoRoute"),
+        DeskRefusal::Method(_) => (Status::MethodNotAllowed, "Method"),
+        DeskRefusal::BadQuery => (Status::BadRequest, "BadQuery"),
+        DeskRefusal::BadBody => (Status::BadRequest, "BadBody"),
     }
 }
 
@@ -110,6 +95,7 @@ pub fn refusal_bytes(alloc: Global, refusal: &DeskRefusal) -> Result<Vec<u8>, Al
 {
     let refusal = *refusal;
     let allow = allow_line(alloc, refusal)?;
-    let content = Content::Json(name_value(alloc, desk_name(refusal))?);
-    content_bytes(alloc, desk_status(refusal), allow.as_str(), &content)
+    let (status, name) = status_and_name(refusal);
+    let content = Content::Json(name_value(alloc, name)?);
+    content_bytes(alloc, status, allow.as_str(), &content)
 }

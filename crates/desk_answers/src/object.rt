@@ -1,13 +1,8 @@
 //! Objects of JSON, from lists of their members.
 
 ghost use Rattle.std.specs.Prelude.{◌≡◌, IfOk, map};
-ghost use Rattle.bag_text.specs.Declaration.{version_text};
-ghost use Rattle.office_core.specs.Days.{day_text};
-ghost use Rattle.serde_json.specs.Data.{string};
 ghost use Rattle.serde_json.specs.View.{view};
-ghost use Rattle.desk_answers.specs.Bodies.{years_data};
 ghost use Rattle.desk_answers.specs.Objects.{whole};
-ghost use Rattle.desk_answers.specs.Rows.{due_text};
 ghost use Rattle.desk_answers.specs.Members.{member_data, object_with};
 
 use bag_text::Version;
@@ -30,14 +25,14 @@ pub enum MemberValue<'a> {
 
 /// A day as it is written.
 fn written_day(alloc: Global, day: Day) -> Result<Value, AllocError>
-    ensures { IfOk result (λ value. view value ≡ string (day_text day)) }
+    ensures { IfOk result (λ value. view value ≡ member_data (MemberValue.Day day)) }
 {
     Ok(Value::from(format!(in alloc; "{day}")?))
 }
 
 /// The day from which a deposit may be destroyed, or that there is none.
 fn written_due(alloc: Global, due: Due) -> Result<Value, AllocError>
-    ensures { IfOk result (λ value. view value ≡ string (due_text due)) }
+    ensures { IfOk result (λ value. view value ≡ member_data (MemberValue.Due due)) }
 {
     match due {
         Due::On(date) => Ok(Value::from(format!(in alloc; "{date}")?)),
@@ -47,14 +42,14 @@ fn written_due(alloc: Global, due: Due) -> Result<Value, AllocError>
 
 /// The version as a bag declares it.
 fn written_version(alloc: Global, version: Version) -> Result<Value, AllocError>
-    ensures { IfOk result (λ value. view value ≡ string (version_text version)) }
+    ensures { IfOk result (λ value. view value ≡ member_data (MemberValue.Version version)) }
 {
     Ok(Value::from(format!(in alloc; "{version}")?))
 }
 
 /// The number of years, or null where it is permanent.
 fn years_value(years: Years) -> Value
-    ensures { view result ≡ years_data years }
+    ensures { view result ≡ member_data (MemberValue.Years years) }
 {
     match years.count() {
         Some(count) => Value::from(count),
