@@ -6,7 +6,7 @@ ghost use Rattle.std.specs.declared.io.ErrorKind.TheVariants.{OutOfMemory};
 ghost use Rattle.bag_folders.specs.declared.failed.Failed.TheVariants.{Memory};
 
 use fault_words::{Escaped, OtherFile};
-use std::alloc::{AllocError, AllocFailed, Global};
+use std::alloc::{AllocError, Global};
 use std::error::Error;
 use std::io::ErrorKind;
 use std::{fmt, io};
@@ -88,14 +88,6 @@ impl From<AllocError> for Failed {
     ghost from_gives = { λ _ failed. failed ≡ Memory };
 
     fn from(_: AllocError) -> Failed {
-        Failed::Memory
-    }
-}
-
-impl<T: Drop> From<AllocFailed<T>> for Failed {
-    ghost from_gives = { λ _ failed. failed ≡ Memory };
-
-    fn from(_: AllocFailed<T>) -> Failed {
         Failed::Memory
     }
 }

@@ -128,7 +128,9 @@ fn add_told<R: Files + Drop>(
         × (entries.new.items ≡ entries.old.items ++ entry ∷ []) × IsToldOf folder.now name entry) }
 {
     let entry = told(alloc, path, folder, name)?;
-    entries.push(entry)?;
+    let Ok(()) = entries.push(entry) else {
+        return Err(Failed::Memory);
+    };
     Ok(())
 }
 

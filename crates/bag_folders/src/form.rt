@@ -29,7 +29,9 @@ pub fn form_of(alloc: Global, files: &[(&str, &[u8])]) -> Result<Vec<u8>, PackFa
         Ok(bag) => bag,
         Err(fault) => return Err(named_fault(alloc, fault, path_at_fault(files, fault))),
     };
-    let form = write_bagset(alloc, &bag)?;
+    let Ok(form) = write_bagset(alloc, &bag) else {
+        return Err(PackFault::Memory);
+    };
     if form.len() as u64 > MAX_FORM {
         return Err(PackFault::Size);
     }

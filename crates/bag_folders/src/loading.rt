@@ -69,10 +69,13 @@ pub fn load<'a, R: Files + AllocGlobal>(
     for file in files {
         let path = path_under(alloc, folder, file.path.as_str())?;
         let content = read_content(rt, path.as_str(), file.size)?;
-        loaded.push(Loaded {
+        let read = Loaded {
             path: file.path.as_str(),
             content,
-        })?;
+        };
+        let Ok(()) = loaded.push(read) else {
+            return Err(Failed::Memory);
+        };
     }
     Ok(loaded)
 }

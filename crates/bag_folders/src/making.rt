@@ -188,7 +188,9 @@ fn make_all<M: Maker>(
     ensures { MakesFiles (files_of files.now) result }
 {
     maker.make_first()?;
-    let folders = folders_of(alloc, files)?;
+    let Ok(folders) = folders_of(alloc, files) else {
+        return Err(UnpackFault::Memory);
+    };
     make_folders(maker, folders.as_slice())?;
     make_files(maker, files)?;
     Ok(Unpacked { files: files.len() })

@@ -2,11 +2,10 @@
 
 ghost use Rattle.std.specs.Prelude.{◌≡◌, IfOk, option_copied, option_map, string_bytes};
 ghost use Rattle.bag_folders.specs.Packing.{IsNamedAs, pack_failed, place_of};
-ghost use Rattle.bag_folders.specs.declared.pack_fault.PackFault.TheVariants.{Memory};
 
 use crate::failed::{Failed, Trouble};
 use bag_text::SetFault;
-use std::alloc::{AllocError, AllocFailed, Global};
+use std::alloc::{AllocError, Global};
 
 /// Why a folder isn't packed.
 #[derive(Debug, Drop, thiserror::Error)]
@@ -40,22 +39,6 @@ impl From<Failed> for PackFault {
             Failed::Device(trouble) => PackFault::Device(trouble),
             Failed::Memory => PackFault::Memory,
         }
-    }
-}
-
-impl From<AllocError> for PackFault {
-    ghost from_gives = { λ _ packed. packed ≡ Memory };
-
-    fn from(_: AllocError) -> PackFault {
-        PackFault::Memory
-    }
-}
-
-impl<T: Drop> From<AllocFailed<T>> for PackFault {
-    ghost from_gives = { λ _ packed. packed ≡ Memory };
-
-    fn from(_: AllocFailed<T>) -> PackFault {
-        PackFault::Memory
     }
 }
 

@@ -39,7 +39,9 @@ fn form_of_folder<R: Files + AllocGlobal>(
     ensures refused { IfErr result (HasNoFormOf files.now) }
 {
     let loaded = load(rt, folder, files)?;
-    let list = lend(rt.alloc(), loaded.as_slice())?;
+    let Ok(list) = lend(rt.alloc(), loaded.as_slice()) else {
+        return Err(PackFault::Memory);
+    };
     form_of(rt.alloc(), list.as_slice())
 }
 

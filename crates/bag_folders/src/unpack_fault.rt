@@ -3,12 +3,10 @@
 ghost use Rattle.std.specs.Prelude.{◌≡◌};
 ghost use Rattle.fault_words.specs.OtherFiles.{hint_for};
 ghost use Rattle.bag_folders.specs.Unpacking.{unpack_fault_of, unpack_failed};
-ghost use Rattle.bag_folders.specs.declared.unpack_fault.UnpackFault.TheVariants.{Memory};
 
 use crate::failed::{Failed, Trouble};
 use bag_text::SetFault;
 use fault_words::{OtherFile, hint_for};
-use std::alloc::{AllocError, AllocFailed};
 
 /// Why a form isn't unpacked.
 #[derive(Debug, Drop, thiserror::Error)]
@@ -54,21 +52,5 @@ impl From<Failed> for UnpackFault {
             Failed::Device(trouble) => UnpackFault::Device(trouble),
             Failed::Memory => UnpackFault::Memory,
         }
-    }
-}
-
-impl From<AllocError> for UnpackFault {
-    ghost from_gives = { λ _ unpacked. unpacked ≡ Memory };
-
-    fn from(_: AllocError) -> UnpackFault {
-        UnpackFault::Memory
-    }
-}
-
-impl<T: Drop> From<AllocFailed<T>> for UnpackFault {
-    ghost from_gives = { λ _ unpacked. unpacked ≡ Memory };
-
-    fn from(_: AllocFailed<T>) -> UnpackFault {
-        UnpackFault::Memory
     }
 }

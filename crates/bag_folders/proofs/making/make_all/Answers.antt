@@ -2,11 +2,6 @@ use Rattle.std.proofs.lemmas.Result.{err_from_is_err_and}
 use Rattle.bag_folders.proofs.UnpackLemmas.{failed_stops}
 use Rattle.bag_folders.proofs.making.make_all.Goals as goal
 
-pub returns-in_err-folders : goal.returns-in_err-folders
-returns-in_err-folders g c =
-    let p = err_from_is_err_and c.from_residual-in_err-folders.result c.from_residual-in_err-folders.ensures.1 in
-    rw (p.1, p.2) tt
-
 pub returns-in_err-make_folders : goal.returns-in_err-make_folders
 returns-in_err-make_folders g c =
     let p = err_from_is_err_and c.from_residual-in_err-make_folders.result c.from_residual-in_err-make_folders.ensures.1 in

@@ -10,11 +10,6 @@ returns-in_err-loaded-clause-refused g c =
     let p = err_from_is_err_and c.from_residual.result c.from_residual.ensures.1 in
     rw (p.1, p.2) (failed_has_none c.args.files.now c.in_err-loaded.field-0.0)
 
-pub returns-in_err-list-clause-refused : goal.returns-in_err-list-clause-refused
-returns-in_err-list-clause-refused g c =
-    let p = err_from_is_err_and c.from_residual-in_err-list.result c.from_residual-in_err-list.ensures.1 in
-    rw (p.1, p.2) tt
-
 pub returns-clause-refused : goal.returns-clause-refused
 returns-clause-refused g c =
     let are : AreFilesOf c.args.files.now (files_of c.as_slice-2.result.now) = search rules in
