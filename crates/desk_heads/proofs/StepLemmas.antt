@@ -275,29 +275,22 @@ refused_first front refusal (inr h) = head_refused front h.0 refusal h.1 h.2
 
 -- ---- and the other way round
 
+-- what is never something is none
+never_some : (found : Option HeadRefusal) → ((refusal : HeadRefusal) → found ≡ Some refusal → ⊥) → found ≡ None
+never_some None never = refl
+never_some (Some refusal) never = absurd (never refusal refl)
+
 no_encoding : (front : List ℕ) (head : RequestHead) → SpellsHead front head → (RefusalStands front Chunked → ⊥) → encoding head ≡ None
-no_encoding front head spells bad = by (encoding head) refl
-  where
-    by : (e : Option HeadRefusal) → encoding head ≡ e → encoding head ≡ None
-    by None e = e
-    by (Some refusal) e = absurd (bad (head, spells, (encoding_stands (values_of (codes "transfer-encoding") head) refusal e).1))
+no_encoding front head spells bad = never_some (encoding head) (λ refusal e. bad (head, spells, (encoding_stands (values_of (codes "transfer-encoding") head) refusal e).1))
 
 no_length : (front : List ℕ) (head : RequestHead) → SpellsHead front head → (RefusalStands front BadLength → ⊥) → (RefusalStands front TooLarge → ⊥) → content_length head ≡ None
-no_length front head spells bad large = by (content_length head) refl
-  where
-    by : (e : Option HeadRefusal) → content_length head ≡ e → content_length head ≡ None
-    by None e = e
-    by (Some refusal) e = elim (length_stands (values_of (codes "content-length") head) refusal e) [
-      | inl h ↦ absurd (bad (head, spells, h.1))
-      | inr h ↦ absurd (large (head, spells, h.1))
-    ]
+no_length front head spells bad large = never_some (content_length head) (λ refusal e. elim (length_stands (values_of (codes "content-length") head) refusal e) [
+  | inl h ↦ bad (head, spells, h.1)
+  | inr h ↦ large (head, spells, h.1)
+])
 
 no_caller : (front : List ℕ) (head : RequestHead) → SpellsHead front head → (RefusalStands front TwoCallers → ⊥) → caller head ≡ None
-no_caller front head spells bad = by (caller head) refl
-  where
-    by : (e : Option HeadRefusal) → caller head ≡ e → caller head ≡ None
-    by None e = e
-    by (Some refusal) e = absurd (bad (head, spells, (caller_stands (values_of (codes "depot-caller") head) refusal e).1))
+no_caller front head spells bad = never_some (caller head) (λ refusal e. bad (head, spells, (caller_stands (values_of (codes "depot-caller") head) refusal e).1))
 
 pub first_refused : (front : List ℕ) (refusal : HeadRefusal) → StandsFirst front refusal → Judges front (Err refusal)
 first_refused front BadHead h = inl (h.stands, refl)

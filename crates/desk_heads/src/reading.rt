@@ -8,7 +8,7 @@ ghost use Rattle.desk_heads.specs.HeadReading.{EndRead, EndOf, HeadRead, HeadOf}
 
 use crate::place::{HeadPlace, place_of_head};
 use desk_devices::Counted;
-use std::alloc::{AllocError, Global};
+use std::alloc::Global;
 use std::io::Read;
 
 /// The bytes of a request that have been read up to the end of its head, and perhaps further.
@@ -31,17 +31,6 @@ pub enum HeadFault {
     Read,
     /// There was no memory.
     Memory,
-}
-
-impl From<AllocError> for HeadFault {
-    ghost use Rattle.std.specs.Prelude.{◌≡◌};
-    ghost use Rattle.desk_heads.specs.declared.reading.HeadFault.{HeadFault};
-
-    ghost from_gives = { λ _ r. r ≡ HeadFault.Memory };
-
-    fn from(_: AllocError) -> HeadFault {
-        HeadFault::Memory
-    }
 }
 
 /// Adds to the bytes, of which there are none yet, until they have a head, and answers its length.
@@ -70,7 +59,11 @@ fn read_to_end_of_head<R: Read>(
         }
         match reader.read(&mut chunk) {
             Ok(0) => return Err(HeadFault::Truncated),
-            Ok(n) => bytes.extend_from_slice(&chunk[..n])?,
+            Ok(n) => {
+                let Ok(()) = bytes.extend_from_slice(&chunk[..n]) else {
+                    return Err(HeadFault::Memory);
+                };
+            }
             Err(_) => return Err(HeadFault::Read),
         }
     }

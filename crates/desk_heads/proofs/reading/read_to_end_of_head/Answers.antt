@@ -13,7 +13,7 @@ returns-in-TooLarge-clause-whole g c = whole_head _ _ c.reads.bytes.items TooLar
 pub reads-smaller : goal.reads-smaller
 reads-smaller g c =
     let room = short_room c.reads.bytes.items (ap head_at (sym c.deref.ensures.value) ∙ sym c.in-Short.ensures) in
-    smaller_by c.reads.bytes.items c.read.new.buf c.extend_from_slice.new.self.items c.in-Ok.n room (omega arith) c.in-Ok.ensures.bound.0 c.in_ok-extend_from_slice-in-Ok.ensures.items
+    smaller_by c.reads.bytes.items c.read.new.buf c.extend_from_slice.new.self.items c.in-Ok.n room (omega arith) c.in-Ok.ensures.bound.0 c.in-Ok-extend_from_slice.ensures.items
 
 pub returns-in-Found-clause-within : goal.returns-in-Found-clause-within
 returns-in-Found-clause-within g c = found_within c.reads.bytes.items c.in-Found.n (ap head_at (sym c.deref.ensures.value) ∙ sym c.in-Found.ensures)
