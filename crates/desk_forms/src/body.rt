@@ -4,6 +4,7 @@ ghost use Rattle.std.specs.Prelude.{◌≡◌, ◌≢◌, ◌↔◌, ◌≤◌, 
 ghost use Rattle.serde_json.specs.Data.{Data, number, string, unsigned};
 ghost use Rattle.serde_json.specs.View.{view, members_view};
 ghost use Rattle.office_core.specs.Names.{IsName, IsMatter};
+ghost use Rattle.desk_forms.specs.declared.body.BodyFault.TheVariants.{Memory};
 ghost use Rattle.desk_forms.specs.Bodies.{IsJsonOf, SaysYears, SaysHold, IsDepositNumber, IsHoldBody, hold_object};
 ghost use Rattle.desk_forms.specs.BodyReading.{years_in, only_in, only_member, two_in, two_members, two_object, member_view};
 
@@ -41,10 +42,7 @@ pub enum BodyFault {
 }
 
 impl From<AllocError> for BodyFault {
-    ghost use Rattle.std.specs.Prelude.{◌≡◌};
-    ghost use Rattle.desk_forms.specs.declared.body.BodyFault.{BodyFault};
-
-    ghost from_gives = { λ _ fault. fault ≡ BodyFault.Memory };
+    ghost from_gives = { λ _ fault. fault ≡ Memory };
 
     fn from(_: AllocError) -> BodyFault {
         BodyFault::Memory

@@ -9,6 +9,7 @@ ghost use Rattle.jiff.specs.Types.{Date};
 ghost use Rattle.office_core.specs.Days.{IsDay, day_text};
 ghost use Rattle.office_core.specs.Names.{IsName, IsAccession};
 ghost use Rattle.office_core.specs.Policies.{is_one_of};
+ghost use Rattle.desk_forms.specs.declared.query.QueryFault.TheVariants.{Memory};
 ghost use Rattle.desk_forms.specs.Queries.{text_of, query_pairs, values_under, StandsOnce, GivesName, AsksListing, DescribesDeposit};
 ghost use Rattle.desk_forms.specs.QueryReading.{has_only};
 
@@ -44,10 +45,7 @@ pub enum QueryFault {
 }
 
 impl From<AllocError> for QueryFault {
-    ghost use Rattle.std.specs.Prelude.{◌≡◌};
-    ghost use Rattle.desk_forms.specs.declared.query.QueryFault.{QueryFault};
-
-    ghost from_gives = { λ _ fault. fault ≡ QueryFault.Memory };
+    ghost from_gives = { λ _ fault. fault ≡ Memory };
 
     fn from(_: AllocError) -> QueryFault {
         QueryFault::Memory
