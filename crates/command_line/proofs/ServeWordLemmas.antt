@@ -5,9 +5,9 @@ use Rattle.clap.specs.Walk.{Held, Walk, nothing_held, pushed, settled, walk, wal
 use Rattle.clap.specs.Faults.{defaults_fault, walk_fault}
 use Rattle.command_line.specs.Lines.{IsPlainWord, command_of_subcommand}
 use Rattle.command_line.specs.declared.subcommand.Subcommand.TheVariants.{Serve}
-use Rattle.command_line.proofs.PlainWordLemmas.{after, before, plain_fault, plain_walk}
+use Rattle.command_line.proofs.PlainWordLemmas.{before}
 use Rattle.command_line.proofs.OptionWordLemmas.{awaiting, option_fault, option_step}
-use Rattle.command_line.proofs.WordWalkLemmas.{Ends, FindsHeld, finds_held, shape_of}
+use Rattle.command_line.proofs.WordWalkLemmas.{Ends, FindsHeld, Takes, finds_held, held_after, shape_of, words_pass, words_walk}
 
 -- after `--port`
 abbrev pub held_1 : Held
@@ -25,13 +25,13 @@ held_3 p = record (settled (shape_of Serve).rules (held_2 p)) { pending = Some (
 abbrev pub held_4 : Text → Text → Held
 held_4 p n = pushed (codes "N") n (held_3 p)
 
--- after a word
-abbrev pub held_5 : Text → Text → Text → Held
-held_5 p n s = (after (shape_of Serve).rules (held_4 p n) 1 s).held
+-- after two words
+abbrev pub held_5 : Text → Text → Text → Text → Held
+held_5 p n s d = held_after (shape_of Serve).rules (held_4 p n) 1 (s ∷ d ∷ [])
 
--- after a word
-abbrev pub held_6 : Text → Text → Text → Text → Held
-held_6 p n s d = (after (shape_of Serve).rules (held_5 p n s) 2 d).held
+taken : (p n s d : Text) → Takes (shape_of Serve) (held_4 p n) 1 (s ∷ d ∷ [])
+unfolding command_of_subcommand
+taken p n s d = (refl, refl, (refl, refl, tt))
 
 port_named : walked (shape_of Serve).rules [] (before nothing_held 1) (codes "--port") ≡ awaiting held_1 1 (codes "P")
 unfolding command_of_subcommand walked
@@ -42,15 +42,14 @@ unfolding command_of_subcommand walked
 count_named p = refl
 
 walk_over : (p n s d : Text) → IsPlainWord p → IsPlainWord n → IsPlainWord s → IsPlainWord d
-    → walk (shape_of Serve).rules [] nothing_held (codes "--port" ∷ p ∷ codes "--count" ∷ n ∷ s ∷ d ∷ []) ≡ before (held_6 p n s d) 3
+    → walk (shape_of Serve).rules [] nothing_held (codes "--port" ∷ p ∷ codes "--count" ∷ n ∷ s ∷ d ∷ []) ≡ before (held_5 p n s d) 3
 unfolding command_of_subcommand
 walk_over p n s d p_is n_is s_is d_is =
     ap (λ (w : Walk). fold (walked (shape_of Serve).rules []) w (p ∷ codes "--count" ∷ n ∷ s ∷ d ∷ [])) port_named
     ∙ ap (λ (w : Walk). fold (walked (shape_of Serve).rules []) w (codes "--count" ∷ n ∷ s ∷ d ∷ [])) (option_step (shape_of Serve).rules held_1 1 (codes "P") p p_is)
     ∙ ap (λ (w : Walk). fold (walked (shape_of Serve).rules []) w (n ∷ s ∷ d ∷ [])) (count_named p)
     ∙ ap (λ (w : Walk). fold (walked (shape_of Serve).rules []) w (s ∷ d ∷ [])) (option_step (shape_of Serve).rules (held_3 p) 1 (codes "N") n n_is)
-    ∙ plain_walk (shape_of Serve).rules (held_4 p n) 1 s (d ∷ []) s_is
-    ∙ plain_walk (shape_of Serve).rules (held_5 p n s) 2 d ([]) d_is
+    ∙ words_walk (shape_of Serve) (held_4 p n) 1 3 (s ∷ d ∷ []) refl (s_is, (d_is, tt)) (taken p n s d)
 
 port_passes : (rest : List Text)
     → walk_fault (shape_of Serve) [] (before nothing_held 1) (codes "--port" ∷ rest) ≡ walk_fault (shape_of Serve) [] (awaiting held_1 1 (codes "P")) rest
@@ -70,14 +69,13 @@ faults_over p n s d p_is n_is s_is d_is =
     ∙ option_fault (shape_of Serve) held_1 1 (codes "P") p (codes "--count" ∷ n ∷ s ∷ d ∷ []) p_is
     ∙ count_passes p (n ∷ s ∷ d ∷ [])
     ∙ option_fault (shape_of Serve) (held_3 p) 1 (codes "N") n (s ∷ d ∷ []) n_is
-    ∙ plain_fault (shape_of Serve) (held_4 p n) 1 s (d ∷ []) s_is
-    ∙ plain_fault (shape_of Serve) (held_5 p n s) 2 d ([]) d_is
+    ∙ words_pass (shape_of Serve) (held_4 p n) 1 (s ∷ d ∷ []) (s_is, (d_is, tt)) (taken p n s d)
 
-ends : (p n s d : Text) → IsPlainWord p → IsPlainWord n → IsPlainWord s → IsPlainWord d → Ends (shape_of Serve) (codes "--port" ∷ p ∷ codes "--count" ∷ n ∷ s ∷ d ∷ []) (held_6 p n s d) 3
+ends : (p n s d : Text) → IsPlainWord p → IsPlainWord n → IsPlainWord s → IsPlainWord d → Ends (shape_of Serve) (codes "--port" ∷ p ∷ codes "--count" ∷ n ∷ s ∷ d ∷ []) (held_5 p n s d) 3
 unfolding command_of_subcommand defaults_fault
 ends p n s d p_is n_is s_is d_is = record { walks = walk_over p n s d p_is n_is s_is d_is; passes = faults_over p n s d p_is n_is s_is d_is; clear = refl }
 
 pub serve_finds : (p n s d : Text) → IsPlainWord p → IsPlainWord n → IsPlainWord s → IsPlainWord d
-    → FindsHeld Serve (codes "--port" ∷ p ∷ codes "--count" ∷ n ∷ s ∷ d ∷ []) (held_6 p n s d)
+    → FindsHeld Serve (codes "--port" ∷ p ∷ codes "--count" ∷ n ∷ s ∷ d ∷ []) (held_5 p n s d)
 serve_finds p n s d p_is n_is s_is d_is =
-    finds_held Serve (codes "--port" ∷ p ∷ codes "--count" ∷ n ∷ s ∷ d ∷ []) (held_6 p n s d) 3 (ends p n s d p_is n_is s_is d_is)
+    finds_held Serve (codes "--port" ∷ p ∷ codes "--count" ∷ n ∷ s ∷ d ∷ []) (held_5 p n s d) 3 (ends p n s d p_is n_is s_is d_is)

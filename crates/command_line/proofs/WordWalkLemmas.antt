@@ -1,6 +1,7 @@
 -- What clap makes of a subcommand's words, from where its walk over them ends.
-use Rattle.std.proofs.Common.{◌≡◌, ◌∷◌, ◌∙◌, [], ℕ, List, ap, fold}
-use Rattle.clap.specs.Words.{Text, built, fault_of, first_of}
+use Rattle.std.proofs.Common.{◌≡◌, ◌+◌, ◌∷◌, ◌∙◌, [], ℕ, List, length, ap, fold, refl, arith}
+use Rattle.std.specs.List.{AllByRecursion}
+use Rattle.clap.specs.Words.{Rule, Text, built, fault_of, first_of}
 use Rattle.clap.specs.Kinds.{Kinds, or_else}
 use Rattle.clap.specs.Simple.{Shape}
 use Rattle.clap.specs.Walk.{Held, Walk, finished, nothing_held, value, walk, walk_from, walked}
@@ -50,27 +51,49 @@ finds_held Ask rest held position ends = record { taken = nothing_fails (shape_o
 finds_held Replay rest held position ends = record { taken = nothing_fails (shape_of Replay) rest held position ends; at = is_found (shape_of Replay) rest held position ends }
 finds_held Serve rest held position ends = record { taken = nothing_fails (shape_of Serve) rest held position ends; at = is_found (shape_of Serve) rest held position ends }
 
--- ---- two plain words, where the first two positionals take one each
+-- ---- plain words, each of which goes to the next positional
 
-pub two_words : (shape : Shape) (one both : Held) (a b : Text) → IsPlainWord a → IsPlainWord b
-    → after shape.rules nothing_held 1 a ≡ before one 2
-    → after shape.rules one 2 b ≡ before both 3
-    → step_fault shape 1 nothing_held value ≡ []
-    → step_fault shape 2 one value ≡ []
-    → faults_after shape (before both 3) ≡ []
-    → Ends shape (a ∷ b ∷ []) both 3
+-- what is held after them, where the first goes to the positional with this number
+abbrev pub held_after : List Rule → Held → ℕ → List Text → Held
+held_after rules held position [] = held
+held_after rules held position (word ∷ rest) = held_after rules (after rules held position word).held (position + 1) rest
+
+-- each positional takes one word, and none fails
+abbrev pub Takes : Shape → Held → ℕ → List Text → Type 0
+Takes shape held position [] = Unit {0}
+Takes shape held position (word ∷ rest) =
+    (after shape.rules held position word ≡ before (after shape.rules held position word).held (position + 1))
+    × (step_fault shape position held value ≡ [])
+    × Takes shape (after shape.rules held position word).held (position + 1) rest
+
+-- then the walk goes on over all of them
+pub words_walk : (shape : Shape) (held : Held) (position end : ℕ) (words : List Text) → position + length words ≡ end → AllByRecursion IsPlainWord words → Takes shape held position words
+    → fold (walked shape.rules []) (before held position) words ≡ before (held_after shape.rules held position words) end
+words_walk shape held position end [] ends plain takes = let same : position ≡ end = omega (arith, ends) in ap (before held) same
+words_walk shape held position end (word ∷ rest) ends plain takes =
+    let more : position + 1 + length rest ≡ end = omega (arith, ends) in
+    plain_walk shape.rules held position word rest plain.0
+    ∙ ap (λ (w : Walk). fold (walked shape.rules []) w rest) takes.0
+    ∙ words_walk shape (after shape.rules held position word).held (position + 1) end rest more plain.1 takes.2
+
+-- and fails for none of them
+pub words_pass : (shape : Shape) (held : Held) (position : ℕ) (words : List Text) → AllByRecursion IsPlainWord words → Takes shape held position words
+    → walk_fault shape [] (before held position) words ≡ []
 unfolding walk_fault
-two_words shape one both a b a_is b_is first second first_passes second_passes clear = record {
-  walks =
-      plain_walk shape.rules nothing_held 1 a (b ∷ []) a_is
-      ∙ ap (λ (w : Walk). fold (walked shape.rules []) w (b ∷ [])) first
-      ∙ plain_walk shape.rules one 2 b [] b_is
-      ∙ second;
-  passes =
-      plain_fault shape nothing_held 1 a (b ∷ []) a_is
-      ∙ ap (λ (k : Kinds). or_else k (walk_fault shape [] (after shape.rules nothing_held 1 a) (b ∷ []))) first_passes
-      ∙ ap (λ (w : Walk). walk_fault shape [] w (b ∷ [])) first
-      ∙ plain_fault shape one 2 b [] b_is
-      ∙ ap (λ (k : Kinds). or_else k (walk_fault shape [] (after shape.rules one 2 b) [])) second_passes;
-  clear = clear;
-}
+words_pass shape held position [] plain takes = refl
+words_pass shape held position (word ∷ rest) plain takes =
+    plain_fault shape held position word rest plain.0
+    ∙ ap (λ (k : Kinds). or_else k (walk_fault shape [] (after shape.rules held position word) rest)) takes.1
+    ∙ ap (λ (w : Walk). walk_fault shape [] w rest) takes.0
+    ∙ words_pass shape (after shape.rules held position word).held (position + 1) rest plain.1 takes.2
+
+-- clap takes such words after a subcommand's name
+pub words_find : (subcommand : Subcommand) (words : List Text) (end : ℕ) → 1 + length words ≡ end → AllByRecursion IsPlainWord words → Takes (shape_of subcommand) nothing_held 1 words
+    → faults_after (shape_of subcommand) (before (held_after (shape_of subcommand).rules nothing_held 1 words) end) ≡ []
+    → FindsHeld subcommand words (held_after (shape_of subcommand).rules nothing_held 1 words)
+words_find subcommand words end ends plain takes clear =
+    finds_held subcommand words (held_after (shape_of subcommand).rules nothing_held 1 words) end (record {
+      walks = words_walk (shape_of subcommand) nothing_held 1 end words ends plain takes;
+      passes = words_pass (shape_of subcommand) nothing_held 1 words plain takes;
+      clear = clear;
+    })

@@ -27,12 +27,6 @@ const COUNT: &str = "N is a number of connections, 1 to 1000000\n";
 const ACTION: &str =
     "ACTION is one of class, collection, deposit, list, record, holds, download, audit, hold, release, dispose\n";
 
-const COLLECTION: &str =
-    "COLLECTION is a name (1 to 40 characters of a to z, 0 to 9, -, _ and .), or - for none\n";
-
-const CLASS: &str =
-    "CLASS is a name (1 to 40 characters of a to z, 0 to 9, -, _ and .), or - for none\n";
-
 /// `check FILE`.
 fn check_line<'a>(matches: &ArgMatches<'a>) -> Line<'a>
     requires { HasNeeded Check matches.now }
@@ -79,6 +73,17 @@ fn name_or_none<'a>(text: &'a str) -> Option<Option<Name<'a>>>
     }
 }
 
+/// The fault of a word that is neither a name nor `-`, where this stands for it.
+fn no_name_fault(alloc: Global, place: &str) -> UseFault {
+    let why = format!(in alloc;
+        "{place} is a name (1 to 40 characters of a to z, 0 to 9, -, _ and .), or - for none\n"
+    );
+    match why {
+        Ok(why) => UseFault::Use(why),
+        Err(_) => UseFault::Memory,
+    }
+}
+
 /// The day that stands under `DAY`, or none where nothing does; nothing where a text stands there that
 /// is no day.
 fn day_or_none(matches: &ArgMatches<'_>) -> Option<Option<Day>>
@@ -108,10 +113,10 @@ fn explain_line<'a>(alloc: Global, matches: &ArgMatches<'a>) -> Result<Line<'a>,
         return Err(fault_of_use(alloc, ACTION));
     };
     let Some(collection) = name_or_none(word_at(matches, "COLLECTION")) else {
-        return Err(fault_of_use(alloc, COLLECTION));
+        return Err(no_name_fault(alloc, "COLLECTION"));
     };
     let Some(class) = name_or_none(word_at(matches, "CLASS")) else {
-        return Err(fault_of_use(alloc, CLASS));
+        return Err(no_name_fault(alloc, "CLASS"));
     };
     Ok(Line::Explain(Asked {
         policy: word_at(matches, "POLICY"),
