@@ -35,3 +35,9 @@ returns-in-Err-clause-refused_survives g c = upgrade_survives (state g.S.Store c
 
 pub returns-in-Err-clause-known : goal.returns-in-Err-clause-known
 returns-in-Err-clause-known g c clean was_open version h legal left = left_fails c.in-Err.handed_back.1 (state g.S.Store c.args.conn) (c.in-Err.ensures.left_failure clean was_open) version h legal left
+
+pub returns-in-Ok-clause-durable_rows : goal.returns-in-Ok-clause-durable_rows
+returns-in-Ok-clause-durable_rows g c clean = c.in-Ok.ensures.durable clean
+
+pub returns-in-Err-clause-left_failure : goal.returns-in-Err-clause-left_failure
+returns-in-Err-clause-left_failure g c clean = c.in-Err.ensures.left_failure clean
