@@ -1,5 +1,5 @@
 -- The day that is computed of a text is the one that the text writes.
-use Rattle.std.proofs.Common.{◌≡◌, ◌∙◌, ℕ, ℤ, pos, neg_ℤ, ◌+◌, ◌*◌, ◌/◌, ◌%◌, ◌<◌, ◌≤ℤ◌, Bool, true, false, T, leb, ◌&&◌, ◌==◌, List, [], ◌∷◌, Option, Some, None, IfSome, int_le, unsigned_abs, refl, sym, ap, subst, arith, rules}
+use Rattle.std.proofs.Common.{◌≡◌, ◌∙◌, ℕ, ℤ, pos, neg_ℤ, ◌+◌, ◌*◌, ◌/◌, ◌%◌, ◌<◌, ◌≤ℤ◌, Bool, true, false, T, leb, ◌&&◌, List, [], ◌∷◌, Option, Some, None, IfSome, int_le, unsigned_abs, refl, sym, ap, subst, arith, rules}
 use Rattle.std.proofs.lemmas.Bool.{and_parts}
 use Rattle.std.proofs.lemmas.Option.{same_Some}
 use Rattle.std.specs.Int.Signed.{le_z}

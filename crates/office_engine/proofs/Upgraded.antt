@@ -1,5 +1,5 @@
 -- Histories through an upgrade, from what is said of rows.
-use Rattle.std.proofs.Common.{◌≡◌, ℤ, List, [], ◌∷◌, find, option_map, None, Some, pos, refl, sym, ap, subst, subst₂, ◌∙◌, IsTrue, inl, inr}
+use Rattle.std.proofs.Common.{◌≡◌, ℤ, List, [], ◌∷◌, find, option_map, None, Some, refl, sym, ap, subst, subst₂, ◌∙◌, IsTrue, inl, inr}
 use Rattle.std.proofs.lemmas.Bool.{cases_Bool}
 use Rattle.sqlite.specs.Tree.{Trees}
 use Rattle.sqlite.specs.Effect.{Database}
@@ -7,9 +7,9 @@ use Rattle.sqlite.specs.Store.{Ghosts}
 use Rattle.sqlite.specs.State.{State, Survives}
 use Rattle.sqlite.specs.Held.{Held, state}
 use Rattle.sqlite.proofs.StateLemmas.{survives_weaker}
-use Rattle.office_rows.specs.Rows.{OfficeRow, is_known, version_of, this_version}
+use Rattle.office_rows.specs.Rows.{OfficeRow, is_known, this_version}
 use Rattle.office_tables.specs.Tables.{contents_of}
-use Rattle.office_tables.specs.Contents.{references_of, AreKeptOnce, KeepsOnce}
+use Rattle.office_tables.specs.Contents.{references_of, AreKeptOnce}
 use Rattle.office_tables.specs.Opening.{KeepsTables}
 use Rattle.office_tables.specs.Faults.{IsFailure}
 use Rattle.office_tables.specs.declared.fault.TableFault.{TableFault}

@@ -6,7 +6,7 @@ use Rattle.jiff.specs.Words.{epoch_day}
 use Rattle.office_core.specs.FirstOf.{first_some, answer_if}
 use Rattle.office_core.specs.Rules.{allows}
 use Rattle.office_core.specs.Verdicts as deciding
-use Rattle.office_core.specs.Verdicts.{verdict_of, is_dispose, of_disposal}
+use Rattle.office_core.specs.Verdicts.{verdict_of}
 use Rattle.office_core.specs.declared.action.Action.{Action}
 use Rattle.office_core.specs.declared.action.Action.TheVariants as acts
 use Rattle.office_core.specs.declared.facts.Verdict.{Verdict}

@@ -1,5 +1,5 @@
 -- The picture that the database of an office gives: its rows as plain records.
-use Rattle.std.specs.Prelude.{◌≡◌, ℕ, List}
+use Rattle.std.specs.Prelude.{◌≡◌}
 use Rattle.sqlite.specs.Order.{Row}
 use Rattle.sqlite.specs.Effect.{Database}
 use Rattle.sql_meaning.specs.Columns.{int_at}

@@ -2,12 +2,10 @@ use Rattle.std.proofs.Common.{rules, ◌≡◌, w64, pos, sym, ap, subst, ◌∙
 use mir.Val.{SFits}
 use Rattle.std.proofs.lemmas.Int.{to_z-of_z}
 use Rattle.jiff.specs.Words.{epoch_day}
-use Rattle.sqlite.specs.Held.{state}
 use Rattle.office_core.specs.Days.{IsDayNumber}
 use Rattle.office_core.specs.Retention.{due_number}
 use Rattle.office_core.specs.RetentionReading.{due_of}
 use Rattle.office_history.proofs.Pictured.{same_day}
-use Rattle.office_asking.proofs.InTurn.{stays_still}
 use Rattle.office_defining.proofs.DefinedByRows.{so_anyway}
 use Rattle.office_defining.proofs.classes.set_due_day.Goals as goal
 

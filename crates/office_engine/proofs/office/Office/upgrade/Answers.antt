@@ -1,4 +1,3 @@
-use Rattle.std.proofs.Common.{◌≡◌}
 use Rattle.sqlite.specs.Held.{state}
 use Rattle.office_engine.proofs.Upgraded.{upgrades, takes_up, lasts, opens_older, leaves, stays, goes_back, upgrade_survives, left_fails}
 use Rattle.office_engine.proofs.office.Office.upgrade.Goals as goal
