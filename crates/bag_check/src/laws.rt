@@ -43,7 +43,8 @@ pub fn one_first_fault()
 /// Judging a bag answers a report exactly where the bag is valid, and a fault exactly where that is
 /// its first.
 pub fn judged_bags()
-    ensures report { (files : List File) (report : Report) → IsBag files → judge files ≡ Ok report
+    ensures report { (files : List File) (report : Report)
+        → IsBag files → judge files ≡ Ok report
         → (v : Version) × Valid files v × (report ≡ report_of v files) }
     ensures valid { (files : List File) (v : Version) → IsBag files → Valid files v
         → judge files ≡ Ok (report_of v files) }

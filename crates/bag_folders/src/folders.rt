@@ -125,7 +125,8 @@ fn add_told<R: Files + Drop>(
     name: io::Result<DirEntry<R, Global>>,
 ) -> Result<(), Failed>
     ensures { OnOk result ((entry : Entry)
-        × (entries.new.items ≡ entries.old.items ++ entry ∷ []) × IsToldOf folder.now name entry) }
+        × (entries.new.items ≡ entries.old.items ++ entry ∷ [])
+        × IsToldOf folder.now name entry) }
 {
     let entry = told(alloc, path, folder, name)?;
     let Ok(()) = entries.push(entry) else {

@@ -203,7 +203,8 @@ pub fn make_bag<M: Maker>(
     read: Result<BagSet<'_>, UnpackFault>,
 ) -> Result<Unpacked, UnpackFault>
     // Where none was, that is said, whatever stands under the folder's name, and nothing is made.
-    ensures unread { IfErr read.entry (λ fault. (result ≡ Err fault) × (maker.new ≡ maker.old)) }
+    ensures unread { IfErr read.entry (λ fault. (result ≡ Err fault)
+        × (maker.new ≡ maker.old)) }
     // Else the files are counted, or something stands there or fails.
     ensures made { IfOk read.entry (λ bag. MakesFiles bag result) }
 {

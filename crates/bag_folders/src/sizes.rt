@@ -100,7 +100,8 @@ fn path_at_fault<'a>(files: &'a [Listed], fault: SetFault) -> Option<&'a str>
 /// contents alone aren't.
 pub fn judge(alloc: Global, files: &[Listed]) -> Result<(), PackFault>
     ensures bag { IfOk result (λ _. AllFilesOf files.now IsBag) }
-    ensures refused { IfErr result (λ fault. AllFilesOf files.now (λ list. HasNoForm list fault)) }
+    ensures refused { IfErr result (λ fault.
+        AllFilesOf files.now (λ list. HasNoForm list fault)) }
 {
     if let Err(fault) = judge_files(alloc, files) {
         return Err(named_fault(alloc, fault, path_at_fault(files, fault)));

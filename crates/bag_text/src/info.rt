@@ -197,7 +197,8 @@ pub fn read_bag_info<'a>(alloc: Global, text: &'a [u8]) -> Result<BagInfo<'a>, I
 
     // A value is borrowed exactly where it has no LF, so where no line continues it.
     ensures borrowed { IfOk result (λ info.
-        (label : Bor (List ℕ)) (value : CowStr Global) → Contains info.pairs.items (label, value)
+        (label : Bor (List ℕ)) (value : CowStr Global)
+        → Contains info.pairs.items (label, value)
         → IsBorrowedStr value ↔ (has_line_feed (cow_str_bytes value) ≡ false)) }
 
     // A refusal names the first fault of the text, and where one stands it is the answer, unless memory runs out.

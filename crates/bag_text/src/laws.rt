@@ -24,7 +24,8 @@ ghost use Rattle.bag_text.specs.declared.set_fault.SetFault.{SetFault};
 
 /// Two bags have two texts, and no text begins another.
 pub fn one_text()
-    ensures one { (a b : List File) → IsBag a → IsBag b → set_text a ≡ set_text b → a ≡ b }
+    ensures one { (a b : List File)
+        → IsBag a → IsBag b → set_text a ≡ set_text b → a ≡ b }
     ensures apart { (a b : List File) → IsBag a → IsBag b → (more : List ℕ)
         → set_text a ≡ set_text b ++ more → more ≡ [] }
 {}
@@ -44,7 +45,8 @@ pub fn one_fault()
 pub fn transfer_forms()
     ensures read { (t : List ℕ) (files : List File) → (set_of t ≡ Ok files)
         ↔ (IsBag files × (t ≡ set_text files)) }
-    ensures first { (t : List ℕ) (fault : SetFault) → (set_of t ≡ Err fault) ↔ FaultIs t fault }
+    ensures first { (t : List ℕ) (fault : SetFault)
+        → (set_of t ≡ Err fault) ↔ FaultIs t fault }
 {}
 
 /// Paths clash exactly where the test says so.

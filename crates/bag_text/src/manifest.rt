@@ -277,7 +277,8 @@ pub fn read_manifest<'a>(
 ) -> Result<Manifest<'a>, LineFault>
     // What is read is a manifest, and each is read, unless memory runs out.
     ensures is_manifest { IfOk result (λ m. IsManifest version algorithm text.now) }
-    ensures reads { IsManifest version algorithm text.now → IfErr result (λ fault. fault ≡ Memory) }
+    ensures reads { IsManifest version algorithm text.now
+        → IfErr result (λ fault. fault ≡ Memory) }
 
     // A path, a checksum and a line are an entry exactly where that line lists the path with the checksum.
     ensures lists { IfOk result (λ m. (path : List ℕ) (checksum : Checksum) (line : ℕ)
@@ -286,7 +287,8 @@ pub fn read_manifest<'a>(
     ensures ascending { IfOk result (λ m. AscendingPaths (paths_of m)) }
 
     // A path is borrowed exactly where no coded triple stands in its spelling.
-    ensures borrowed { IfOk result (λ m. (path : CowStr Global) (listing : Listing) (line : List ℕ)
+    ensures borrowed { IfOk result (λ m.
+        (path : CowStr Global) (listing : Listing) (line : List ℕ)
         → Contains m.entries.entries (path, listing) → LineIs text.now listing.line line
         → IsBorrowedStr path ↔ (has_coded version (path_text line) ≡ false)) }
 

@@ -63,7 +63,8 @@ impl<'a> BagSet<'a> {
         ensures found { (content : List ℕ) → (option_copied result ≡ Some content)
             ↔ Contains self.now (record { path = path.now; content = content }) }
         // None is given exactly where no file of the bag has this path.
-        ensures none { IsNone result ↔ ((f : File) → Contains self.now f → f.path ≢ path.now) }
+        ensures none { IsNone result
+            ↔ ((f : File) → Contains self.now f → f.path ≢ path.now) }
         ensures exact { option_copied result ≡ content_at self.now path.now }
     {
         find_content(self.files(), path)

@@ -54,7 +54,8 @@ fn digits<'a>(
     requires most { most < 2 ^ 32 }
     requires first { first ≤ most }
     ensures bound { IfOk result (λ x. x.0 ≤ most) }
-    ensures value { MatchResult result (λ x. digits_at stop most first text.now ≡ Ok (x.0, x.1.now))
+    ensures value { MatchResult result (λ x.
+        digits_at stop most first text.now ≡ Ok (x.0, x.1.now))
         (λ flaw. digits_at stop most first text.now ≡ Err flaw) }
 {
     let mut number = first;
@@ -87,7 +88,8 @@ fn number<'a>(
     requires most { most < 2 ^ 32 }
     requires digit { 9 ≤ most }
     ensures bound { IfOk result (λ x. x.0 ≤ most) }
-    ensures value { MatchResult result (λ x. number_at stop least most text.now ≡ Ok (x.0, x.1.now))
+    ensures value { MatchResult result (λ x.
+        number_at stop least most text.now ≡ Ok (x.0, x.1.now))
         (λ flaw. number_at stop least most text.now ≡ Err flaw) }
 {
     match text {
@@ -257,7 +259,8 @@ pub fn read_set<'a>(alloc: Global, text: &'a [u8]) -> Result<Vec<(&'a str, &'a [
 }
 
 fn read_opening(text: &[u8]) -> Result<&[u8], SetFault>
-    ensures { MatchResult result (λ rest. after_opening (literal_at opening text.now) ≡ Ok rest.now)
+    ensures { MatchResult result (λ rest.
+        after_opening (literal_at opening text.now) ≡ Ok rest.now)
         (λ fault. after_opening (literal_at opening text.now) ≡ Err fault) }
 {
     match literal(b"BAGSET 1\n", text) {

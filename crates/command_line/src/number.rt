@@ -21,7 +21,8 @@ fn has_plus(text: &[u8]) -> bool
 
 /// The number that decimal digits write. Zeros may stand in front.
 fn read_number(text: &str) -> Option<u32>
-    ensures { MatchOption result ((number : ℕ) → WritesNumber text.now number → number < 2 ^ 32 → ⊥)
+    ensures { MatchOption result ((number : ℕ)
+        → WritesNumber text.now number → number < 2 ^ 32 → ⊥)
         (WritesNumber text.now) }
 {
     if has_plus(text.as_bytes()) {
@@ -43,7 +44,8 @@ pub fn read_port(text: &str) -> Option<u16>
 
 /// The number of connections that a text writes.
 pub fn read_count(text: &str) -> Option<u32>
-    ensures { MatchOption result ((count : ℕ) → IsCount text.now count → ⊥) (IsCount text.now) }
+    ensures { MatchOption result ((count : ℕ)
+        → IsCount text.now count → ⊥) (IsCount text.now) }
 {
     let number = read_number(text)?;
     if number < 1 || number > MAX_COUNT {

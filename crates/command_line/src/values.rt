@@ -61,7 +61,8 @@ fn unpack_line<'a>(matches: &ArgMatches<'a>) -> Line<'a>
 
 /// The name that the text is, or none where the text is `-`; nothing where it is neither.
 fn name_or_none<'a>(text: &'a str) -> Option<Option<Name<'a>>>
-    ensures { MatchOption result ((name : Option (List ℕ)) → IsNameOrNone text.entry.now name → ⊥)
+    ensures { MatchOption result ((name : Option (List ℕ))
+        → IsNameOrNone text.entry.now name → ⊥)
         (IsNameOrNone text.entry.now) }
 {
     if text == "-" {
@@ -169,7 +170,8 @@ fn replay_line<'a>(matches: &ArgMatches<'a>) -> Line<'a>
 fn serve_line<'a>(alloc: Global, matches: &ArgMatches<'a>) -> Result<Line<'a>, UseFault>
     requires { HasNeeded Serve matches.now }
     ensures line { IfOk result (IsLineOf Serve matches.now) }
-    ensures refused { IfErr result (λ fault. (fault ≡ Memory) ⊎ MakesNoLine Serve matches.now) }
+    ensures refused { IfErr result (λ fault. (fault ≡ Memory)
+        ⊎ MakesNoLine Serve matches.now) }
 {
     let Some(port) = read_port(word_at(matches, "P")) else {
         return Err(fault_of_use(alloc, PORT));

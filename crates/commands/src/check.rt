@@ -128,9 +128,11 @@ pub fn check_outcome(alloc: Global, bytes: &[u8]) -> Result<Outcome, AllocError>
         → IfOk result (SaysValid (report_of v files)) }
     // A bag that isn't valid is refused with its first fault, and standard error is told it in words.
     ensures invalid { (files : List File) (fault : Fault)
-        → IsFormOf files bytes.now → FirstFault files fault → IfOk result (SaysInvalid fault) }
+        → IsFormOf files bytes.now → FirstFault files fault
+        → IfOk result (SaysInvalid fault) }
     // Bytes that are no form are refused with their fault, likewise.
-    ensures unreadable { (fault : SetFault) → length bytes.now ≤ max_form → FaultIs bytes.now fault
+    ensures unreadable { (fault : SetFault)
+        → length bytes.now ≤ max_form → FaultIs bytes.now fault
         → IfOk result (SaysUnreadable bytes.now fault) }
 {
     bytes_outcome(alloc, bytes)
@@ -141,7 +143,8 @@ pub fn check_outcome(alloc: Global, bytes: &[u8]) -> Result<Outcome, AllocError>
 pub fn judge<R: Read>(alloc: Global, form: &mut R) -> Result<Outcome, Trouble>
     // What is said is so of the first bytes that the reader gives.
     ensures says { IfOk result (λ outcome. (bytes : List ℕ)
-        × AreFirstOf (R.remaining form.old) (R.remaining form.new) bytes × SaysOfBytes bytes outcome) }
+        × AreFirstOf (R.remaining form.old) (R.remaining form.new) bytes
+        × SaysOfBytes bytes outcome) }
     ensures given { IfSome (R.remaining form.old) (λ given.
         IfOk result (SaysOfBytes (take bytes_to_read given))) }
 {

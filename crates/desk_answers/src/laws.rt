@@ -63,6 +63,7 @@ pub fn allowed_methods()
 
 /// The keys of each object in a body ascend, so no key stands in it twice.
 pub fn ascending_keys()
-    ensures answers { (answer : Answer) → content_has_ascending_keys (content_of answer) ≡ true }
+    ensures answers { (answer : Answer)
+        → content_has_ascending_keys (content_of answer) ≡ true }
     ensures refusals { (refusal : DeskRefusal) → has_ascending_keys (desk_data refusal) ≡ true }
 {}

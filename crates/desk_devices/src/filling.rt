@@ -31,8 +31,10 @@ pub fn fill<R: Read>(
         × Consumes (R.remaining (device_of reader.old)) (R.remaining (device_of reader.new)) more }
     ensures ok { OnOk result (want ≤ vec_len bytes.new) }
     ensures short { OnErr result (vec_len bytes.new < want) }
-    ensures end { result ≡ Err FillFault.Truncated → IsAtEnd (R.remaining (device_of reader.new)) }
-    ensures calm { result ≢ Err FillFault.Read → failures_of reader.new ≡ failures_of reader.old }
+    ensures end { result ≡ Err FillFault.Truncated
+        → IsAtEnd (R.remaining (device_of reader.new)) }
+    ensures calm { result ≢ Err FillFault.Read
+        → failures_of reader.new ≡ failures_of reader.old }
     ensures failed { result ≡ Err FillFault.Read
         → HasFailed (failures_of reader.old) (failures_of reader.new) }
     ensures reason { result ≡ Err FillFault.Read → IsSome (last_error_of reader.new) }

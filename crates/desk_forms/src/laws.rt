@@ -19,7 +19,8 @@ pub fn decoded_paths()
 /// values exactly where no pair has it.
 pub fn counted_keys()
     ensures once { (key value : List ℕ) (pairs : List (List ℕ × List ℕ))
-        → StandsOnce key pairs value ↔ ((count_of key pairs ≡ 1) × Contains pairs (key, value)) }
+        → StandsOnce key pairs value
+        ↔ ((count_of key pairs ≡ 1) × Contains pairs (key, value)) }
     ensures nowhere { (key : List ℕ) (pairs : List (List ℕ × List ℕ))
         → (values_under key pairs ≡ []) ↔ (count_of key pairs ≡ 0) }
 {}

@@ -12,7 +12,8 @@ ghost use Rattle.desk_heads.specs.declared.refusal.HeadRefusal.{HeadRefusal};
 /// 8,192 bytes at most. There is none exactly where no such front ends so: then the input is too
 /// short, or the head too large.
 pub fn shortest_front()
-    ensures found { (input : List ℕ) (n : ℕ) → (head_at input ≡ Found n) ↔ IsHeadEnd input n }
+    ensures found { (input : List ℕ) (n : ℕ)
+        → (head_at input ≡ Found n) ↔ IsHeadEnd input n }
     ensures short { (input : List ℕ)
         → (head_at input ≡ Short) ↔ ((length input < max_head) × HasNoHead input) }
     ensures too_large { (input : List ℕ)

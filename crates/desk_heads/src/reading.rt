@@ -43,7 +43,8 @@ fn read_to_end_of_head<R: Read>(
         → Consumes (R.remaining (device_of reader.old))
         (R.remaining (device_of reader.new)) bytes.new.items }
     ensures head { EndRead bytes.new.items result (R.remaining (device_of reader.new)) }
-    ensures calm { result ≢ Err HeadFault.Read → failures_of reader.new ≡ failures_of reader.old }
+    ensures calm { result ≢ Err HeadFault.Read
+        → failures_of reader.new ≡ failures_of reader.old }
     ensures failed { result ≡ Err HeadFault.Read
         → HasFailed (failures_of reader.old) (failures_of reader.new) }
     ensures reason { result ≡ Err HeadFault.Read → IsSome (last_error_of reader.new) }
@@ -75,11 +76,13 @@ pub fn read_head<R: Read>(alloc: Global, reader: &mut Counted<R>) -> Result<Head
     ensures given { result ≢ Err HeadFault.Memory → (given : List ℕ)
         × Consumes (R.remaining (device_of reader.old)) (R.remaining (device_of reader.new)) given
         × HeadRead given result (R.remaining (device_of reader.new)) }
-    ensures calm { result ≢ Err HeadFault.Read → failures_of reader.new ≡ failures_of reader.old }
+    ensures calm { result ≢ Err HeadFault.Read
+        → failures_of reader.new ≡ failures_of reader.old }
     ensures failed { result ≡ Err HeadFault.Read
         → HasFailed (failures_of reader.old) (failures_of reader.new) }
     ensures reason { result ≡ Err HeadFault.Read → IsSome (last_error_of reader.new) }
-    ensures within { IfOk result (λ head. (head.end ≤ vec_len head.bytes) × (head.end ≤ max_head)) }
+    ensures within { IfOk result (λ head. (head.end ≤ vec_len head.bytes)
+        × (head.end ≤ max_head)) }
     ensures whole { IfSome (R.remaining (device_of reader.old)) (λ input. HeadOf input result) }
 {
     let mut bytes = Vec::new(alloc);

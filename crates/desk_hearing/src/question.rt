@@ -31,7 +31,8 @@ pub(crate) enum Question {
 /// The question, where its route has a query without pairs.
 fn without_query(query: &[u8], question: Question) -> Result<Question, JudgingFault>
     ensures { MatchResult result (λ same. (same ≡ question) × HasNoPair query.now)
-        (λ fault. (fault ≡ JudgingFault.Refused DeskRefusal.BadQuery) × (HasNoPair query.now → ⊥)) }
+        (λ fault. (fault ≡ JudgingFault.Refused DeskRefusal.BadQuery)
+        × (HasNoPair query.now → ⊥)) }
 {
     check_no_query(query)?;
     Ok(question)

@@ -28,11 +28,13 @@ pub fn hear_request<R: Read>(
         × HeardOf given result }
     ensures end { result ≡ Err (HeardFault.Refused DeskRefusal.Truncated)
         → IsAtEnd (R.remaining (device_of reader.new)) }
-    ensures calm { result ≢ Err HeardFault.Read → failures_of reader.new ≡ failures_of reader.old }
+    ensures calm { result ≢ Err HeardFault.Read
+        → failures_of reader.new ≡ failures_of reader.old }
     ensures failed { result ≡ Err HeardFault.Read
         → HasFailed (failures_of reader.old) (failures_of reader.new) }
     ensures reason { result ≡ Err HeardFault.Read → IsSome (last_error_of reader.new) }
-    ensures whole { IfSome (R.remaining (device_of reader.old)) (λ input. HeardOfAll input result) }
+    ensures whole { IfSome (R.remaining (device_of reader.old)) (λ input.
+        HeardOfAll input result) }
 {
     let head = read_head(alloc, reader)?;
     let end = head.end;
@@ -58,11 +60,13 @@ pub fn read_request<R: Read>(alloc: Global, reader: &mut Counted<R>) -> Result<H
         × HeardOf given result }
     ensures end { result ≡ Err (HeardFault.Refused DeskRefusal.Truncated)
         → IsAtEnd (R.remaining (device_of reader.new)) }
-    ensures calm { result ≢ Err HeardFault.Read → failures_of reader.new ≡ failures_of reader.old }
+    ensures calm { result ≢ Err HeardFault.Read
+        → failures_of reader.new ≡ failures_of reader.old }
     ensures failed { result ≡ Err HeardFault.Read
         → HasFailed (failures_of reader.old) (failures_of reader.new) }
     ensures reason { result ≡ Err HeardFault.Read → IsSome (last_error_of reader.new) }
-    ensures whole { IfSome (R.remaining (device_of reader.old)) (λ input. HeardOfAll input result) }
+    ensures whole { IfSome (R.remaining (device_of reader.old)) (λ input.
+        HeardOfAll input result) }
 {
     let routes = Routes::new(alloc)?;
     hear_request(alloc, &routes, reader)

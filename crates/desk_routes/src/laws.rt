@@ -53,7 +53,8 @@ pub fn asked_routes()
     ensures asked { (method path : List ℕ) (route : RouteValue)
         → (route_of method path ≡ Ok route) ↔ AsksFor method path route }
     ensures nothing { (method path : List ℕ)
-        → (route_of method path ≡ Err NoRoute) ↔ ((place : PlaceValue) → ¬ (SpellsPlace path place)) }
+        → (route_of method path ≡ Err NoRoute)
+        ↔ ((place : PlaceValue) → ¬ (SpellsPlace path place)) }
     ensures refused { (method path : List ℕ) (pattern : AnyPattern)
         → (route_of method path ≡ Err (Method pattern)) ↔ IsOtherMethod method path pattern }
 {}
@@ -61,5 +62,6 @@ pub fn asked_routes()
 /// A target has one path and one query.
 pub fn one_split()
     ensures { (target path query : List ℕ)
-        → ((path_part target ≡ path) × (query_part target ≡ query)) ↔ Splits target path query }
+        → ((path_part target ≡ path) × (query_part target ≡ query))
+        ↔ Splits target path query }
 {}

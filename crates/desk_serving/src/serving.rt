@@ -91,12 +91,15 @@ pub fn respond<S: Alter, R: Read>(
         → (given : List ℕ)
         × Consumes (R.remaining (device_of reader.old)) (R.remaining (device_of reader.new)) given
         × Hears given (Err DeskRefusal.Truncated)
-        × HasFailed (failures_of reader.old) (failures_of reader.new) × (office.new ≡ office.old) }
-    ensures served { result ≡ Err (Unanswered.Memory true) → (given : List ℕ) × (answer : Answer)
+        × HasFailed (failures_of reader.old) (failures_of reader.new)
+        × (office.new ≡ office.old) }
+    ensures served { result ≡ Err (Unanswered.Memory true)
+        → (given : List ℕ) × (answer : Answer)
         × Consumes (R.remaining (device_of reader.old)) (R.remaining (device_of reader.new)) given
         × ServesBytes day given (state S.Store office.old) (state S.Store office.new) answer }
     ensures not_served { result ≡ Err (Unanswered.Memory false) → office.new ≡ office.old }
-    ensures calm { result ≢ Err Unanswered.Read → failures_of reader.new ≡ failures_of reader.old }
+    ensures calm { result ≢ Err Unanswered.Read
+        → failures_of reader.new ≡ failures_of reader.old }
     // Where all that the reader has is known, it is all that is heard.
     ensures whole { IfSome (R.remaining (device_of reader.old)) (λ input. IfOk result (λ response.
         IsAnswered S.Store (record { day = day; bytes = input })
@@ -145,7 +148,8 @@ pub fn serve_one<S: Alter, R: Read, W: Write>(
         → (given : List ℕ)
         × Consumes (R.remaining (device_of reader.old)) (R.remaining (device_of reader.new)) given
         × Hears given (Err DeskRefusal.Truncated)
-        × HasFailed (failures_of reader.old) (failures_of reader.new) × (office.new ≡ office.old)
+        × HasFailed (failures_of reader.old) (failures_of reader.new)
+        × (office.new ≡ office.old)
         × (writer.new ≡ writer.old) }
     // The writer failed in this call, and has a beginning of the answer.
     ensures write { (done : Bool) → result ≡ Err (DeskFault.Write done)
@@ -155,7 +159,8 @@ pub fn serve_one<S: Alter, R: Read, W: Write>(
         (record { text = text; done = done }) office.old office.new × (count < length text)
         × Appends (W.contents (device_of writer.old)) (W.contents (device_of writer.new))
         (take count text) × HasFailed (failures_of writer.old) (failures_of writer.new)
-        × (Hears given (Err DeskRefusal.Truncated) → IsAtEnd (R.remaining (device_of reader.new))) }
+        × (Hears given (Err DeskRefusal.Truncated)
+        → IsAtEnd (R.remaining (device_of reader.new))) }
     // Memory ran out after the office's answer, or before the office was asked.
     ensures memory_done { result ≡ Err (DeskFault.Memory true)
         → (given : List ℕ) × (answer : Answer)
@@ -173,7 +178,8 @@ pub fn serve_one<S: Alter, R: Read, W: Write>(
         × Appends (W.contents (device_of writer.old)) (W.contents (device_of writer.new)) text)) }
     ensures whole_write { (done : Bool) → result ≡ Err (DeskFault.Write done)
         → IfSome (R.remaining (device_of reader.old)) (λ input.
-        (text : List ℕ) × (count : ℕ) × IsAnswered S.Store (record { day = day; bytes = input })
+        (text : List ℕ) × (count : ℕ)
+        × IsAnswered S.Store (record { day = day; bytes = input })
         (record { text = text; done = done }) office.old office.new × (count < length text)
         × Appends (W.contents (device_of writer.old)) (W.contents (device_of writer.new))
         (take count text)) }

@@ -44,7 +44,8 @@ pub(crate) fn answer_next<S: Alter, W: Write>(
         (Appends (W.contents (device_of writer.old)) (W.contents (device_of writer.new))) result }
     ensures failed { result ≡ Err Unwritten.Write
         → HasFailed (failures_of writer.old) (failures_of writer.new) }
-    ensures calm { result ≢ Err Unwritten.Write → failures_of writer.new ≡ failures_of writer.old }
+    ensures calm { result ≢ Err Unwritten.Write
+        → failures_of writer.new ≡ failures_of writer.old }
 {
     let mut request = Counted::new(bytes);
     match respond(alloc, routes, office, day, &mut request) {

@@ -35,7 +35,8 @@ const MAX_LINE: usize = 24;
 /// The day that ten bytes write.
 fn read_day(text: &[u8]) -> Option<Day>
     ensures written { IfSome result (λ day. IsDay day × (text.now ≡ day_text day)) }
-    ensures only { (day : Date) → IsDay day → text.now ≡ day_text day → result ≡ Some day }
+    ensures only { (day : Date)
+        → IsDay day → text.now ≡ day_text day → result ≡ Some day }
 {
     match str::from_utf8(text) {
         Ok(text) => Day::read(text),
@@ -54,7 +55,8 @@ fn has_marks(line: &[u8]) -> bool
 fn read_line(line: &[u8]) -> Option<(Day, usize)>
     ensures written { IfSome result (λ said.
         IsLine said.0 said.1 × (line.now ≡ line_text said.0 said.1)) }
-    ensures only { (day : Date) (count : ℕ) → IsLine day count → line.now ≡ line_text day count
+    ensures only { (day : Date) (count : ℕ)
+        → IsLine day count → line.now ≡ line_text day count
         → result ≡ Some (day, count) }
 {
     if !has_marks(line) {

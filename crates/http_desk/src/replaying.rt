@@ -111,7 +111,8 @@ fn read_more<R: Read>(reader: &mut Counted<R>, pending: &mut Vec<u8>) -> Result<
         (R.remaining (device_of reader.new)) pending.old.items pending.new.items result }
     ensures failed { result ≡ Err ReplayStop.Read
         → HasFailed (failures_of reader.old) (failures_of reader.new) }
-    ensures calm { result ≢ Err ReplayStop.Read → failures_of reader.new ≡ failures_of reader.old }
+    ensures calm { result ≢ Err ReplayStop.Read
+        → failures_of reader.new ≡ failures_of reader.old }
 {
     let mut chunk = [0u8; 4096];
     match reader.read(&mut chunk) {
@@ -142,10 +143,14 @@ pub fn replay<S: Alter, R: Read, W: Write>(
     ensures written { IfErr result (λ fault.
         fault.stop ≡ ReplayStop.Write
         → HasFailed (failures_of writer.old) (failures_of writer.new)) }
-    ensures calm_reader { MatchResult result (λ _. failures_of reader.new ≡ failures_of reader.old)
-        (λ fault. fault.stop ≢ ReplayStop.Read → failures_of reader.new ≡ failures_of reader.old) }
-    ensures calm_writer { MatchResult result (λ _. failures_of writer.new ≡ failures_of writer.old)
-        (λ fault. fault.stop ≢ ReplayStop.Write → failures_of writer.new ≡ failures_of writer.old) }
+    ensures calm_reader { MatchResult result (λ _.
+        failures_of reader.new ≡ failures_of reader.old)
+        (λ fault. fault.stop ≢ ReplayStop.Read
+        → failures_of reader.new ≡ failures_of reader.old) }
+    ensures calm_writer { MatchResult result (λ _.
+        failures_of writer.new ≡ failures_of writer.old)
+        (λ fault. fault.stop ≢ ReplayStop.Write
+        → failures_of writer.new ≡ failures_of writer.old) }
 {
     let Ok(routes) = Routes::new(alloc) else {
         return Err(ReplayFault::between(ReplayStop::Memory, 0));

@@ -56,7 +56,8 @@ impl Action {
     /// The action that the text writes, where it writes one.
     pub fn read(text: &str) -> Option<Action>
         ensures written { IfSome result (λ action. text.now ≡ action_text action) }
-        ensures only { (action : Action) → text.now ≡ action_text action → result ≡ Some action }
+        ensures only { (action : Action)
+            → text.now ≡ action_text action → result ≡ Some action }
         ensures first { result ≡ action_of text.now }
     {
         action_of(text)

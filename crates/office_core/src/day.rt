@@ -130,7 +130,8 @@ fn date_at(number: i32) -> Option<civil::Date>
 /// The day that a text writes.
 fn read_day(text: &str) -> Option<Day>
     ensures written { IfSome result (λ day. IsDay day × (text.now ≡ day_text day)) }
-    ensures only { (day : Date) → IsDay day → text.now ≡ day_text day → result ≡ Some day }
+    ensures only { (day : Date)
+        → IsDay day → text.now ≡ day_text day → result ≡ Some day }
 {
     let (century, year, month, day) = parts(text.as_bytes())?;
     of_date(date_of(century, year, month, day)?)
@@ -168,7 +169,8 @@ impl Day {
         // A day that is read is one of the office, and the text is how it is written; each such day is read
         // from its text.
         ensures written { IfSome result (λ day. IsDay day × (text.now ≡ day_text day)) }
-        ensures only { (day : Date) → IsDay day → text.now ≡ day_text day → result ≡ Some day }
+        ensures only { (day : Date)
+            → IsDay day → text.now ≡ day_text day → result ≡ Some day }
 
         // The same by computing.
         ensures exact { result ≡ day_of text.now }

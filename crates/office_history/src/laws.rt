@@ -47,7 +47,8 @@ pub fn deposited_bags()
     ensures unreadable { (text : List ℕ) (fault : SetFault)
         → FaultIs text fault → bag_of text ≡ Err (set_fault_text fault) }
     ensures invalid { (bag : List File) (fault : Fault)
-        → IsBag bag → FirstFault bag fault → bag_of (set_text bag) ≡ Err (fault_text fault) }
+        → IsBag bag → FirstFault bag fault
+        → bag_of (set_text bag) ≡ Err (fault_text fault) }
 {
     bag_text::laws::transfer_forms();
     bag_check::laws::judged_bags();
@@ -70,14 +71,16 @@ pub fn changes_stand()
         → IsChange change × IsAllowed (as_of h before) change }
     ensures releases { (h : History) → IsLegal h
         → (before rest : List Change) (day : Date) (k : ℕ)
-        → h.changes ≡ before ++ ReleasedHold day k ∷ rest → IsReleasable (as_of h before) k }
+        → h.changes ≡ before ++ ReleasedHold day k ∷ rest
+        → IsReleasable (as_of h before) k }
 {}
 
 /// In a legal history no disposal stands where, at its place, a live hold covered the deposit or
 /// its due day had not come.
 pub fn disposals_stand()
     ensures { (h : History) → IsLegal h → (before rest : List Change) (day : Date) (n : ℕ)
-        → h.changes ≡ before ++ Destroyed day n ∷ rest → IsDisposable (as_of h before) day n }
+        → h.changes ≡ before ++ Destroyed day n ∷ rest
+        → IsDisposable (as_of h before) day n }
 {}
 
 /// In a legal history the limits are from 1 to 1,000,000, and no more deposits and holds were
@@ -206,7 +209,8 @@ pub fn what_may_be_destroyed_is_on_the_due_list()
         → Contains (due_list h day caller) n }
     ensures only { (h : History) (day : Date) (caller : List ℕ) (n : ℕ)
         → Contains (due_list h day caller) n
-        → (may : IsDisposable h day n) × (denial_at h day caller acts.Dispose may.found.1 ≡ None) }
+        → (may : IsDisposable h day n)
+        × (denial_at h day caller acts.Dispose may.found.1 ≡ None) }
 {}
 
 /// In a legal history each audit that is answered is of the deposit that was asked for, and says
@@ -235,7 +239,8 @@ pub fn contents_are_kept_once()
 /// up to 9999-12-31; counts of live holds up to the limit; one target a hold; what a row speaks of
 /// is there; places and numbers 1, 2, 3 and so on.
 pub fn pictures_are_in_range()
-    ensures { (h : History) (version : ℤ) → IsLegal h → AreInRange version (picture version h) }
+    ensures { (h : History) (version : ℤ)
+        → IsLegal h → AreInRange version (picture version h) }
 {
     bag_text::laws::transfer_forms();
     bag_check::laws::judged_bags();
@@ -301,7 +306,8 @@ pub fn the_least_live_hold_is_named()
         → deposit_numbered h n ≡ Some found
         → refusal h day caller (Dispose n) ≡ Some (Held k)
         → (release_day h k ≡ None) × (covers h k n found.1 ≡ true)
-        × ((other : ℕ) → release_day h other ≡ None → covers h other n found.1 ≡ true → k ≤ other) }
+        × ((other : ℕ) → release_day h other ≡ None
+        → covers h other n found.1 ≡ true → k ≤ other) }
     ensures refused { (h : History) (day : Date) (caller : List ℕ)
         (n k : ℕ) (found : Date × Deposit)
         → deposit_numbered h n ≡ Some found → destruction_day h n ≡ None
@@ -337,7 +343,8 @@ pub fn revised_classes_move_due_days()
         (years given_years : Option ℕ) (deposit : Deposit)
         → answer h day caller (DefineClass name years) ≡ answers.Class given_name given_years
         → deposit.class ≡ name
-        → due (after h day caller (DefineClass name years)) deposit ≡ due_of deposit.closed years }
+        → due (after h day caller (DefineClass name years)) deposit
+        ≡ due_of deposit.closed years }
 {}
 
 /// A class that is given other years, and then the years that it had, leaves the due day of each

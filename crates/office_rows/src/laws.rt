@@ -15,7 +15,8 @@ pub fn limits_are_in_range()
 /// A row whose number is above all others comes at the end.
 pub fn highest_comes_last<Row>()
     ensures { (number : Row → ℤ) (row : Row) (rows : List Row)
-        → NumbersBelow number (number row) rows → put_by number row rows ≡ rows ++ row ∷ [] }
+        → NumbersBelow number (number row) rows
+        → put_by number row rows ≡ rows ++ row ∷ [] }
 {}
 
 /// A row whose number is new comes to rows whose numbers rise in such a place that they still rise.
@@ -32,15 +33,18 @@ pub fn new_rows_keep_the_order<Row>()
 pub fn rules_are_sorted()
     ensures sorted { (rules : List RuleRow) → NumbersDiffer (λ r. r.place) rules
         → PlacesRise (sorted_by (λ r. r.place) rules) }
-    ensures each { (rules : List RuleRow) → IsPermutation rules (sorted_by (λ r. r.place) rules) }
+    ensures each { (rules : List RuleRow)
+        → IsPermutation rules (sorted_by (λ r. r.place) rules) }
     ensures rising { (callers : List CallerRow) (rules : List RuleRow) (tables : Tables)
         → PlacesRise rules
-        → with_policy callers rules tables ≡ record tables { callers = callers; rules = rules } }
+        → with_policy callers rules tables
+        ≡ record tables { callers = callers; rules = rules } }
 {}
 
 /// The last number of rows whose numbers rise is the highest: what is above it is above each. Where there is none, there is no row.
 pub fn last_number_is_highest<Row>()
-    ensures above { (number : Row → ℤ) (rows : List Row) (last next : ℤ) → NumbersRise number rows
+    ensures above { (number : Row → ℤ) (rows : List Row) (last next : ℤ)
+        → NumbersRise number rows
         → last_number number rows ≡ Some last → int_cmp last next ≡ Less
         → NumbersBelow number next rows }
     ensures first { (number : Row → ℤ) (rows : List Row) (next : ℤ)

@@ -52,7 +52,8 @@ fn work_on<S: Start, R: Read, O: Write, E: Write>(
         (on_store ⟦<FileFrom<S> as Disk>⟧ (image_at S.Start) (start.new ≡ start.old))
         (record { store = store.now; work = work.now }) result
         (seen_of R.Read O.Write E.Write streams.old) (seen_of R.Read O.Write E.Write streams.new) }
-    ensures input { work_reads_input work.now ≡ false → streams.new.input ≡ streams.old.input }
+    ensures input { work_reads_input work.now ≡ false
+        → streams.new.input ≡ streams.old.input }
     ensures error { streams.new.error ≡ streams.old.error }
     ensures answers { IfOk result (λ done. IsAnswer done.ending) }
 {

@@ -67,7 +67,8 @@ fn allowed_change(
     day: Day,
     request: &Request<'_>,
 ) -> Result<Option<Kind>, AllocError>
-    ensures { IfOk result (λ kind. changes_seen kind ≡ allowed_change office.now day request.now) }
+    ensures { IfOk result (λ kind.
+        changes_seen kind ≡ allowed_change office.now day request.now) }
 {
     match request {
         Request::DefineClass { name, years } => {
@@ -131,7 +132,8 @@ fn serve(
     caller: &str,
     request: &Request<'_>,
 ) -> Result<Answer, AllocError>
-    ensures answer { IfOk result (λ given. given ≡ answer office.old day caller.now request.now) }
+    ensures answer { IfOk result (λ given.
+        given ≡ answer office.old day caller.now request.now) }
     ensures after { OnOk result (office.new ≡ after office.old day caller.now request.now) }
     ensures failed { OnErr result (office.new ≡ office.old) }
 {
