@@ -22,7 +22,7 @@ use Rattle.bag_text.specs.TransferForm.{File, Fits, max_content}
 use Rattle.bag_text.specs.declared.listing.Listing.{Listing}
 use Rattle.bag_text.specs.declared.listing.Manifest.{Manifest}
 use Rattle.bag_text.specs.declared.declaration.Version.{Version}
-use Rattle.bag_text.specs.ManifestReading.{entry_in, is_listed, manifest_of}
+use Rattle.bag_text.specs.ManifestReading.{entry_in, is_path_listed, manifest_of}
 use Rattle.bag_text.specs.BagInfo.{Pair}
 use Rattle.bag_text.specs.InfoReading.{Kept, pair_in, pairs_of}
 use Rattle.bag_check.specs.declared.rule.Rule.{Rule}
@@ -34,7 +34,7 @@ use Rattle.bag_check.specs.Validity.{is_oxum, oxums_of, payload_files, payload_b
 use Rattle.bag_check.specs.FaultTexts.{is_escaped, printed_text, printed_byte, fault_text}
 use Rattle.bag_check.specs.Faults.{Fault, Breaks, rule_number}
 use Rattle.bag_text.specs.Answers.{◌>>=◌, FailsAs}
-use Rattle.bag_check.specs.Judging.{Named, Listed, named_of, onto, manifests_in, listed_or_fault, listings_of, asks_for, first_unlisted, first_in, first_place, named_by, named_or_fault, version_in, no_fetch, some_payload, keeps, listing_rules, keeps_contents, judge}
+use Rattle.bag_check.specs.Judging.{Named, Listed, named_of, with_manifest, manifests_in, listed_or_fault, listings_of, asks_for, first_unlisted, first_in, first_place, named_by, named_or_fault, version_declared, no_fetch, some_payload, keeps, listing_rules, keeps_contents, judge}
 use Rattle.bag_text.proofs.ResultLemmas.{fronted, again_onto, nothing_onto}
 
 -- ---- bytes that are printed as escapes
@@ -140,7 +140,7 @@ pub manifests_skip : (front : List Named) (fs more : List File) (f : File) (tota
 unfolding manifests_in
 manifests_skip front fs more f total is e so_far = sym one ∙ ap (λ (gs : List File). fronted front (manifests_in gs)) (sym is) ∙ so_far
   where
-    same_again : (r : Result (List Named) Fault) → (r >>= λ ms. Ok (onto None ms)) ≡ r
+    same_again : (r : Result (List Named) Fault) → (r >>= λ ms. Ok (with_manifest None ms)) ≡ r
     same_again (Ok ms) = refl
     same_again (Err x) = refl
 
@@ -192,7 +192,7 @@ unlisted rule manifest files = first_unlisted files rule (map entry_in manifest.
 
 -- whether a manifest lists a file's path
 abbrev is_its : Manifest → File → Bool
-is_its manifest f = is_listed f.path (map entry_in manifest.entries.entries)
+is_its manifest f = is_path_listed f.path (map entry_in manifest.entries.entries)
 
 -- a file that the rule asks for and the manifest doesn't list
 pub unlisted_here : (rule : Rule) (manifest : Manifest) (fs more : List File) (f : File) (total : Option (List ℕ)) → fs ≡ f ∷ more → asks_for rule f.path ≡ true → is_its manifest f ≡ false → unlisted rule manifest fs ≡ total → Some f.path ≡ total
@@ -213,11 +213,11 @@ unlisted_listed rule manifest fs more f total is asks its so_far =
     sym one ∙ ap (unlisted rule manifest) (sym is) ∙ so_far
 
 -- a path is found by its bytes
-pub found_by_bytes : (es : List (CowStr Global × Listing)) (path : List ℕ) → is_some (lookup (is_at (λ k. slice_cmp nat_cmp path (cow_str_bytes k))) es) ≡ is_listed path (map entry_in es)
+pub found_by_bytes : (es : List (CowStr Global × Listing)) (path : List ℕ) → is_some (lookup (is_at (λ k. slice_cmp nat_cmp path (cow_str_bytes k))) es) ≡ is_path_listed path (map entry_in es)
 found_by_bytes [] path = refl
 found_by_bytes (e ∷ es) path = by_test (is_at (slice_cmp nat_cmp path) (cow_str_bytes e.0)) (found_by_bytes es path)
   where
-    by_test : (x : Bool) → is_some (lookup (is_at (λ k. slice_cmp nat_cmp path (cow_str_bytes k))) es) ≡ is_listed path (map entry_in es) → is_some (cond x (Some e.1) (lookup (is_at (λ k. slice_cmp nat_cmp path (cow_str_bytes k))) es)) ≡ is_some (cond x (Some (entry_in e).1) (lookup (is_at (slice_cmp nat_cmp path)) (map entry_in es)))
+    by_test : (x : Bool) → is_some (lookup (is_at (λ k. slice_cmp nat_cmp path (cow_str_bytes k))) es) ≡ is_path_listed path (map entry_in es) → is_some (cond x (Some e.1) (lookup (is_at (λ k. slice_cmp nat_cmp path (cow_str_bytes k))) es)) ≡ is_some (cond x (Some (entry_in e).1) (lookup (is_at (slice_cmp nat_cmp path)) (map entry_in es)))
     by_test true again = refl
     by_test false again = again
 
@@ -325,17 +325,17 @@ unfolding manifests_in
 manifests_counted [] ms e = let is : ms ≡ [] = cc in ap length is
 manifests_counted (f ∷ fs) ms e = by_name (manifest_name f.path) refl (λ rest h. manifests_counted fs rest h) e
   where
-    by_rest : (o : Option Named) (r : Result (List Named) Fault) → (r >>= λ ns. Ok (onto o ns)) ≡ Ok ms → ((rest : List Named) → r ≡ Ok rest → length rest ≡ manifest_count fs) → (rest : List Named) × (ms ≡ onto o rest) × (length rest ≡ manifest_count fs)
-    by_rest o (Ok rest) e again = (rest, (let is : onto o rest ≡ ms = cc in sym is), again rest refl)
+    by_rest : (o : Option Named) (r : Result (List Named) Fault) → (r >>= λ ns. Ok (with_manifest o ns)) ≡ Ok ms → ((rest : List Named) → r ≡ Ok rest → length rest ≡ manifest_count fs) → (rest : List Named) × (ms ≡ with_manifest o rest) × (length rest ≡ manifest_count fs)
+    by_rest o (Ok rest) e again = (rest, (let is : with_manifest o rest ≡ ms = cc in sym is), again rest refl)
     by_rest o (Err x) e again = absurd cc
 
-    by_algorithm : (kind : Kind) (a : Option Algorithm) → manifest_count (f ∷ fs) ≡ suc (manifest_count fs) → ((rest : List Named) → manifests_in fs ≡ Ok rest → length rest ≡ manifest_count fs) → (named_by f kind a >>= λ found. manifests_in fs >>= λ ns. Ok (onto found ns)) ≡ Ok ms → length ms ≡ manifest_count (f ∷ fs)
+    by_algorithm : (kind : Kind) (a : Option Algorithm) → manifest_count (f ∷ fs) ≡ suc (manifest_count fs) → ((rest : List Named) → manifests_in fs ≡ Ok rest → length rest ≡ manifest_count fs) → (named_by f kind a >>= λ found. manifests_in fs >>= λ ns. Ok (with_manifest found ns)) ≡ Ok ms → length ms ≡ manifest_count (f ∷ fs)
     by_algorithm kind None counts again e = absurd cc
     by_algorithm kind (Some a) counts again e =
         let p = by_rest (Some (record { name = f.path; kind = kind; algorithm = a; text = f.content })) (manifests_in fs) e again in
         ap length p.1 ∙ ap suc p.2 ∙ sym counts
 
-    by_name : (o : Option (Kind × List ℕ)) → manifest_name f.path ≡ o → ((rest : List Named) → manifests_in fs ≡ Ok rest → length rest ≡ manifest_count fs) → (named_or_fault f o >>= λ found. manifests_in fs >>= λ ns. Ok (onto found ns)) ≡ Ok ms → length ms ≡ manifest_count (f ∷ fs)
+    by_name : (o : Option (Kind × List ℕ)) → manifest_name f.path ≡ o → ((rest : List Named) → manifests_in fs ≡ Ok rest → length rest ≡ manifest_count fs) → (named_or_fault f o >>= λ found. manifests_in fs >>= λ ns. Ok (with_manifest found ns)) ≡ Ok ms → length ms ≡ manifest_count (f ∷ fs)
     by_name None is again e =
         let p = by_rest None (manifests_in fs) e again in
         let counts : manifest_count (f ∷ fs) ≡ manifest_count fs = rw is refl in
@@ -346,7 +346,7 @@ manifests_counted (f ∷ fs) ms e = by_name (manifest_name f.path) refl (λ rest
 
 -- the verdict on a bag of which no step names a fault
 pub judged : (bag : List File) (v : Version) (unit : Unit {0}) (ms : List Named) (ls : List Listed) (r : Report)
-    → version_in bag ≡ Ok v → no_fetch bag ≡ Ok unit → manifests_in bag ≡ Ok ms → some_payload ms ≡ Ok unit → listings_of v ms ≡ Ok ls → keeps bag ls listing_rules ≡ Ok unit → keeps_contents bag ls ≡ Ok unit
+    → version_declared bag ≡ Ok v → no_fetch bag ≡ Ok unit → manifests_in bag ≡ Ok ms → some_payload ms ≡ Ok unit → listings_of v ms ≡ Ok ls → keeps bag ls listing_rules ≡ Ok unit → keeps_contents bag ls ≡ Ok unit
     → r ≡ record { version = v; files = payload_files bag; bytes = payload_bytes bag; manifests = length ms } → judge bag ≡ Ok r
 judged bag v unit ms ls r version fetch found some read kept contents is =
     rw (version, fetch, found, some, read, kept, contents) (ap (λ (x : Report). Ok x) (sym (is ∙ ap (λ (n : ℕ). record { version = v; files = payload_files bag; bytes = payload_bytes bag; manifests = n }) (manifests_counted bag ms found))))

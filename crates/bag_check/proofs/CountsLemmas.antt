@@ -10,7 +10,7 @@ use Rattle.std.proofs.lemmas.List.Sums.{prefix_len-le-length}
 use Rattle.std.proofs.lemmas.Option.{same_Some}
 use Rattle.bag_text.specs.Text.{is_blank, AreBlanks}
 use Rattle.bag_check.specs.Validity.{number_from, IsNumber, NamesCounts}
-use Rattle.bag_check.specs.OxumReading.{digit_len, digits_in, behind_digits, number_spelled, behind_stop, last_number, with_files, with_rest, with_bytes, counts_of}
+use Rattle.bag_check.specs.OxumReading.{digit_len, digits_in, behind_digits, number_spelled, behind_stop, number_at_end, oxum_with_files, with_rest, with_bytes, counts_of}
 use Rattle.bag_check.proofs.OxumLemmas.{Stops, same_run, blanks_stop}
 
 -- ---- the digits at the front
@@ -82,7 +82,7 @@ stop_is (b ∷ t) rest e = by_test (eqb b 46) refl e
     by_test false is e = absurd cc
 
 -- a number at the end has only blanks after it
-last_is : (t : List ℕ) (n : ℕ) → last_number t ≡ Some n → AreBlanks (behind_digits t) × (number_spelled (digits_in t) ≡ Some n)
+last_is : (t : List ℕ) (n : ℕ) → number_at_end t ≡ Some n → AreBlanks (behind_digits t) × (number_spelled (digits_in t) ≡ Some n)
 last_is t n e = by_test (list_all is_blank (behind_digits t)) refl e
   where
     by_test : (x : Bool) → list_all is_blank (behind_digits t) ≡ x → cond x (number_spelled (digits_in t)) None ≡ Some n → AreBlanks (behind_digits t) × (number_spelled (digits_in t) ≡ Some n)
@@ -90,7 +90,7 @@ last_is t n e = by_test (list_all is_blank (behind_digits t)) refl e
     by_test false is e = absurd cc
 
 -- two numbers of which the second is read
-with_files_is : (bytes b f : ℕ) (o : Option ℕ) → with_files bytes o ≡ Some (b, f) → (bytes ≡ b) × (o ≡ Some f)
+with_files_is : (bytes b f : ℕ) (o : Option ℕ) → oxum_with_files bytes o ≡ Some (b, f) → (bytes ≡ b) × (o ≡ Some f)
 with_files_is bytes b f None e = absurd cc
 with_files_is bytes b f (Some files) e =
     let same : (bytes, files) ≡ (b, f) = same_Some (bytes, files) (b, f) e in
@@ -103,7 +103,7 @@ counts_is value b f e = by_bytes (number_spelled (digits_in value)) refl e
     by_rest : (bytes : ℕ) → number_spelled (digits_in value) ≡ Some bytes → (o : Option (List ℕ)) → behind_stop (behind_digits value) ≡ o → with_rest bytes o ≡ Some (b, f) → NamesCounts value b f
     by_rest bytes first None stop e = absurd cc
     by_rest bytes first (Some rest) stop e =
-        let both = with_files_is bytes b f (last_number rest) e in
+        let both = with_files_is bytes b f (number_at_end rest) e in
         let last = last_is rest f both.1 in
         let behind : behind_digits value ≡ 46 ∷ (digits_in rest ++ behind_digits rest) = stop_is (behind_digits value) rest stop ∙ ap (λ (r : List ℕ). 46 ∷ r) (sym (cut rest)) in (
           digits_in value,
@@ -128,5 +128,5 @@ counts_again value b f (first, second, after, is, blanks, bytes, files) =
     let number : number_spelled (digits_in value) ≡ Some b = ap number_spelled one.0 ∙ number_again first b bytes in
     let rest : behind_stop (behind_digits value) ≡ Some (second ++ after) = ap behind_stop one.1 in
     let only : list_all is_blank (behind_digits (second ++ after)) ≡ true = ap (list_all is_blank) two.1 ∙ blanks in
-    let last : last_number (second ++ after) ≡ Some f = ap (λ (x : Bool). cond x (number_spelled (digits_in (second ++ after))) None) only ∙ ap number_spelled two.0 ∙ number_again second f files in
-    ap (λ (o : Option ℕ). with_bytes o (behind_stop (behind_digits value))) number ∙ ap (with_rest b) rest ∙ ap (with_files b) last
+    let last : number_at_end (second ++ after) ≡ Some f = ap (λ (x : Bool). cond x (number_spelled (digits_in (second ++ after))) None) only ∙ ap number_spelled two.0 ∙ number_again second f files in
+    ap (λ (o : Option ℕ). with_bytes o (behind_stop (behind_digits value))) number ∙ ap (with_rest b) rest ∙ ap (oxum_with_files b) last

@@ -6,7 +6,7 @@ use Rattle.bag_text.specs.TransferForm.{File, IsBag}
 use Rattle.bag_text.specs.declared.declaration.Version.{Version}
 use Rattle.bag_text.specs.declared.checksum.Algorithm.{Algorithm}
 use Rattle.bag_text.specs.Manifest.{Lists, checksum_of}
-use Rattle.bag_text.specs.ManifestReading.{is_listed}
+use Rattle.bag_text.specs.ManifestReading.{is_path_listed}
 use Rattle.bag_check.specs.declared.names.Kind.{Kind}
 use Rattle.bag_check.specs.declared.names.Kind.TheVariants.{Payload, Tag}
 use Rattle.bag_check.specs.declared.rule.Rule.{Rule}
@@ -16,7 +16,7 @@ use Rattle.bag_check.specs.Fixity.{matches_of}
 use Rattle.bag_check.specs.Validity.{Report, report_of, Valid}
 use Rattle.bag_check.specs.Faults.{Fault, Breaks, IsBroken, Stands, FirstFault}
 use Rattle.bag_text.specs.Answers.{◌>>=◌}
-use Rattle.bag_check.specs.Judging.{has_path, version_in, no_fetch, Named, manifests_in, some_payload, Listed, listings_of, keeps, listing_rules, keeps_info, keeps_contents, judge}
+use Rattle.bag_check.specs.Judging.{has_path, version_declared, no_fetch, Named, manifests_in, some_payload, Listed, listings_of, keeps, listing_rules, keeps_info, keeps_contents, judge}
 use Rattle.bag_text.proofs.ResultLemmas.{bind_ok, bind_err, same_ok}
 use Rattle.bag_text.proofs.ManifestLaws.{read_is_manifest}
 use Rattle.bag_check.proofs.BagLemmas.{at, has_path_is, no_path_is, is_payload_is, is_payload_again}
@@ -79,9 +79,9 @@ valid_from bag v ms ls r none = record {
     unless_left_out : (kind : Kind) (a : Algorithm) (name text path : List ℕ) → HasManifest bag kind a name text → ((ListsAt bag v kind name path → ⊥) → ⊥) → ListsAt bag v kind name path
     unless_left_out kind a name text path has not_left =
         let found = r.read.there kind a name text has in
-        by_test (listed name kind a found.0) found.2 refl refl (is_listed path found.0) refl
+        by_test (listed name kind a found.0) found.2 refl refl (is_path_listed path found.0) refl
       where
-        by_test : (l : Listed) → Has ls l → l.kind ≡ kind → l.name ≡ name → (x : Bool) → is_listed path l.entries ≡ x → ListsAt bag v kind name path
+        by_test : (l : Listed) → Has ls l → l.kind ≡ kind → l.name ≡ name → (x : Bool) → is_path_listed path l.entries ≡ x → ListsAt bag v kind name path
         by_test l h same at true t = subst (λ (k : Kind). ListsAt bag v k name path) same (subst (λ (n : List ℕ). ListsAt bag v l.kind n path) at (found_lists bag v ls r.read l path h t))
         by_test l h same at false t = absurd (not_left (λ lists. false≢true (sym t ∙ lists_found bag r.is v ls r.read l kind path h (subst (λ (n : List ℕ). ListsAt bag v kind n path) (sym at) lists))))
 
@@ -163,7 +163,7 @@ read_from bag is v declares fetch ms named done some ls texts =
 -- A bag that is judged without fault is valid, and the report is its own.
 pub judged_valid : (bag : List File) → IsBag bag → (r : Report) → judge bag ≡ Ok r → (v : Version) × Valid bag v × (r ≡ report_of v bag)
 judged_valid bag is r e =
-    let version = bind_ok (version_in bag) (after_version bag) r e in
+    let version = bind_ok (version_declared bag) (after_version bag) r e in
     let v = version.0 in
     let fetch = bind_ok (no_fetch bag) (λ _. after_fetch bag v) r version.2 in
     let named = bind_ok (manifests_in bag) (after_names bag v) r fetch.2 in
@@ -176,7 +176,7 @@ judged_valid bag is r e =
 
 -- The fault that judging names is the one that comes first.
 pub judged_fault : (bag : List File) → IsBag bag → (f : Fault) → judge bag ≡ Err f → FirstFault bag f
-judged_fault bag is f e = of_version (bind_err (version_in bag) (after_version bag) f e)
+judged_fault bag is f e = of_version (bind_err (version_declared bag) (after_version bag) f e)
   where
     of_contents : (v : Version) (ms : List Named) (ls : List Listed) → IsRead bag v ms ls → (done : Unit {0}) → keeps bag ls listing_rules ≡ Ok done
         → (keeps_contents bag ls ≡ Err f) ⊎ ((next : Unit {0}) × (keeps_contents bag ls ≡ Ok next) × (Ok (report_of v bag) ≡ Err f)) → FirstFault bag f
@@ -211,7 +211,7 @@ judged_fault bag is f e = of_version (bind_err (version_in bag) (after_version b
     of_fetch v declares (inl e) = fetch_err bag f (below_3 bag is v declares) e
     of_fetch v declares (inr (done, ok, e)) = of_names v declares (fetch_ok bag done ok) (bind_err (manifests_in bag) (after_names bag v) f e)
 
-    of_version : (version_in bag ≡ Err f) ⊎ ((v : Version) × (version_in bag ≡ Ok v) × (after_version bag v ≡ Err f)) → FirstFault bag f
+    of_version : (version_declared bag ≡ Err f) ⊎ ((v : Version) × (version_declared bag ≡ Ok v) × (after_version bag v ≡ Err f)) → FirstFault bag f
     of_version (inl e) = version_err bag f e
     of_version (inr (v, ok, e)) = of_fetch v (version_ok bag v ok) (bind_err (no_fetch bag) (λ _. after_fetch bag v) f e)
 

@@ -13,7 +13,7 @@ use Rattle.bag_check.specs.declared.names.Kind.TheVariants.{Payload}
 use Rattle.bag_check.specs.Contents.{IsManifestName, manifest_name, is_kind, word_of, algorithm_named}
 use Rattle.bag_check.specs.Faults.{Fault, UnsupportedAlgorithm, NoPayloadManifest, ManifestText}
 use Rattle.bag_text.specs.Answers.{◌>>=◌}
-use Rattle.bag_check.specs.Judging.{Named, named_by, named_or_fault, named_of, onto, manifests_in, some_payload, Listed, listed_or_fault, listings_of}
+use Rattle.bag_check.specs.Judging.{Named, named_by, named_or_fault, named_of, with_manifest, manifests_in, some_payload, Listed, listed_or_fault, listings_of}
 use Rattle.bag_text.proofs.ResultLemmas.{bind_ok, bind_err, same_ok, same_err, never_both}
 use Rattle.bag_text.proofs.OrderLemmas.{before_chain}
 use Rattle.bag_check.proofs.OrderLemmas.{apart, Up, Ascending, ascending_rest, later_path}
@@ -71,9 +71,9 @@ found_all [] ms e = subst (Found []) (same_ok [] ms (Ok []) refl e) (record {
   up = λ before u. tt;
 })
 found_all (f ∷ fs) ms e =
-    let one = bind_ok (named_of f) (λ found. manifests_in fs >>= λ ms. Ok (onto found ms)) ms e in
-    let two = bind_ok (manifests_in fs) (λ ms. Ok (onto one.0 ms)) ms one.2 in
-    subst (Found (f ∷ fs)) (same_ok (onto one.0 two.0) ms (Ok (onto one.0 two.0)) refl two.2) (by_view (named_view f) one.0 one.1 two.0 (found_all fs two.0 two.1))
+    let one = bind_ok (named_of f) (λ found. manifests_in fs >>= λ ms. Ok (with_manifest found ms)) ms e in
+    let two = bind_ok (manifests_in fs) (λ ms. Ok (with_manifest one.0 ms)) ms one.2 in
+    subst (Found (f ∷ fs)) (same_ok (with_manifest one.0 two.0) ms (Ok (with_manifest one.0 two.0)) refl two.2) (by_view (named_view f) one.0 one.1 two.0 (found_all fs two.0 two.1))
   where
     skipped : ((kind : Kind) (alg : List ℕ) → IsManifestName kind alg f.path → ⊥) → (ms : List Named) → Found fs ms → (g : File) (kind : Kind) (alg : List ℕ) → (f ≡ g) ⊎ Has fs g → IsManifestName kind alg g.path → (a : Algorithm) × (alg ≡ word_of a) × Has ms (as_named g kind a)
     skipped none ms rest g kind alg (inl is) n = absurd (none kind alg (subst (λ (x : File). IsManifestName kind alg x.path) (sym is) n))
@@ -89,13 +89,13 @@ found_all (f ∷ fs) ms e =
         (a, sym same.1, inl (ap (λ (x : File). as_named x kind a) is ∙ ap (λ (x : Kind). as_named g x a) same.0))
     there_one kind a n ms rest g k alg (inr h) m = let more = rest.there g k alg h m in (more.0, more.1, inr more.2)
 
-    by_view : NamedView f → (o : Option Named) → named_of f ≡ Ok o → (ms : List Named) → Found fs ms → Found (f ∷ fs) (onto o ms)
-    by_view (no_manifest none is) o e ms rest = subst (λ (x : Option Named). Found (f ∷ fs) (onto x ms)) (same_ok None o (named_of f) is e) (record {
+    by_view : NamedView f → (o : Option Named) → named_of f ≡ Ok o → (ms : List Named) → Found fs ms → Found (f ∷ fs) (with_manifest o ms)
+    by_view (no_manifest none is) o e ms rest = subst (λ (x : Option Named). Found (f ∷ fs) (with_manifest x ms)) (same_ok None o (named_of f) is e) (record {
       back = λ m h. let more = rest.back m h in (inr more.0, more.1);
       there = skipped none ms rest;
       up = λ before u. rest.up before (up_skip before f.path (paths fs) u);
     })
-    by_view (manifest kind a n is) o e ms rest = subst (λ (x : Option Named). Found (f ∷ fs) (onto x ms)) (same_ok (Some (as_named f kind a)) o (named_of f) is e) (record {
+    by_view (manifest kind a n is) o e ms rest = subst (λ (x : Option Named). Found (f ∷ fs) (with_manifest x ms)) (same_ok (Some (as_named f kind a)) o (named_of f) is e) (record {
       back = back_one kind a n ms rest;
       there = there_one kind a n ms rest;
       up = λ before u. (u.0, rest.up f.path u.1);
@@ -114,7 +114,7 @@ pub record IsFirstUnsupported (fs : List File) (fault : Fault) : Type 0 where
 pub first_unsupported : (fs : List File) (fault : Fault) → Ascending (paths fs) → manifests_in fs ≡ Err fault → IsFirstUnsupported fs fault
 unfolding manifests_in
 first_unsupported [] fault up e = absurd cc
-first_unsupported (f ∷ fs) fault up e = by_first (bind_err (named_of f) (λ found. manifests_in fs >>= λ ms. Ok (onto found ms)) fault e) (λ e. first_unsupported fs fault (ascending_rest f.path (paths fs) up) e)
+first_unsupported (f ∷ fs) fault up e = by_first (bind_err (named_of f) (λ found. manifests_in fs >>= λ ms. Ok (with_manifest found ms)) fault e) (λ e. first_unsupported fs fault (ascending_rest f.path (paths fs) up) e)
   where
     sound : NamedView f → (o : Option Named) → named_of f ≡ Ok o → IsUnsupported f.path → ⊥
     sound (no_manifest none is) o e (kind, alg, n, other) = none kind alg n
@@ -137,13 +137,13 @@ first_unsupported (f ∷ fs) fault up e = by_first (bind_err (named_of f) (λ fo
         of_other other (inl is) b before = sound (named_view f) o e (subst (λ (x : File). IsUnsupported x.path) (sym is) b)
         of_other other (inr h) b before = rest.first other h b before
 
-    by_rest : (o : Option Named) → named_of f ≡ Ok o → (manifests_in fs ≡ Err fault) ⊎ ((ms : List Named) × (manifests_in fs ≡ Ok ms) × (Ok (onto o ms) ≡ Err fault)) → (manifests_in fs ≡ Err fault → IsFirstUnsupported fs fault) → IsFirstUnsupported (f ∷ fs) fault
+    by_rest : (o : Option Named) → named_of f ≡ Ok o → (manifests_in fs ≡ Err fault) ⊎ ((ms : List Named) × (manifests_in fs ≡ Ok ms) × (Ok (with_manifest o ms) ≡ Err fault)) → (manifests_in fs ≡ Err fault → IsFirstUnsupported fs fault) → IsFirstUnsupported (f ∷ fs) fault
     by_rest o e (inl later) again = more o e (again later)
     by_rest o e (inr (ms, is, also)) again = absurd cc
 
-    by_first : (named_of f ≡ Err fault) ⊎ ((o : Option Named) × (named_of f ≡ Ok o) × ((manifests_in fs >>= λ ms. Ok (onto o ms)) ≡ Err fault)) → (manifests_in fs ≡ Err fault → IsFirstUnsupported fs fault) → IsFirstUnsupported (f ∷ fs) fault
+    by_first : (named_of f ≡ Err fault) ⊎ ((o : Option Named) × (named_of f ≡ Ok o) × ((manifests_in fs >>= λ ms. Ok (with_manifest o ms)) ≡ Err fault)) → (manifests_in fs ≡ Err fault → IsFirstUnsupported fs fault) → IsFirstUnsupported (f ∷ fs) fault
     by_first (inl e) again = here (named_view f) e
-    by_first (inr (o, is, e)) again = by_rest o is (bind_err (manifests_in fs) (λ ms. Ok (onto o ms)) fault e) again
+    by_first (inr (o, is, e)) again = by_rest o is (bind_err (manifests_in fs) (λ ms. Ok (with_manifest o ms)) fault e) again
 
 -- ---- some payload manifest
 

@@ -4,10 +4,10 @@ use Rattle.std.specs.Prelude.{Option, Some, None, option_map, find}
 use Rattle.std.proofs.lemmas.Bool.{false≢true}
 use Rattle.bag_text.specs.Paths.{comes_before}
 use Rattle.bag_text.specs.TransferForm.{File}
-use Rattle.bag_text.specs.ManifestReading.{Entry, is_listed}
+use Rattle.bag_text.specs.ManifestReading.{Entry, is_path_listed}
 use Rattle.bag_check.specs.declared.rule.Rule.{Rule}
 use Rattle.bag_check.specs.Faults.{PlaceBefore}
-use Rattle.bag_check.specs.Judging.{Listed, concerns, is_about_files, breaks_at, asked_of, first_listed, first_unlisted, first_in, or_place, first_place}
+use Rattle.bag_check.specs.Judging.{Listed, concerns, is_about_files, breaks_at, files_asked_for, first_listed, first_unlisted, first_in, or_place, first_place}
 use Rattle.bag_text.proofs.OrderLemmas.{before_chain}
 use Rattle.bag_check.proofs.OrderLemmas.{apart, Ascending, ascending_rest, later_path, IsLeastPath, find_is_least}
 use Rattle.bag_check.proofs.BagLemmas.{paths}
@@ -26,7 +26,7 @@ BreaksListed bag rule l path = (entry : Entry) × Has l.entries (path, entry) ×
 
 -- the rule asks for the file of this path, which isn't listed
 abbrev pub LeavesOut : List File → Rule → Listed → List ℕ → Type 0
-LeavesOut bag rule l path = Has (paths (asked_of bag rule)) path × (not (is_listed path l.entries) ≡ true)
+LeavesOut bag rule l path = Has (paths (files_asked_for bag rule)) path × (not (is_path_listed path l.entries) ≡ true)
 
 -- the one or the other
 abbrev pub BreaksIn : List File → Rule → Listed → Bool → List ℕ → Type 0
@@ -71,7 +71,7 @@ same_least S T there back None least = λ path h. least path (back path h)
 same_least S T there back (Some path) least = (there path least.0, λ other h. least.1 other (back other h))
 
 -- in one manifest the first path is the least
-pub first_is_least : (bag : List File) (rule : Rule) (l : Listed) → Ascending (paths (asked_of bag rule)) → Ascending (paths_of l) → IsLeastPath (Breaking bag rule l) (first_in bag rule l)
+pub first_is_least : (bag : List File) (rule : Rule) (l : Listed) → Ascending (paths (files_asked_for bag rule)) → Ascending (paths_of l) → IsLeastPath (Breaking bag rule l) (first_in bag rule l)
 first_is_least bag rule l files up = by_kind (concerns rule l.kind) (BreaksIn bag rule l (is_about_files rule)) (cond (is_about_files rule) (first_unlisted bag rule l.entries) (first_listed bag rule l.entries)) (by_rule (is_about_files rule))
   where
     there : (path : List ℕ) → PassesAt (λ (e : List ℕ × Entry). e.0) (breaks_at bag rule) l.entries path → BreaksListed bag rule l path
@@ -82,7 +82,7 @@ first_is_least bag rule l files up = by_kind (concerns rule l.kind) (BreaksIn ba
     back path (entry, has, breaks) = ((path, entry), has, refl, breaks)
 
     by_rule : (x : Bool) → IsLeastPath (BreaksIn bag rule l x) (cond x (first_unlisted bag rule l.entries) (first_listed bag rule l.entries))
-    by_rule true = find_is_least (λ path. not (is_listed path l.entries)) (paths (asked_of bag rule)) files
+    by_rule true = find_is_least (λ path. not (is_path_listed path l.entries)) (paths (files_asked_for bag rule)) files
     by_rule false = same_least (PassesAt (λ (e : List ℕ × Entry). e.0) (breaks_at bag rule) l.entries) (BreaksListed bag rule l) there back (first_listed bag rule l.entries) (find_key_is_least (λ e. e.0) (breaks_at bag rule) l.entries up)
 
     by_kind : (x : Bool) (P : List ℕ → Type 0) (o : Option (List ℕ)) → IsLeastPath P o → IsLeastPath (λ path. (x ≡ true) × P path) (cond (not x) None o)

@@ -9,7 +9,7 @@ use Rattle.bag_text.specs.declared.checksum.Algorithm.{Algorithm}
 use Rattle.bag_text.specs.declared.checksum.Algorithm.TheVariants.{Sha256, Sha512}
 use Rattle.bag_text.specs.declared.checksum.Checksum.{Checksum}
 use Rattle.bag_text.specs.Manifest.{Lists, checksum_of}
-use Rattle.bag_text.specs.ManifestReading.{Entry, Entries, manifest_of, is_listed}
+use Rattle.bag_text.specs.ManifestReading.{Entry, Entries, manifest_of, is_path_listed}
 use Rattle.bag_check.specs.declared.names.Kind.{Kind}
 use Rattle.bag_check.specs.declared.names.Kind.TheVariants.{Payload, Tag}
 use Rattle.bag_check.specs.declared.rule.Rule.{Rule}
@@ -60,7 +60,7 @@ entry_lists_as bag v ls read l path entry h has kind is =
     subst (λ (k : Kind). ListsAt bag v k l.name path) (kind_is kind l.kind is) (entry_lists bag v ls read l path entry h has)
 
 -- what a manifest of the same name lists is found in its entries
-pub lists_found : (bag : List File) → IsBag bag → (v : Version) (ls : List Listed) → AreListed bag v ls → (l : Listed) (kind : Kind) (path : List ℕ) → Has ls l → ListsAt bag v kind l.name path → is_listed path l.entries ≡ true
+pub lists_found : (bag : List File) → IsBag bag → (v : Version) (ls : List Listed) → AreListed bag v ls → (l : Listed) (kind : Kind) (path : List ℕ) → Has ls l → ListsAt bag v kind l.name path → is_path_listed path l.entries ≡ true
 lists_found bag is v ls read l kind path h (a, text, checksum, has, lists) =
     let manifest = read.back l h in
     let same = one_manifest bag is kind l.kind a l.algorithm l.name text manifest.0 has manifest.1 in
@@ -69,7 +69,7 @@ lists_found bag is v ls read l kind path h (a, text, checksum, has, lists) =
     has_listed path entry.0 l.entries entry.1
 
 -- what is found in a manifest's entries is listed
-pub found_lists : (bag : List File) (v : Version) (ls : List Listed) → AreListed bag v ls → (l : Listed) (path : List ℕ) → Has ls l → is_listed path l.entries ≡ true → ListsAt bag v l.kind l.name path
+pub found_lists : (bag : List File) (v : Version) (ls : List Listed) → AreListed bag v ls → (l : Listed) (path : List ℕ) → Has ls l → is_path_listed path l.entries ≡ true → ListsAt bag v l.kind l.name path
 found_lists bag v ls read l path h found =
     let entry = listed_has path l.entries found in
     entry_lists bag v ls read l path entry.0 h entry.1
@@ -94,12 +94,12 @@ wrong_content checksum None e = absurd cc
 wrong_content checksum (Some content) e = (content, refl, not-true (matches_of content checksum) e)
 
 -- a file that a manifest of a kind is to list, and doesn't
-left_out : (bag : List File) → IsBag bag → (v : Version) (ls : List Listed) → AreListed bag v ls → (l : Listed) (path : List ℕ) → Has ls l → (kind : Kind) → is_kind kind l.kind ≡ true → not (is_listed path l.entries) ≡ true
+left_out : (bag : List File) → IsBag bag → (v : Version) (ls : List Listed) → AreListed bag v ls → (l : Listed) (path : List ℕ) → Has ls l → (kind : Kind) → is_kind kind l.kind ≡ true → not (is_path_listed path l.entries) ≡ true
     → ((a : Algorithm) × (text : List ℕ) × HasManifest bag kind a l.name text) × (ListsAt bag v kind l.name path → ⊥)
 left_out bag is v ls read l path h kind is_of unlisted =
     let manifest = read.back l h in (
       (l.algorithm, manifest.0, subst (λ (k : Kind). HasManifest bag k l.algorithm l.name manifest.0) (kind_is kind l.kind is_of) manifest.1),
-      λ lists. false≢true (sym (not-true (is_listed path l.entries) unlisted) ∙ lists_found bag is v ls read l kind path h lists),
+      λ lists. false≢true (sym (not-true (is_path_listed path l.entries) unlisted) ∙ lists_found bag is v ls read l kind path h lists),
     )
 
 -- where computing says so the rule is broken
@@ -157,14 +157,14 @@ broken_again bag is v ls read rules_of.PayloadInTagManifest name path (lists, in
 broken_again bag is v ls read rules_of.PayloadManifestUnlisted name path ((a, text, has), (alg, n), file, unlisted) =
     let found = read.there Tag a name text has in
     let l : Listed = listed name Tag a found.0 in
-    (l, found.2, refl, (refl, (has_kept (asks_for rules_of.PayloadManifestUnlisted) bag path file (manifest_of_again Payload path alg n), fails (is_listed path found.0) (λ e. unlisted (found_lists bag v ls read l path found.2 e)))))
+    (l, found.2, refl, (refl, (has_kept (asks_for rules_of.PayloadManifestUnlisted) bag path file (manifest_of_again Payload path alg n), fails (is_path_listed path found.0) (λ e. unlisted (found_lists bag v ls read l path found.2 e)))))
 broken_again bag is v ls read rules_of.Missing name path ((kind, lists), missing) =
     let entry = lists_entry bag v ls read kind name path lists in
     (entry.0, entry.1, entry.3, (refl, (entry.4.0, entry.4.1, fails (has_path bag path) (λ e. missing (has_path_is bag path e)))))
 broken_again bag is v ls read rules_of.Unlisted name path ((a, text, has), inside, file, unlisted) =
     let found = read.there Payload a name text has in
     let l : Listed = listed name Payload a found.0 in
-    (l, found.2, refl, (refl, (has_kept (asks_for rules_of.Unlisted) bag path file (is_payload_again path inside), fails (is_listed path found.0) (λ e. unlisted (found_lists bag v ls read l path found.2 e)))))
+    (l, found.2, refl, (refl, (has_kept (asks_for rules_of.Unlisted) bag path file (is_payload_again path inside), fails (is_path_listed path found.0) (λ e. unlisted (found_lists bag v ls read l path found.2 e)))))
 broken_again bag is v ls read rules_of.ChecksumWrong name path (kind, a, text, checksum, content, has, lists, holds, differs) =
     let found = read.there kind a name text has in
     let entry = lists_there v a text found.0 path checksum found.1 lists in

@@ -13,7 +13,7 @@ use Rattle.bag_check.specs.declared.names.Kind.TheVariants.{Payload}
 use Rattle.bag_check.specs.declared.rule.Rule.{Rule}
 use Rattle.bag_check.specs.Contents.{Holds, HasFile, declaration_path, fetch_path, DeclaresVersion, IsManifestName, word_of, HasManifest}
 use Rattle.bag_check.specs.Faults.{Fault, NoDeclaration, Declaration, FetchNotSupported, UnsupportedAlgorithm, NoPayloadManifest, ManifestText, Breaks, IsBroken, Stands, rule_number, PlaceBefore, FirstFault}
-use Rattle.bag_check.specs.Judging.{has_path, or_declaration, declared_by, version_in, no_fetch, Named, manifests_in, some_payload, Listed, listings_of, first_place, kept_by, keeps}
+use Rattle.bag_check.specs.Judging.{has_path, or_declaration, declared_by, version_declared, no_fetch, Named, manifests_in, some_payload, Listed, listings_of, first_place, kept_by, keeps}
 use Rattle.bag_text.proofs.ResultLemmas.{bind_ok, bind_err, same_err, never_both}
 use Rattle.bag_check.proofs.OrderLemmas.{apart, Ascending, ascending_rest}
 use Rattle.bag_text.proofs.DeclarationLemmas.{is_declared, declared_again, refused_again}
@@ -30,7 +30,7 @@ use Rattle.bag_text.proofs.ElementLemmas.{Has, contains_has, has_contains}
 -- ---- the declaration
 
 -- the version that is found is declared
-pub version_ok : (bag : List File) (v : Version) → version_in bag ≡ Ok v → DeclaresVersion bag v
+pub version_ok : (bag : List File) (v : Version) → version_declared bag ≡ Ok v → DeclaresVersion bag v
 version_ok bag v e = by_content (content_at bag declaration_path) refl e
   where
     by_reading : (text : List ℕ) → content_at bag declaration_path ≡ Some text → (r : Result Version DeclFault) → declaration_of text ≡ r → or_declaration r ≡ Ok v → DeclaresVersion bag v
@@ -60,7 +60,7 @@ below_3 bag is v declares =
     none_more bag 2 3 refl (none_more bag 1 2 refl (none_below_1 bag) (none_at_1 bag (declares.0, declares.1))) (none_at_2 bag is v declares)
 
 -- the declaration's fault that is named comes first
-pub version_err : (bag : List File) (f : Fault) → version_in bag ≡ Err f → FirstFault bag f
+pub version_err : (bag : List File) (f : Fault) → version_declared bag ≡ Err f → FirstFault bag f
 version_err bag f e = by_content (content_at bag declaration_path) refl e
   where
     not_there : (HasFile bag declaration_path → ⊥) → FirstFault bag NoDeclaration

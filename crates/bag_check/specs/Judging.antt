@@ -11,7 +11,7 @@ use Rattle.bag_text.specs.declared.checksum.Checksum.{Checksum}
 use Rattle.bag_text.specs.declared.listing.LineFault.{LineFault}
 use Rattle.bag_text.specs.declared.bag_info.InfoFault.{InfoFault}
 use Rattle.bag_text.specs.DeclarationReading.{declaration_of}
-use Rattle.bag_text.specs.ManifestReading.{Entries, Entry, manifest_of, is_listed}
+use Rattle.bag_text.specs.ManifestReading.{Entries, Entry, manifest_of, is_path_listed}
 use Rattle.bag_text.specs.BagInfo.{Pair}
 use Rattle.bag_text.specs.InfoReading.{info_of}
 use Rattle.bag_check.specs.declared.names.Kind.{Kind}
@@ -39,8 +39,8 @@ abbrev pub declared_by : Option (List ℕ) → Result Version Fault
 declared_by None = Err NoDeclaration
 declared_by (Some text) = or_declaration (declaration_of text)
 
-abbrev pub version_in : List File → Result Version Fault
-version_in bag = declared_by (content_at bag declaration_path)
+abbrev pub version_declared : List File → Result Version Fault
+version_declared bag = declared_by (content_at bag declaration_path)
 
 abbrev pub no_fetch : List File → Result (Unit {0}) Fault
 no_fetch bag = if has_path bag fetch_path then Err FetchNotSupported else Ok tt
@@ -64,13 +64,13 @@ named_or_fault f (Some found) = named_by f found.0 (algorithm_named found.1)
 abbrev pub named_of : File → Result (Option Named) Fault
 named_of f = named_or_fault f (manifest_name f.path)
 
-abbrev pub onto : Option Named → List Named → List Named
-onto None ms = ms
-onto (Some m) ms = m ∷ ms
+abbrev pub with_manifest : Option Named → List Named → List Named
+with_manifest None ms = ms
+with_manifest (Some m) ms = m ∷ ms
 
 unfoldable pub manifests_in : List File → Result (List Named) Fault
 manifests_in [] = Ok []
-manifests_in (f ∷ fs) = named_of f >>= λ found. manifests_in fs >>= λ ms. Ok (onto found ms)
+manifests_in (f ∷ fs) = named_of f >>= λ found. manifests_in fs >>= λ ms. Ok (with_manifest found ms)
 
 abbrev pub some_payload : List Named → Result (Unit {0}) Fault
 some_payload ms = if list_any (λ m. is_kind Payload m.kind) ms then Ok tt else Err NoPayloadManifest
@@ -136,15 +136,15 @@ asks_for Missing path = false
 asks_for Unlisted path = is_payload path
 asks_for ChecksumWrong path = false
 
-abbrev pub asked_of : List File → Rule → List File
-asked_of bag rule = filter (λ f. asks_for rule f.path) bag
+abbrev pub files_asked_for : List File → Rule → List File
+files_asked_for bag rule = filter (λ f. asks_for rule f.path) bag
 
 -- the least path that is listed and breaks a rule, and the least one that is to be listed and isn't
 abbrev pub first_listed : List File → Rule → Entries → Option (List ℕ)
 first_listed bag rule entries = option_map (λ e. e.0) (find (breaks_at bag rule) entries)
 
 abbrev pub first_unlisted : List File → Rule → Entries → Option (List ℕ)
-first_unlisted bag rule entries = find (λ path. not (is_listed path entries)) (map (λ f. f.path) (asked_of bag rule))
+first_unlisted bag rule entries = find (λ path. not (is_path_listed path entries)) (map (λ f. f.path) (files_asked_for bag rule))
 
 -- in one manifest: the least path
 abbrev pub first_in : List File → Rule → Listed → Option (List ℕ)
@@ -209,7 +209,7 @@ keeps_contents bag ls = keeps_info bag >>= λ _. keeps bag ls (ChecksumWrong ∷
 
 abbrev pub judge : List File → Result Report Fault
 judge bag = do
-  v ← version_in bag
+  v ← version_declared bag
   _ ← no_fetch bag
   ms ← manifests_in bag
   _ ← some_payload ms

@@ -25,16 +25,16 @@ behind_stop [] = None
 behind_stop (b ∷ t) = if b == 46 then Some t else None
 
 -- a number with nothing but blanks after it
-abbrev pub last_number : List ℕ → Option ℕ
-last_number t = if list_all is_blank (behind_digits t) then number_spelled (digits_in t) else None
+abbrev pub number_at_end : List ℕ → Option ℕ
+number_at_end t = if list_all is_blank (behind_digits t) then number_spelled (digits_in t) else None
 
-abbrev pub with_files : ℕ → Option ℕ → Option (ℕ × ℕ)
-with_files bytes None = None
-with_files bytes (Some files) = Some (bytes, files)
+abbrev pub oxum_with_files : ℕ → Option ℕ → Option (ℕ × ℕ)
+oxum_with_files bytes None = None
+oxum_with_files bytes (Some files) = Some (bytes, files)
 
 abbrev pub with_rest : ℕ → Option (List ℕ) → Option (ℕ × ℕ)
 with_rest bytes None = None
-with_rest bytes (Some rest) = with_files bytes (last_number rest)
+with_rest bytes (Some rest) = oxum_with_files bytes (number_at_end rest)
 
 abbrev pub with_bytes : Option ℕ → Option (List ℕ) → Option (ℕ × ℕ)
 with_bytes None rest = None

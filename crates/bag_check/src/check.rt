@@ -11,7 +11,7 @@ ghost use Rattle.bag_check.specs.Validity.{Valid, report_of, payload_files, payl
 ghost use Rattle.bag_text.specs.declared.declaration.Version.{Version};
 ghost use Rattle.bag_check.specs.declared.fault.BagFault.TheVariants.{Memory};
 ghost use Rattle.bag_check.specs.Faults.{Fault, Breaks, FirstFault};
-ghost use Rattle.bag_check.specs.Judging.{version_in, no_fetch, some_payload, first_place, kept_by, keeps, listing_rules, keeps_contents, judge};
+ghost use Rattle.bag_check.specs.Judging.{version_declared, no_fetch, some_payload, first_place, kept_by, keeps, listing_rules, keeps_contents, judge};
 ghost use Rattle.bag_check.specs.Answers.{named_fault, named_seen, listed_seen, report_seen, NamesFirst};
 
 use crate::fault::BagFault;
@@ -28,7 +28,7 @@ use std::borrow::CowStr;
 
 /// The version that a bag declares.
 fn read_version<'a>(bag: &BagSet<'a>) -> Result<Version, BagFault<'a>>
-    ensures { Gives named_fault (λ version. version) result (version_in bag.now) }
+    ensures { Gives named_fault (λ version. version) result (version_declared bag.now) }
 {
     let Some(text) = bag.get("bagit.txt") else {
         return Err(BagFault::NoDeclaration);

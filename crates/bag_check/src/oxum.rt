@@ -6,7 +6,7 @@ ghost use Rattle.std.specs.List.{list_all};
 ghost use Rattle.std.specs.Char.{is_ascii_digit};
 ghost use Rattle.bag_text.specs.Text.{is_blank};
 ghost use Rattle.bag_check.specs.Validity.{number_from};
-ghost use Rattle.bag_check.specs.OxumReading.{digit_len, digits_in, behind_digits, number_spelled, behind_stop, last_number, counts_of};
+ghost use Rattle.bag_check.specs.OxumReading.{digit_len, digits_in, behind_digits, number_spelled, behind_stop, number_at_end, counts_of};
 ghost use Rattle.bag_check.specs.Answers.{counts_seen};
 
 /// The most digits of a number.
@@ -88,8 +88,8 @@ fn are_blanks(text: &[u8]) -> bool
 }
 
 /// A number with only blanks after it.
-fn last_number(text: &[u8]) -> Option<u128>
-    ensures { result ≡ last_number text.now }
+fn number_at_end(text: &[u8]) -> Option<u128>
+    ensures { result ≡ number_at_end text.now }
 {
     let (number, rest) = split_number(text);
     if are_blanks(rest) { number } else { None }
@@ -102,6 +102,6 @@ pub fn read_counts(value: &[u8]) -> Option<Counts>
     let (bytes, rest) = split_number(value);
     let bytes = bytes?;
     let rest = behind_stop(rest)?;
-    let files = last_number(rest)?;
+    let files = number_at_end(rest)?;
     Some(Counts { bytes, files })
 }

@@ -62,8 +62,8 @@ abbrev pub entry_file : String Global → Kind → Option Listed
 entry_file path (File size) = Some (record { path = path; size = size })
 entry_file path kind = None
 
-abbrev pub file_in : Entry → Option Listed
-file_in entry = entry_file entry.path entry.kind
+abbrev pub file_listed : Entry → Option Listed
+file_listed entry = entry_file entry.path entry.kind
 
 -- the path of an entry that has no place in a form
 abbrev pub odd_of : String Global → Kind → Option (String Global)
@@ -75,4 +75,4 @@ odd_in entry = odd_of entry.path entry.kind
 
 -- the files among the entries, and the first that is odd
 abbrev pub IsFoundIn : List Entry → Found → Type 0
-IsFoundIn entries found = (found.files.items ≡ filter_map file_in entries) × (found.odd ≡ slice_get (filter_map odd_in entries) 0)
+IsFoundIn entries found = (found.files.items ≡ filter_map file_listed entries) × (found.odd ≡ slice_get (filter_map odd_in entries) 0)

@@ -5,7 +5,7 @@ ghost use Rattle.bag_text.specs.TransferForm.{IsFormOf, max_form};
 ghost use Rattle.bag_text.specs.TransferReading.{files_of};
 ghost use Rattle.bag_folders.specs.Packing.{HasNoForm, path_at_fault};
 
-use crate::pack_fault::{PackFault, named_fault, place_of};
+use crate::pack_fault::{PackFault, fault_place, named_fault};
 use bag_text::{BagSet, MAX_FORM, SetFault, write_bagset};
 use std::alloc::Global;
 
@@ -13,7 +13,7 @@ use std::alloc::Global;
 fn path_at_fault<'a>(files: &'a [(&'a str, &'a [u8])], fault: SetFault) -> Option<&'a str>
     ensures { option_copied result ≡ path_at_fault fault (map (λ file. file.0.now) files.now) }
 {
-    let file = files.get(place_of(fault)?)?;
+    let file = files.get(fault_place(fault)?)?;
     Some(file.0)
 }
 

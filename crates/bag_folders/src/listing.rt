@@ -3,7 +3,7 @@
 ghost use Rattle.std.specs.Prelude.{◌≡◌, ◌++◌, [], List, Some, IfErr, IfOk, OnOk, string_bytes};
 ghost use Rattle.std.specs.List.{cons_option};
 ghost use Rattle.std.specs.Option.{option_or};
-ghost use Rattle.bag_folders.specs.Listing.{AreListed, AreListedAt, CanFail, IsFoundIn, file_in, odd_in};
+ghost use Rattle.bag_folders.specs.Listing.{AreListed, AreListedAt, CanFail, IsFoundIn, file_listed, odd_in};
 ghost use Rattle.bag_folders.specs.Packing.{IsFoundUnder};
 ghost use Rattle.bag_folders.specs.declared.listed.Entry.{Entry};
 
@@ -53,7 +53,7 @@ fn keep_first(odd: &mut Option<String>, path: String)
 /// Takes up an entry: a file, or the first that has no place in a form.
 fn take_up(found: &mut Found, entry: Entry) -> Result<(), AllocError>
     ensures files { OnOk result
-        (found.new.files.items ≡ found.old.files.items ++ cons_option (file_in entry) []) }
+        (found.new.files.items ≡ found.old.files.items ++ cons_option (file_listed entry) []) }
     ensures odd { OnOk result (found.new.odd ≡ option_or found.old.odd (odd_in entry)) }
 {
     let Entry { path, kind } = entry;

@@ -1,7 +1,7 @@
 //! Why a folder isn't packed.
 
 ghost use Rattle.std.specs.Prelude.{◌≡◌, IfOk, option_copied, option_map, string_bytes};
-ghost use Rattle.bag_folders.specs.Packing.{IsNamedAs, pack_failed, place_of};
+ghost use Rattle.bag_folders.specs.Packing.{IsNamedAs, pack_failed, fault_place};
 
 use crate::failed::{Failed, Trouble};
 use bag_text::SetFault;
@@ -43,8 +43,8 @@ impl From<Failed> for PackFault {
 }
 
 /// The place of the file at fault, where the fault is one file's.
-pub fn place_of(fault: SetFault) -> Option<usize>
-    ensures { result ≡ place_of fault }
+pub fn fault_place(fault: SetFault) -> Option<usize>
+    ensures { result ≡ fault_place fault }
 {
     match fault {
         SetFault::BadEntry(place) | SetFault::OutOfOrder(place) | SetFault::BadPath(place) => {

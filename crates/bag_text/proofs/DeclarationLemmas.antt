@@ -10,7 +10,7 @@ use Rattle.std.proofs.Math.Seq.{take-append_seam}
 use Rattle.std.proofs.lemmas.Bool.Decides.{nat_tests}
 use Rattle.bag_text.specs.Text.{is_blank, has_mark, trim_blanks, skip_blanks, drop_last_blanks}
 use Rattle.bag_text.specs.Lines.{lines}
-use Rattle.bag_text.specs.Declaration.{version_text, version_label, encoding_label, IsLabelled, Declares, after_label, is_version, is_supported, is_utf8_name, declaration_fault}
+use Rattle.bag_text.specs.Declaration.{version_text, version_label, encoding_label, IsLabelled, Declares, after_label, is_version_text, is_supported, is_utf8_name, declaration_fault}
 use Rattle.bag_text.specs.Answers.{◌>>=◌}
 use Rattle.bag_text.specs.DeclarationReading.{version_declared, encoding_fault, exactly_two, two_lines_of, declaration_of}
 use Rattle.bag_text.specs.declared.declaration.Version.{Version}
@@ -85,7 +85,7 @@ version_by o = do
   value ← ok_or o BadVersionLine
   if bytes_eq value (codes "1.0") then Ok V1_0
       else if bytes_eq value (codes "0.97") then Ok V0_97
-      else if is_version value then Err UnsupportedVersion
+      else if is_version_text value then Err UnsupportedVersion
       else Err BadVersionLine
 
 version_named : (o : Option (List ℕ)) (v : Version) → version_by o ≡ Ok v → o ≡ Some (version_text v)
@@ -97,9 +97,9 @@ version_named (Some value) v e = by_first (bytes_eq value (codes "1.0")) refl e
     by_second false is true e = absurd cc
     by_second false is false e = absurd cc
 
-    by_first : (x : Bool) → bytes_eq value (codes "1.0") ≡ x → cond x (Ok V1_0) (cond (bytes_eq value (codes "0.97")) (Ok V0_97) (cond (is_version value) (Err UnsupportedVersion) (Err BadVersionLine))) ≡ Ok v → Some value ≡ Some (version_text v)
+    by_first : (x : Bool) → bytes_eq value (codes "1.0") ≡ x → cond x (Ok V1_0) (cond (bytes_eq value (codes "0.97")) (Ok V0_97) (cond (is_version_text value) (Err UnsupportedVersion) (Err BadVersionLine))) ≡ Ok v → Some value ≡ Some (version_text v)
     by_first true is e = let now : v ≡ V1_0 = cc in rw (now, is_text value (codes "1.0") is) refl
-    by_first false is e = by_second (bytes_eq value (codes "0.97")) refl (is_version value) e
+    by_first false is e = by_second (bytes_eq value (codes "0.97")) refl (is_version_text value) e
 
 version_again : (v : Version) → version_by (Some (version_text v)) ≡ Ok v
 version_again V1_0 = refl
@@ -207,7 +207,7 @@ encoding_rows o =
 
 abbrev version_rows : Option (List ℕ) → Option (List ℕ) → Option DeclFault
 version_rows o p =
-    cond (option_map_or (λ value. not (is_version value)) o true) (Some BadVersionLine)
+    cond (option_map_or (λ value. not (is_version_text value)) o true) (Some BadVersionLine)
     (cond (option_map_or (λ value. not (is_supported value)) o true) (Some UnsupportedVersion) (encoding_rows p))
 
 encoding_table : (v : Version) (o : Option (List ℕ)) → encoding_rows o ≡ fault_in (encoding_by o >>= λ _. Ok v)
@@ -222,8 +222,8 @@ encoding_table v (Some value) = by_tests (eqb (length value) 0) (is_utf8_name va
 version_table : (o p : Option (List ℕ)) → version_rows o p ≡ fault_in (version_by o >>= λ version. encoding_by p >>= λ _. Ok version)
 version_table None p = refl
 version_table (Some value) p =
-    by_tests (bytes_eq value (codes "1.0")) (bytes_eq value (codes "0.97")) (is_version value)
-    (λ e. ap is_version (is_text value (codes "1.0") e)) (λ e. ap is_version (is_text value (codes "0.97") e))
+    by_tests (bytes_eq value (codes "1.0")) (bytes_eq value (codes "0.97")) (is_version_text value)
+    (λ e. ap is_version_text (is_text value (codes "1.0") e)) (λ e. ap is_version_text (is_text value (codes "0.97") e))
   where
     by_tests : (x y z : Bool) → (x ≡ true → z ≡ true) → (y ≡ true → z ≡ true)
         → cond (not z) (Some BadVersionLine) (cond (not (x || y)) (Some UnsupportedVersion) (encoding_rows p))

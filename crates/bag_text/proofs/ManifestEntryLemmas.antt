@@ -16,7 +16,7 @@ use Rattle.std.proofs.lemmas.Option.{same_Some, slice_get_within}
 use Rattle.std.proofs.lemmas.List.{length_push}
 use Rattle.bag_text.specs.Paths.{comes_before}
 use Rattle.bag_text.specs.Manifest.{AscendingPaths}
-use Rattle.bag_text.specs.ManifestReading.{Entry, Entries, is_listed}
+use Rattle.bag_text.specs.ManifestReading.{Entry, Entries, is_path_listed}
 use Rattle.bag_text.proofs.ElementLemmas.{Has, slice_get-append, slice_get_last}
 use Rattle.bag_text.proofs.OrderLemmas.{less}
 
@@ -81,23 +81,23 @@ pub itself : (p : List ℕ) → is_eq (order p p) ≡ true
 itself p = is_eq-slice_cmp p p ∙ (bytes_eq-Decides p p).1 refl
 
 -- a listed path has an entry
-pub listed_has : (path : List ℕ) (es : Entries) → is_listed path es ≡ true → (entry : Entry) × Has es (path, entry)
+pub listed_has : (path : List ℕ) (es : Entries) → is_path_listed path es ≡ true → (entry : Entry) × Has es (path, entry)
 listed_has path [] e = absurd cc
 listed_has path (f ∷ es) e = by_test (is_eq (order path f.0)) refl e (λ h. listed_has path es h)
   where
-    by_test : (x : Bool) → is_eq (order path f.0) ≡ x → is_some (cond x (Some f.1) (lookup (is_at (order path)) es)) ≡ true → (is_listed path es ≡ true → (entry : Entry) × Has es (path, entry)) → (entry : Entry) × Has (f ∷ es) (path, entry)
+    by_test : (x : Bool) → is_eq (order path f.0) ≡ x → is_some (cond x (Some f.1) (lookup (is_at (order path)) es)) ≡ true → (is_path_listed path es ≡ true → (entry : Entry) × Has es (path, entry)) → (entry : Entry) × Has (f ∷ es) (path, entry)
     by_test true is e again = (f.1, inl (ap (λ (p : List ℕ). (p, f.1)) (sym (same_path path f.0 is))))
     by_test false is e again = let found = again e in (found.0, inr found.1)
 
 -- an entry's path is listed
-pub has_listed : (path : List ℕ) (entry : Entry) (es : Entries) → Has es (path, entry) → is_listed path es ≡ true
+pub has_listed : (path : List ℕ) (entry : Entry) (es : Entries) → Has es (path, entry) → is_path_listed path es ≡ true
 has_listed path entry [] h = absurd h
 has_listed path entry (f ∷ es) (inl e) =
     let is : is_eq (order path f.0) ≡ true = subst (λ (p : List ℕ). is_eq (order path p) ≡ true) (sym (ap (λ (x : List ℕ × Entry). x.0) e)) (itself path) in
     rw is refl
 has_listed path entry (f ∷ es) (inr h) = by_test (is_eq (order path f.0)) (has_listed path entry es h)
   where
-    by_test : (x : Bool) → is_listed path es ≡ true → is_some (cond x (Some f.1) (lookup (is_at (order path)) es)) ≡ true
+    by_test : (x : Bool) → is_path_listed path es ≡ true → is_some (cond x (Some f.1) (lookup (is_at (order path)) es)) ≡ true
     by_test true again = refl
     by_test false again = again
 
@@ -108,17 +108,17 @@ abbrev pub put : Entries → List ℕ → Entry → Entries
 put es path entry = insert_entry order es path entry
 
 -- the new entry is there
-pub put_new : (es : Entries) (path : List ℕ) (entry : Entry) → is_listed path es ≡ false → Has (put es path entry) (path, entry)
+pub put_new : (es : Entries) (path : List ℕ) (entry : Entry) → is_path_listed path es ≡ false → Has (put es path entry) (path, entry)
 put_new [] path entry new = inl refl
 put_new (f ∷ es) path entry new = by_order (order path f.0) new (λ h. put_new es path entry h)
   where
-    by_order : (o : Ordering) → is_some (cond (is_eq o) (Some f.1) (lookup (is_at (order path)) es)) ≡ false → (is_listed path es ≡ false → Has (put es path entry) (path, entry)) → Has (match_ordering o ((path, entry) ∷ f ∷ es) ((f.0, entry) ∷ es) (f ∷ put es path entry)) (path, entry)
+    by_order : (o : Ordering) → is_some (cond (is_eq o) (Some f.1) (lookup (is_at (order path)) es)) ≡ false → (is_path_listed path es ≡ false → Has (put es path entry) (path, entry)) → Has (match_ordering o ((path, entry) ∷ f ∷ es) ((f.0, entry) ∷ es) (f ∷ put es path entry)) (path, entry)
     by_order Less new again = inl refl
     by_order Equal new again = absurd cc
     by_order Greater new again = inr (again new)
 
 -- the other entries stay
-pub put_old : (es : Entries) (path : List ℕ) (entry : Entry) (x : List ℕ × Entry) → is_listed path es ≡ false → Has es x → Has (put es path entry) x
+pub put_old : (es : Entries) (path : List ℕ) (entry : Entry) (x : List ℕ × Entry) → is_path_listed path es ≡ false → Has es x → Has (put es path entry) x
 put_old [] path entry x new h = absurd h
 put_old (f ∷ es) path entry x new h = by_order (order path f.0) new h (λ n k. put_old es path entry x n k)
   where
@@ -126,13 +126,13 @@ put_old (f ∷ es) path entry x new h = by_order (order path f.0) new h (λ n k.
     front (inl e) again = inl e
     front (inr h) again = inr (again h)
 
-    by_order : (o : Ordering) → is_some (cond (is_eq o) (Some f.1) (lookup (is_at (order path)) es)) ≡ false → Has (f ∷ es) x → (is_listed path es ≡ false → Has es x → Has (put es path entry) x) → Has (match_ordering o ((path, entry) ∷ f ∷ es) ((f.0, entry) ∷ es) (f ∷ put es path entry)) x
+    by_order : (o : Ordering) → is_some (cond (is_eq o) (Some f.1) (lookup (is_at (order path)) es)) ≡ false → Has (f ∷ es) x → (is_path_listed path es ≡ false → Has es x → Has (put es path entry) x) → Has (match_ordering o ((path, entry) ∷ f ∷ es) ((f.0, entry) ∷ es) (f ∷ put es path entry)) x
     by_order Less new h again = inr h
     by_order Equal new h again = absurd cc
     by_order Greater new h again = front h (again new)
 
 -- each entry is the new one or was there
-pub put_cases : (es : Entries) (path : List ℕ) (entry : Entry) (x : List ℕ × Entry) → is_listed path es ≡ false → Has (put es path entry) x → ((path, entry) ≡ x) ⊎ Has es x
+pub put_cases : (es : Entries) (path : List ℕ) (entry : Entry) (x : List ℕ × Entry) → is_path_listed path es ≡ false → Has (put es path entry) x → ((path, entry) ≡ x) ⊎ Has es x
 put_cases [] path entry x new h = h
 put_cases (f ∷ es) path entry x new h = by_order (order path f.0) new h (λ n k. put_cases es path entry x n k)
   where
@@ -144,7 +144,7 @@ put_cases (f ∷ es) path entry x new h = by_order (order path f.0) new h (λ n 
     front (inl e) again = inr (inl e)
     front (inr h) again = behind (again h)
 
-    by_order : (o : Ordering) → is_some (cond (is_eq o) (Some f.1) (lookup (is_at (order path)) es)) ≡ false → Has (match_ordering o ((path, entry) ∷ f ∷ es) ((f.0, entry) ∷ es) (f ∷ put es path entry)) x → (is_listed path es ≡ false → Has (put es path entry) x → ((path, entry) ≡ x) ⊎ Has es x) → ((path, entry) ≡ x) ⊎ Has (f ∷ es) x
+    by_order : (o : Ordering) → is_some (cond (is_eq o) (Some f.1) (lookup (is_at (order path)) es)) ≡ false → Has (match_ordering o ((path, entry) ∷ f ∷ es) ((f.0, entry) ∷ es) (f ∷ put es path entry)) x → (is_path_listed path es ≡ false → Has (put es path entry) x → ((path, entry) ≡ x) ⊎ Has es x) → ((path, entry) ≡ x) ⊎ Has (f ∷ es) x
     by_order Less new h again = h
     by_order Equal new h again = absurd cc
     by_order Greater new h again = front h (again new)
@@ -175,11 +175,11 @@ all_put P (f ∷ es) path entry one all = by_order (order path f.0) (all_put P e
     by_order Greater again = (all.0, again)
 
 -- the paths still ascend
-pub put_ascends : (es : Entries) (path : List ℕ) (entry : Entry) → is_listed path es ≡ false → AscendingPaths (paths_in es) → AscendingPaths (paths_in (put es path entry))
+pub put_ascends : (es : Entries) (path : List ℕ) (entry : Entry) → is_path_listed path es ≡ false → AscendingPaths (paths_in es) → AscendingPaths (paths_in (put es path entry))
 put_ascends [] path entry new up = (tt, tt)
 put_ascends (f ∷ es) path entry new up = by_order (order path f.0) refl new (λ n. put_ascends es path entry n up.1)
   where
-    by_order : (o : Ordering) → order path f.0 ≡ o → is_some (cond (is_eq o) (Some f.1) (lookup (is_at (order path)) es)) ≡ false → (is_listed path es ≡ false → AscendingPaths (paths_in (put es path entry))) → AscendingPaths (paths_in (match_ordering o ((path, entry) ∷ f ∷ es) ((f.0, entry) ∷ es) (f ∷ put es path entry)))
+    by_order : (o : Ordering) → order path f.0 ≡ o → is_some (cond (is_eq o) (Some f.1) (lookup (is_at (order path)) es)) ≡ false → (is_path_listed path es ≡ false → AscendingPaths (paths_in (put es path entry))) → AscendingPaths (paths_in (match_ordering o ((path, entry) ∷ f ∷ es) ((f.0, entry) ∷ es) (f ∷ put es path entry)))
     by_order Less is new again = let first : IsLater path f.0 = ap is_lt is in ((first, later_still path f.0 (paths_in es) first up.0), up)
     by_order Equal is new again = absurd cc
     by_order Greater is new again =

@@ -29,7 +29,7 @@ use Rattle.bag_text.specs.Paths.{GoodPath, is_good}
 use Rattle.bag_text.specs.Manifest.{Spells, decode, has_coded, size_of, checksum_of, IsEntry, LineIs, as_manifest, ListsOn, LineLists, Lists, IsManifest, AscendingPaths, sum_text, path_text, IsReached, ManifestFault}
 use Rattle.bag_text.specs.Answers.{FailsAs, Gives}
 use Rattle.bag_text.proofs.ResultLemmas.{never_both, same_err}
-use Rattle.bag_text.specs.ManifestReading.{Entry, Entries, checksum_in, path_of, entry_of, manifest_of, is_owned, entry_in, entries_in, paths_of, HasEntry, HasPath, listing_at, is_listed, named_line_fault}
+use Rattle.bag_text.specs.ManifestReading.{Entry, Entries, checksum_in, path_spelled, entry_of, manifest_of, is_owned, entry_in, entries_in, paths_of, HasEntry, HasPath, listing_at, is_path_listed, named_line_fault}
 use Rattle.bag_text.proofs.PathLemmas.{good_read}
 use Rattle.bag_text.proofs.ManifestLemmas.{spells_decoded, spelled_is_decoded, looked_up}
 use Rattle.bag_text.proofs.ManifestLineLemmas.{reads_bad_checksum, reads_no_path, reads_bad_path, entry_reads}
@@ -71,7 +71,7 @@ a_checksum a digits e = of_result (decode_sized digits (size_of a)) e
     of_result (Err f) e = absurd cc
 
 -- what spells no good path is not read
-no_path_of : (v : Version) (spelled : List ℕ) → (begins_with 42 spelled ≡ true) ⊎ ((path : List ℕ) × Spells v spelled path × (GoodPath path → ⊥)) → path_of v spelled ≡ None
+no_path_of : (v : Version) (spelled : List ℕ) → (begins_with 42 spelled ≡ true) ⊎ ((path : List ℕ) × Spells v spelled path × (GoodPath path → ⊥)) → path_spelled v spelled ≡ None
 no_path_of v spelled (inl star) = rw star refl
 no_path_of v spelled (inr (path, spells, bad)) = by_tests (begins_with 42 spelled) (is_good (decode v spelled)) refl
   where
@@ -408,5 +408,5 @@ pub says_path : (m : Manifest) (path : List ℕ) (b : Bool) → b ≡ is_some (l
 says_path m path b e = let both = listing_iff m path in (λ h. both.0 (sym e ∙ h), λ h. e ∙ both.1 h)
 
 -- a manifest says something of a path exactly where the path is among what was read
-pub listing_is_listed : (m : Manifest) (path : CowStr Global) → is_some (listing_at (cow_str_bytes path) m) ≡ is_listed (cow_str_bytes path) (entries_in m)
+pub listing_is_listed : (m : Manifest) (path : CowStr Global) → is_some (listing_at (cow_str_bytes path) m) ≡ is_path_listed (cow_str_bytes path) (entries_in m)
 listing_is_listed m path = looked_up m.entries.entries path

@@ -30,7 +30,7 @@ use Rattle.bag_text.specs.Text.{is_blank}
 use Rattle.bag_text.specs.Manifest.{coded_character, coded_front, has_coded, Spells, nothing, triple, itself, decode}
 use Rattle.bag_text.specs.Answers.{FailsAs}
 use Rattle.bag_text.proofs.ResultLemmas.{fails_on}
-use Rattle.bag_text.specs.ManifestReading.{next_char, Entries, entry_in, is_listed, entry_of, add_line_of, entries_of, named_line_fault}
+use Rattle.bag_text.specs.ManifestReading.{next_char, Entries, entry_in, is_path_listed, entry_of, add_line_of, entries_of, named_line_fault}
 
 pub sum_fits : (line : List ℕ) → position_or_len is_blank line ≤ length line
 sum_fits line = prefix_len-le-length (λ b. not (is_blank b)) line
@@ -119,20 +119,20 @@ abbrev pub compare : CowStr Global → CowStr Global → Ordering
 compare x y = slice_cmp nat_cmp (cow_str_bytes x) (cow_str_bytes y)
 
 -- a new path goes to its place
-pub inserted : (es : List (CowStr Global × Listing)) (k : CowStr Global) (v : Listing) → is_listed (cow_str_bytes k) (map entry_in es) ≡ false → map entry_in (insert_entry compare es k v) ≡ insert_entry (slice_cmp nat_cmp) (map entry_in es) (cow_str_bytes k) (entry_in (k, v)).1
+pub inserted : (es : List (CowStr Global × Listing)) (k : CowStr Global) (v : Listing) → is_path_listed (cow_str_bytes k) (map entry_in es) ≡ false → map entry_in (insert_entry compare es k v) ≡ insert_entry (slice_cmp nat_cmp) (map entry_in es) (cow_str_bytes k) (entry_in (k, v)).1
 inserted [] k v new = refl
 inserted (e ∷ es) k v new = by_order (compare k e.0) new (λ h. inserted es k v h)
   where
-    by_order : (o : Ordering) → is_some (cond (is_eq o) (Some (entry_in e).1) (lookup (is_at (slice_cmp nat_cmp (cow_str_bytes k))) (map entry_in es))) ≡ false → (is_listed (cow_str_bytes k) (map entry_in es) ≡ false → map entry_in (insert_entry compare es k v) ≡ insert_entry (slice_cmp nat_cmp) (map entry_in es) (cow_str_bytes k) (entry_in (k, v)).1) → map entry_in (match_ordering o ((k, v) ∷ e ∷ es) ((e.0, v) ∷ es) (e ∷ insert_entry compare es k v)) ≡ match_ordering o (entry_in (k, v) ∷ entry_in e ∷ map entry_in es) ((cow_str_bytes e.0, (entry_in (k, v)).1) ∷ map entry_in es) (entry_in e ∷ insert_entry (slice_cmp nat_cmp) (map entry_in es) (cow_str_bytes k) (entry_in (k, v)).1)
+    by_order : (o : Ordering) → is_some (cond (is_eq o) (Some (entry_in e).1) (lookup (is_at (slice_cmp nat_cmp (cow_str_bytes k))) (map entry_in es))) ≡ false → (is_path_listed (cow_str_bytes k) (map entry_in es) ≡ false → map entry_in (insert_entry compare es k v) ≡ insert_entry (slice_cmp nat_cmp) (map entry_in es) (cow_str_bytes k) (entry_in (k, v)).1) → map entry_in (match_ordering o ((k, v) ∷ e ∷ es) ((e.0, v) ∷ es) (e ∷ insert_entry compare es k v)) ≡ match_ordering o (entry_in (k, v) ∷ entry_in e ∷ map entry_in es) ((cow_str_bytes e.0, (entry_in (k, v)).1) ∷ map entry_in es) (entry_in e ∷ insert_entry (slice_cmp nat_cmp) (map entry_in es) (cow_str_bytes k) (entry_in (k, v)).1)
     by_order Less h again = refl
     by_order Equal h again = absurd cc
     by_order Greater h again = ap (λ (rest : Entries). entry_in e ∷ rest) (again h)
 
-pub looked_up : (es : List (CowStr Global × Listing)) (k : CowStr Global) → is_some (lookup (is_at (compare k)) es) ≡ is_listed (cow_str_bytes k) (map entry_in es)
+pub looked_up : (es : List (CowStr Global × Listing)) (k : CowStr Global) → is_some (lookup (is_at (compare k)) es) ≡ is_path_listed (cow_str_bytes k) (map entry_in es)
 looked_up [] k = refl
 looked_up (e ∷ es) k = by_test (is_at (compare k) e.0) (looked_up es k)
   where
-    by_test : (x : Bool) → is_some (lookup (is_at (compare k)) es) ≡ is_listed (cow_str_bytes k) (map entry_in es) → is_some (cond x (Some e.1) (lookup (is_at (compare k)) es)) ≡ is_some (cond x (Some (entry_in e).1) (lookup (is_at (slice_cmp nat_cmp (cow_str_bytes k))) (map entry_in es)))
+    by_test : (x : Bool) → is_some (lookup (is_at (compare k)) es) ≡ is_path_listed (cow_str_bytes k) (map entry_in es) → is_some (cond x (Some e.1) (lookup (is_at (compare k)) es)) ≡ is_some (cond x (Some (entry_in e).1) (lookup (is_at (slice_cmp nat_cmp (cow_str_bytes k))) (map entry_in es)))
     by_test true again = refl
     by_test false again = again
 
@@ -160,7 +160,7 @@ pub added : (v : Version) (a : Algorithm) (number : ℕ) (es : List (CowStr Glob
     → add_line_of v a number (map entry_in es) line ≡ Ok (map entry_in now)
 unfolding add_line_of
 added v a number es line path listing old now full entry old-is new now-is =
-    let fresh : is_listed (cow_str_bytes path) (map entry_in es) ≡ false = sym (looked_up es path) ∙ ap is_some (sym old-is) ∙ new in
+    let fresh : is_path_listed (cow_str_bytes path) (map entry_in es) ≡ false = sym (looked_up es path) ∙ ap is_some (sym old-is) ∙ new in
     rw (full, entry, fresh, now-is) (ap (λ (x : Entries). Ok x) (sym (inserted es path listing fresh)))
 
 pub twice : (v : Version) (a : Algorithm) (number : ℕ) (es : List (CowStr Global × Listing)) (line : List ℕ) (path : CowStr Global) (listing : Listing) (old : Option Listing)
@@ -168,7 +168,7 @@ pub twice : (v : Version) (a : Algorithm) (number : ℕ) (es : List (CowStr Glob
     → add_line_of v a number (map entry_in es) line ≡ Err (ListedTwice number)
 unfolding add_line_of
 twice v a number es line path listing old full entry old-is known =
-    let again : is_listed (cow_str_bytes path) (map entry_in es) ≡ true = sym (looked_up es path) ∙ ap is_some (sym old-is) ∙ known in
+    let again : is_path_listed (cow_str_bytes path) (map entry_in es) ≡ true = sym (looked_up es path) ∙ ap is_some (sym old-is) ∙ known in
     rw (full, entry, again) refl
 
 -- ---- the relation of spelled paths and the function are one

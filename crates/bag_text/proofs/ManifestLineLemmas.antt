@@ -17,7 +17,7 @@ use Rattle.bag_text.specs.declared.listing.LineFault.TheVariants.{BadChecksum, N
 use Rattle.bag_text.specs.Text.{is_blank, begins_with, skip_blanks}
 use Rattle.bag_text.specs.Paths.{GoodPath, is_good}
 use Rattle.bag_text.specs.Manifest.{Spells, has_coded, decode, size_of, checksum_of, IsEntry, sum_text, path_text}
-use Rattle.bag_text.specs.ManifestReading.{good_of, path_of, checksum_in, Entry, entry_of}
+use Rattle.bag_text.specs.ManifestReading.{good_of, path_spelled, checksum_in, Entry, entry_of}
 use Rattle.bag_text.proofs.PathLemmas.{good_read, good_again, not_empty}
 use Rattle.bag_text.proofs.ManifestLemmas.{spells_decoded, spelled_is_decoded}
 
@@ -173,20 +173,20 @@ bad_path_text v p spells good = good.some (sym (spelled_is_decoded v [] p spells
 pub data LineView (v : Version) (a : Algorithm) (line : List ℕ) : Type 0 where
   bad_checksum : checksum_in a (sum_text line) ≡ None → LineView v a line
   no_path : (c : Checksum) → checksum_in a (sum_text line) ≡ Some c → path_text line ≡ [] → LineView v a line
-  bad_path : (c : Checksum) → checksum_in a (sum_text line) ≡ Some c → path_text line ≢ [] → path_of v (path_text line) ≡ None → LineView v a line
-  sound : (c : Checksum) (p : List ℕ × Bool) → checksum_in a (sum_text line) ≡ Some c → path_text line ≢ [] → path_of v (path_text line) ≡ Some p → LineView v a line
+  bad_path : (c : Checksum) → checksum_in a (sum_text line) ≡ Some c → path_text line ≢ [] → path_spelled v (path_text line) ≡ None → LineView v a line
+  sound : (c : Checksum) (p : List ℕ × Bool) → checksum_in a (sum_text line) ≡ Some c → path_text line ≢ [] → path_spelled v (path_text line) ≡ Some p → LineView v a line
 
 -- each line goes one of the four ways
 pub line_view : (v : Version) (a : Algorithm) (line : List ℕ) → LineView v a line
 line_view v a line = of_sum (checksum_in a (sum_text line)) refl
   where
-    of_path : (c : Checksum) → checksum_in a (sum_text line) ≡ Some c → path_text line ≢ [] → (o : Option (List ℕ × Bool)) → path_of v (path_text line) ≡ o → LineView v a line
+    of_path : (c : Checksum) → checksum_in a (sum_text line) ≡ Some c → path_text line ≢ [] → (o : Option (List ℕ × Bool)) → path_spelled v (path_text line) ≡ o → LineView v a line
     of_path c is some None e = bad_path c is some e
     of_path c is some (Some p) e = sound c p is some e
 
     of_text : (c : Checksum) → checksum_in a (sum_text line) ≡ Some c → (s : List ℕ) → path_text line ≡ s → LineView v a line
     of_text c is [] e = no_path c is e
-    of_text c is (b ∷ s) e = of_path c is (λ none. let both : b ∷ s ≡ [] = sym e ∙ none in absurd cc) (path_of v (path_text line)) refl
+    of_text c is (b ∷ s) e = of_path c is (λ none. let both : b ∷ s ≡ [] = sym e ∙ none in absurd cc) (path_spelled v (path_text line)) refl
 
     of_sum : (o : Option Checksum) → checksum_in a (sum_text line) ≡ o → LineView v a line
     of_sum None e = bad_checksum e
@@ -203,12 +203,12 @@ unfolding entry_of
 reads_no_path v a n line c e none = rw (e, none) refl
 
 -- a line whose path is no good one
-pub reads_bad_path : (v : Version) (a : Algorithm) (n : ℕ) (line : List ℕ) (c : Checksum) → checksum_in a (sum_text line) ≡ Some c → path_text line ≢ [] → path_of v (path_text line) ≡ None → entry_of v a n line ≡ Err (BadPath n)
+pub reads_bad_path : (v : Version) (a : Algorithm) (n : ℕ) (line : List ℕ) (c : Checksum) → checksum_in a (sum_text line) ≡ Some c → path_text line ≢ [] → path_spelled v (path_text line) ≡ None → entry_of v a n line ≡ Err (BadPath n)
 unfolding entry_of
 reads_bad_path v a n line c e some bad = rw (e, not_empty (path_text line) some, bad) refl
 
 -- a line with a checksum and a good path
-pub reads_sound : (v : Version) (a : Algorithm) (n : ℕ) (line : List ℕ) (c : Checksum) (p : List ℕ × Bool) → checksum_in a (sum_text line) ≡ Some c → path_text line ≢ [] → path_of v (path_text line) ≡ Some p → entry_of v a n line ≡ Ok (p.0, record { checksum = c; line = n; is_decoded = p.1 })
+pub reads_sound : (v : Version) (a : Algorithm) (n : ℕ) (line : List ℕ) (c : Checksum) (p : List ℕ × Bool) → checksum_in a (sum_text line) ≡ Some c → path_text line ≢ [] → path_spelled v (path_text line) ≡ Some p → entry_of v a n line ≡ Ok (p.0, record { checksum = c; line = n; is_decoded = p.1 })
 unfolding entry_of
 reads_sound v a n line c p e some is = rw (e, not_empty (path_text line) some, is) refl
 
@@ -217,7 +217,7 @@ good_reads : (is_decoded : Bool) (path : List ℕ) → GoodPath path → good_of
 good_reads is_decoded path good = rw (good_again path good) refl
 
 -- what spells a good path is read so
-path_reads : (v : Version) (spelled path : List ℕ) → begins_with 42 spelled ≡ false → Spells v spelled path → GoodPath path → path_of v spelled ≡ Some (path, has_coded v spelled)
+path_reads : (v : Version) (spelled path : List ℕ) → begins_with 42 spelled ≡ false → Spells v spelled path → GoodPath path → path_spelled v spelled ≡ Some (path, has_coded v spelled)
 path_reads v spelled path star spells good = rw (star, spelled_is_decoded v spelled path spells) (good_reads (has_coded v spelled) path good)
 
 -- a line that lists a path is read so
@@ -258,7 +258,7 @@ record PathRead (v : Version) (spelled : List ℕ) (p : List ℕ × Bool) : Type
   good : GoodPath (decode v spelled)
 
 -- a path that was read
-path_parts : (v : Version) (spelled : List ℕ) (p : List ℕ × Bool) → path_of v spelled ≡ Some p → PathRead v spelled p
+path_parts : (v : Version) (spelled : List ℕ) (p : List ℕ × Bool) → path_spelled v spelled ≡ Some p → PathRead v spelled p
 path_parts v spelled p e = by_tests (begins_with 42 spelled) refl (is_good (decode v spelled)) refl e
   where
     by_tests : (star : Bool) → begins_with 42 spelled ≡ star → (good : Bool) → is_good (decode v spelled) ≡ good → cond star None (cond good (Some (decode v spelled, has_coded v spelled)) None) ≡ Some p → PathRead v spelled p
@@ -274,7 +274,7 @@ pub record EntryRead (v : Version) (a : Algorithm) (line path : List ℕ) (entry
   pub entry_is : IsEntry v a line path bytes
 
 -- what was read of a line is what it lists
-pub sound_entry : (v : Version) (a : Algorithm) (n : ℕ) (line : List ℕ) (c : Checksum) (p : List ℕ × Bool) → checksum_in a (sum_text line) ≡ Some c → path_text line ≢ [] → path_of v (path_text line) ≡ Some p → EntryRead v a line p.0 (record { checksum = c; line = n; is_decoded = p.1 })
+pub sound_entry : (v : Version) (a : Algorithm) (n : ℕ) (line : List ℕ) (c : Checksum) (p : List ℕ × Bool) → checksum_in a (sum_text line) ≡ Some c → path_text line ≢ [] → path_spelled v (path_text line) ≡ Some p → EntryRead v a line p.0 (record { checksum = c; line = n; is_decoded = p.1 })
 sound_entry v a n line c p e some is =
     let sum = checksum_parts a (sum_text line) c e in
     let path = path_parts v (path_text line) p is in

@@ -21,7 +21,7 @@ use Rattle.bag_text.specs.Lines.{lines}
 use Rattle.bag_text.specs.Paths.{GoodPath, is_good}
 use Rattle.bag_text.specs.Manifest.{Spells, decode, has_coded, size_of, checksum_of, IsEntry, LineIs, as_manifest, ListsOn, IsSoundBefore, AscendingPaths, sum_text, path_text, IsReached, ManifestFault}
 use Rattle.bag_text.specs.Answers.{◌>>=◌}
-use Rattle.bag_text.specs.ManifestReading.{Entry, Entries, checksum_in, path_of, entry_of, is_listed, add_line_of, entries_of, manifest_of}
+use Rattle.bag_text.specs.ManifestReading.{Entry, Entries, checksum_in, path_spelled, entry_of, is_path_listed, add_line_of, entries_of, manifest_of}
 use Rattle.bag_text.proofs.ResultLemmas.{ok_is}
 use Rattle.bag_text.proofs.PathLemmas.{good_again}
 use Rattle.bag_text.proofs.ManifestLemmas.{spells_decoded, spelled_is_decoded}
@@ -130,7 +130,7 @@ one_path_a_line v a line p q one two x y = (both_paths, both_sums)
     both_sums = ok_is one two (sym x.checked ∙ ap (λ (d : List ℕ). decode_sized d (size_of a)) digits ∙ y.checked)
 
 -- a line that lists a new path adds its entry
-entry_more : (v : Version) (a : Algorithm) (ls : List (List ℕ)) (line : List ℕ) (es : Entries) (path : List ℕ) (entry : Entry) → IsSoundList v a ls es → is_listed path es ≡ false → entry.line ≡ length ls + 1 → EntryRead v a line path entry
+entry_more : (v : Version) (a : Algorithm) (ls : List (List ℕ)) (line : List ℕ) (es : Entries) (path : List ℕ) (entry : Entry) → IsSoundList v a ls es → is_path_listed path es ≡ false → entry.line ≡ length ls + 1 → EntryRead v a line path entry
     → IsSoundList v a (ls ++ line ∷ []) (insert_entry (slice_cmp nat_cmp) es path entry)
 entry_more v a ls line es path entry before new number is = record {
   each = each_more v a ls line before.each (inr (path, is.bytes, is.entry_is));
@@ -144,7 +144,7 @@ entry_more v a ls line es path entry before new number is = record {
     apart n q one two l e =
         let same = (one_path_a_line v a line path q is.bytes two is.entry_is e).0 in
         let found = before.listed n q one l in
-        false≢true (sym new ∙ ap (λ (p : List ℕ). is_listed p es) same ∙ has_listed q found.0 es found.1)
+        false≢true (sym new ∙ ap (λ (p : List ℕ). is_path_listed p es) same ∙ has_listed q found.0 es found.1)
 
     here : ReadAt v a (ls ++ line ∷ []) path entry
     here = (line, subst (λ (n : ℕ). At (ls ++ line ∷ []) n line) (sym number) (at_last ls line []), is)
@@ -197,7 +197,7 @@ has_some a digits c e = of_result (decode_sized digits (size_of a)) e
     of_result (Err f) e = absurd cc
 
 -- what is wrong with a path that can't be read
-bad_spelling : (v : Version) (spelled : List ℕ) → path_of v spelled ≡ None → (begins_with 42 spelled ≡ true) ⊎ ((path : List ℕ) × Spells v spelled path × (GoodPath path → ⊥))
+bad_spelling : (v : Version) (spelled : List ℕ) → path_spelled v spelled ≡ None → (begins_with 42 spelled ≡ true) ⊎ ((path : List ℕ) × Spells v spelled path × (GoodPath path → ⊥))
 bad_spelling v spelled e = by_tests (begins_with 42 spelled) refl (is_good (decode v spelled)) refl e
   where
     by_tests : (star : Bool) → begins_with 42 spelled ≡ star → (good : Bool) → is_good (decode v spelled) ≡ good → cond star None (cond {A = Option (List ℕ × Bool)} good (Some (decode v spelled, has_coded v spelled)) None) ≡ None → (begins_with 42 spelled ≡ true) ⊎ ((path : List ℕ) × Spells v spelled path × (GoodPath path → ⊥))
@@ -221,12 +221,12 @@ unfolding add_line_of
 add_fault v a n es line fault full e = rw (full, e) refl
 
 -- a line whose path is listed already
-add_twice : (v : Version) (a : Algorithm) (n : ℕ) (es : Entries) (line : List ℕ) (x : List ℕ × Entry) → list_all is_blank line ≡ false → entry_of v a n line ≡ Ok x → is_listed x.0 es ≡ true → add_line_of v a n es line ≡ Err (ListedTwice n)
+add_twice : (v : Version) (a : Algorithm) (n : ℕ) (es : Entries) (line : List ℕ) (x : List ℕ × Entry) → list_all is_blank line ≡ false → entry_of v a n line ≡ Ok x → is_path_listed x.0 es ≡ true → add_line_of v a n es line ≡ Err (ListedTwice n)
 unfolding add_line_of
 add_twice v a n es line x full e known = rw (full, e, known) refl
 
 -- a line whose path is new
-add_new : (v : Version) (a : Algorithm) (n : ℕ) (es : Entries) (line : List ℕ) (x : List ℕ × Entry) → list_all is_blank line ≡ false → entry_of v a n line ≡ Ok x → is_listed x.0 es ≡ false → add_line_of v a n es line ≡ Ok (insert_entry (slice_cmp nat_cmp) es x.0 x.1)
+add_new : (v : Version) (a : Algorithm) (n : ℕ) (es : Entries) (line : List ℕ) (x : List ℕ × Entry) → list_all is_blank line ≡ false → entry_of v a n line ≡ Ok x → is_path_listed x.0 es ≡ false → add_line_of v a n es line ≡ Ok (insert_entry (slice_cmp nat_cmp) es x.0 x.1)
 unfolding add_line_of
 add_new v a n es line x full e new = rw (full, e, new) refl
 
@@ -248,7 +248,7 @@ line_outcome v a text ls line more es utf8 unmarked is before = by_blank (list_a
     told : (r : Result Entries LineFault) → add_line_of v a n es line ≡ r → LineOutcome v a text (ls ++ line ∷ []) r → LineOutcome v a text (ls ++ line ∷ []) (add_line_of v a n es line)
     told r e outcome = subst (λ (x : Result Entries LineFault). LineOutcome v a text (ls ++ line ∷ []) x) (sym e) outcome
 
-    of_listed : list_all is_blank line ≡ false → (path : List ℕ) (entry : Entry) → entry_of v a n line ≡ Ok (path, entry) → entry.line ≡ n → EntryRead v a line path entry → (x : Bool) → is_listed path es ≡ x → LineOutcome v a text (ls ++ line ∷ []) (add_line_of v a n es line)
+    of_listed : list_all is_blank line ≡ false → (path : List ℕ) (entry : Entry) → entry_of v a n line ≡ Ok (path, entry) → entry.line ≡ n → EntryRead v a line path entry → (x : Bool) → is_path_listed path es ≡ x → LineOutcome v a text (ls ++ line ∷ []) (add_line_of v a n es line)
     of_listed full path entry e number read false new = told _ (add_new v a n es line (path, entry) full e new) (entry_more v a ls line es path entry before new number read)
     of_listed full path entry e number read true known =
         let old = listed_has path es known in
@@ -259,7 +259,7 @@ line_outcome v a text ls line more es utf8 unmarked is before = by_blank (list_a
     of_view full (bad_checksum e) = told _ (add_fault v a n es line (BadChecksum n) full (reads_bad_checksum v a n line e)) (line, reached full, has_none a (sum_text line) e)
     of_view full (no_path c e none) = told _ (add_fault v a n es line (NoPath n) full (reads_no_path v a n line c e none)) (line, reached full, has_some a (sum_text line) c e, none)
     of_view full (bad_path c e some bad) = told _ (add_fault v a n es line (BadPath n) full (reads_bad_path v a n line c e some bad)) (line, reached full, has_some a (sum_text line) c e, some, bad_spelling v (path_text line) bad)
-    of_view full (sound c p e some path) = of_listed full p.0 (record { checksum = c; line = n; is_decoded = p.1 }) (reads_sound v a n line c p e some path) refl (sound_entry v a n line c p e some path) (is_listed p.0 es) refl
+    of_view full (sound c p e some path) = of_listed full p.0 (record { checksum = c; line = n; is_decoded = p.1 }) (reads_sound v a n line c p e some path) refl (sound_entry v a n line c p e some path) (is_path_listed p.0 es) refl
 
     by_blank : (x : Bool) → list_all is_blank line ≡ x → LineOutcome v a text (ls ++ line ∷ []) (add_line_of v a n es line)
     by_blank true blank = told _ (add_blank v a n es line blank) (blank_more v a ls line es before blank)

@@ -50,8 +50,8 @@ abbrev pub are_digits : List ℕ → Bool
 are_digits s = not (length s == 0) && list_all is_ascii_digit s
 
 -- digits, a full stop, digits
-abbrev pub is_version : List ℕ → Bool
-is_version value =
+abbrev pub is_version_text : List ℕ → Bool
+is_version_text value =
     let at = position_or_len (λ b. b == 46) value in
     nat_lt at (length value) && are_digits (take at value) && are_digits (drop (at + 1) value)
 
@@ -73,7 +73,7 @@ abbrev pub declaration_has : List ℕ → DeclFault → Bool
 declaration_has text NotUtf8 = not (is_utf8 text)
 declaration_has text ByteOrderMark = has_mark text
 declaration_has text NotTwoLines = not (length (lines text) == 2)
-declaration_has text BadVersionLine = option_map_or (λ value. not (is_version value)) (version_value text) true
+declaration_has text BadVersionLine = option_map_or (λ value. not (is_version_text value)) (version_value text) true
 declaration_has text UnsupportedVersion = option_map_or (λ value. not (is_supported value)) (version_value text) true
 declaration_has text BadEncodingLine = option_map_or (λ value. length value == 0) (encoding_value text) true
 declaration_has text UnsupportedEncoding = option_map_or (λ value. not (is_utf8_name value)) (encoding_value text) true

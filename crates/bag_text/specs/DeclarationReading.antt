@@ -4,7 +4,7 @@ use Rattle.std.specs.Str.{is_utf8}
 use Rattle.bag_text.specs.Answers.{◌>>=◌}
 use Rattle.bag_text.specs.Text.{has_mark}
 use Rattle.bag_text.specs.Lines.{lines}
-use Rattle.bag_text.specs.Declaration.{after_label, version_label, encoding_label, is_version, is_utf8_name}
+use Rattle.bag_text.specs.Declaration.{after_label, version_label, encoding_label, is_version_text, is_utf8_name}
 use Rattle.bag_text.specs.declared.declaration.Version.{Version}
 use Rattle.bag_text.specs.declared.declaration.Version.TheVariants.{V1_0, V0_97}
 use Rattle.bag_text.specs.declared.declaration.DeclFault.{DeclFault}
@@ -15,7 +15,7 @@ version_declared line = do
   value ← ok_or (after_label version_label line) BadVersionLine
   if bytes_eq value (codes "1.0") then Ok V1_0
       else if bytes_eq value (codes "0.97") then Ok V0_97
-      else if is_version value then Err UnsupportedVersion
+      else if is_version_text value then Err UnsupportedVersion
       else Err BadVersionLine
 
 abbrev pub encoding_fault : List ℕ → Result (Unit {0}) DeclFault

@@ -37,8 +37,8 @@ next_char v (a ∷ s) = Some (a, s)
 abbrev pub good_of : Bool → List ℕ → Option (List ℕ × Bool)
 good_of is_decoded bytes = if is_good bytes then Some (bytes, is_decoded) else None
 
-abbrev pub path_of : Version → List ℕ → Option (List ℕ × Bool)
-path_of v spelled = if begins_with 42 spelled then None else good_of (has_coded v spelled) (decode v spelled)
+abbrev pub path_spelled : Version → List ℕ → Option (List ℕ × Bool)
+path_spelled v spelled = if begins_with 42 spelled then None else good_of (has_coded v spelled) (decode v spelled)
 
 -- the checksum that hex digits spell
 abbrev pub checksum_in : Algorithm → List ℕ → Option Checksum
@@ -55,21 +55,21 @@ unfoldable pub entry_of : Version → Algorithm → ℕ → List ℕ → Result 
 entry_of v a number line = do
   checksum ← ok_or (checksum_in a (sum_text line)) (BadChecksum number)
   spelled ← if length (path_text line) == 0 then Err (NoPath number) else Ok (path_text line)
-  path ← ok_or (path_of v spelled) (BadPath number)
+  path ← ok_or (path_spelled v spelled) (BadPath number)
   Ok (path.0, record { checksum = checksum; line = number; is_decoded = path.1 })
 
 abbrev pub Entries : Type 0
 Entries = List (List ℕ × Entry)
 
-abbrev pub is_listed : List ℕ → Entries → Bool
-is_listed path entries = is_some (lookup (is_at (slice_cmp nat_cmp path)) entries)
+abbrev pub is_path_listed : List ℕ → Entries → Bool
+is_path_listed path entries = is_some (lookup (is_at (slice_cmp nat_cmp path)) entries)
 
 -- the entries before and the one of a line, put in its place by path
 unfoldable pub add_line_of : Version → Algorithm → ℕ → Entries → List ℕ → Result Entries LineFault
 add_line_of v a number before line =
     if list_all is_blank line then Ok before
     else (entry_of v a number line >>= λ entry.
-    if is_listed entry.0 before then Err (ListedTwice number) else Ok (insert_entry (slice_cmp nat_cmp) before entry.0 entry.1))
+    if is_path_listed entry.0 before then Err (ListedTwice number) else Ok (insert_entry (slice_cmp nat_cmp) before entry.0 entry.1))
 
 -- line after line, the first of which has this number
 unfoldable pub entries_of : Version → Algorithm → ℕ → Entries → List (List ℕ) → Result Entries LineFault

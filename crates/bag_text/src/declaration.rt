@@ -2,7 +2,7 @@
 
 ghost use Rattle.std.specs.Prelude.{◌≡◌, ◌<◌, ◌==◌, List, [], ◌∷◌, length, ℕ, Bool, Option, option_map, option_copied, codes, None, Some, Ok, Err, IfOk, IfErr, MatchResult};
 ghost use Rattle.std.specs.List.{position_or_len};
-ghost use Rattle.bag_text.specs.Declaration.{after_label, are_digits, is_version, Declares, declaration_fault};
+ghost use Rattle.bag_text.specs.Declaration.{after_label, are_digits, is_version_text, Declares, declaration_fault};
 ghost use Rattle.bag_text.specs.declared.declaration.Version.{Version};
 ghost use Rattle.bag_text.specs.declared.declaration.DeclFault.{DeclFault};
 ghost use Rattle.bag_text.specs.DeclarationReading.{declaration_of, version_declared, encoding_fault, two_lines_of};
@@ -61,7 +61,7 @@ fn is_digits(text: &[u8]) -> bool
 
 /// Whether a value is digits, a full stop and digits.
 fn has_version_form(value: &[u8]) -> bool
-    ensures { result ≡ is_version value.now }
+    ensures { result ≡ is_version_text value.now }
 {
     let at = whole_len(value);
     at < value.len() && is_digits(&value[..at]) && is_digits(&value[at + 1..])

@@ -6,7 +6,7 @@ ghost use Rattle.bag_text.specs.Text.{is_blank, begins_with};
 ghost use Rattle.bag_text.specs.Paths.{is_good};
 ghost use Rattle.bag_text.specs.Lines.{lines};
 ghost use Rattle.bag_text.specs.Manifest.{coded_front, has_coded, decode};
-ghost use Rattle.bag_text.specs.ManifestReading.{next_char, good_of, key_of, checksum_in, path_of, entry_of, manifest_of, add_line_of, entries_of, entry_in, named_line_fault};
+ghost use Rattle.bag_text.specs.ManifestReading.{next_char, good_of, key_of, checksum_in, path_spelled, entry_of, manifest_of, add_line_of, entries_of, entry_in, named_line_fault};
 ghost use Rattle.bag_text.specs.Answers.{Gives};
 ghost use Rattle.std.specs.Prelude.{◌↔◌, ◌⊎◌, IfErr, IsTrue, IsSome, Contains, is_some};
 ghost use Rattle.std.specs.Cow.{IsBorrowedStr};
@@ -126,7 +126,7 @@ fn read_path<'a>(
     version: Version,
     spelled: &'a [u8],
 ) -> Result<Option<CowStr<'a, Global>>, AllocError>
-    ensures { IfOk result (λ path. option_map key_of path ≡ path_of version spelled.now) }
+    ensures { IfOk result (λ path. option_map key_of path ≡ path_spelled version spelled.now) }
 {
     if is_starred(spelled) {
         return Ok(None);

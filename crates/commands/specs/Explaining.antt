@@ -35,12 +35,12 @@ bad_policy_text fault = codes "policy " ++ policy_fault_text fault ++ 10 ∷ []
 -- ---- what standard error is told of the caller, a line with its end
 
 -- the policy lists a caller of this name
-abbrev pub is_listed : PolicyValue → List ℕ → Bool
-is_listed policy name = list_any (λ caller. bytes_eq caller.name name) policy.callers
+abbrev pub is_caller_listed : PolicyValue → List ℕ → Bool
+is_caller_listed policy name = list_any (λ caller. bytes_eq caller.name name) policy.callers
 
 -- that the policy doesn't list the caller, where that is so
 abbrev pub unlisted_line : PolicyValue → List ℕ → Option (List ℕ)
-unlisted_line policy name = if is_listed policy name then None else Some (unlisted_words name ++ 10 ∷ [])
+unlisted_line policy name = if is_caller_listed policy name then None else Some (unlisted_words name ++ 10 ∷ [])
 
 -- ---- the file
 

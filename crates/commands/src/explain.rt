@@ -6,7 +6,7 @@ ghost use Rattle.office_core.specs.Days.{IsDay};
 ghost use Rattle.office_core.specs.Policies.{PolicyValue, may_have_days};
 ghost use Rattle.office_core.specs.declared.policy_fault.PolicyFault.{PolicyFault};
 ghost use Rattle.commands.specs.Printing.{Prints};
-ghost use Rattle.commands.specs.Explaining.{Explains, HasFault, IsAllowedBy, IsDeniedBy, IsOnDay, IsUndecided, SaysBadPolicy, SaysDayMissing, SaysDecision, SpellsPolicyBytes, WantsDay, allow_text, bad_policy_text, decision_on, deny_text, default_text, is_listed, unlisted_line};
+ghost use Rattle.commands.specs.Explaining.{Explains, HasFault, IsAllowedBy, IsDeniedBy, IsOnDay, IsUndecided, SaysBadPolicy, SaysDayMissing, SaysDecision, SpellsPolicyBytes, WantsDay, allow_text, bad_policy_text, decision_on, deny_text, default_text, is_caller_listed, unlisted_line};
 ghost use Rattle.commands.specs.PolicyFiles.{IsAllOf};
 ghost use Rattle.commands.specs.declared.ending.Ending.TheVariants.{Accepted, Refused};
 
@@ -31,8 +31,8 @@ fn text_of<'a>(name: &Option<Name<'a>>) -> Option<&'a str>
 }
 
 /// Whether the policy lists the caller.
-fn is_listed(policy: &Policy, caller: &str) -> bool
-    ensures { result ≡ is_listed policy.now caller.now }
+fn is_caller_listed(policy: &Policy, caller: &str) -> bool
+    ensures { result ≡ is_caller_listed policy.now caller.now }
 {
     let callers = policy.callers();
     callers.iter().any(|listed| listed.name.as_str() == caller)
@@ -43,7 +43,7 @@ fn unlisted_line(alloc: Global, policy: &Policy, caller: &str) -> Result<Option<
     ensures { IfOk result (λ line.
         option_map string_bytes line ≡ unlisted_line policy.now caller.now) }
 {
-    if is_listed(policy, caller) {
+    if is_caller_listed(policy, caller) {
         return Ok(None);
     }
     let words = Unlisted(caller);

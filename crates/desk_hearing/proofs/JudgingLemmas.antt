@@ -14,7 +14,7 @@ use Rattle.desk_heads.specs.Heads.{HeadContents, Judges}
 use Rattle.desk_heads.specs.declared.refusal.HeadRefusal.{HeadRefusal}
 use Rattle.desk_heads.specs.declared.refusal.HeadRefusal.TheVariants as heads
 use Rattle.desk_routes.specs.Places.{PlaceValue, pattern_of}
-use Rattle.desk_routes.specs.PathReading.{place_of}
+use Rattle.desk_routes.specs.PathReading.{place_named}
 use Rattle.desk_routes.specs.Table.{RouteValue, route_of, route_of_place}
 use Rattle.desk_routes.specs.Table as routes
 use Rattle.desk_routes.specs.Targets.{path_part, query_part}
@@ -84,7 +84,7 @@ no_cut_place method None refusal e = λ t. let wrong : NoRoute ≡ Truncated = c
 no_cut_place method (Some place) refusal e = no_cut_route (option_and_then (λ m. routes.route_at m place) (routes.method_of method)) refusal (Method (pattern_of place)) (λ t. cc) e
 
 pub route_uncut : (method path : List ℕ) (refusal : DeskRefusal) → route_of method path ≡ Err refusal → refusal ≢ Truncated
-route_uncut method path refusal e = no_cut_place method (place_of path) refusal e
+route_uncut method path refusal e = no_cut_place method (place_named path) refusal e
 
 pub head_uncut : (refusal : HeadRefusal) → refusal_of_head refusal ≢ Truncated
 head_uncut heads.BadHead = λ e. cc

@@ -12,7 +12,7 @@ use Rattle.desk_heads.specs.declared.refusal.HeadRefusal.{HeadRefusal}
 use Rattle.desk_heads.specs.declared.refusal.HeadRefusal.TheVariants as heads
 use Rattle.desk_heads.proofs.StepLemmas.{refused_first, first_refused}
 use Rattle.desk_routes.specs.Places.{PlaceValue, pattern_of}
-use Rattle.desk_routes.specs.PathReading.{place_of}
+use Rattle.desk_routes.specs.PathReading.{place_named}
 use Rattle.desk_routes.specs.Table.{RouteValue, route_of, route_of_place}
 use Rattle.desk_routes.specs.Table as routes
 use Rattle.desk_routes.specs.Targets.{path_part}
@@ -52,7 +52,7 @@ place_fault method (Some place) refusal e =
 
 route_fault : (input : List ℕ) (contents : HeadContents) (rest : List ℕ) (refusal : DeskRefusal) → TakesHead input contents rest
     → route_of contents.method (path_part contents.target) ≡ Err refusal → IsRefused input refusal
-route_fault input contents rest refusal took e = elim (place_fault contents.method (place_of (path_part contents.target)) refusal e) [
+route_fault input contents rest refusal took e = elim (place_fault contents.method (place_named (path_part contents.target)) refusal e) [
   | inl same ↦ refused_as input refusal NoRoute same (contents, rest, took, nothing-named contents.method (path_part contents.target) (e ∙ ap Err same))
   | inr some ↦ refused_as input refusal (Method some.0) some.1 (contents, rest, took, method-refused contents.method (path_part contents.target) some.0 (e ∙ ap Err some.1))
 ]

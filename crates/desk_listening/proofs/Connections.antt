@@ -26,7 +26,7 @@ use Rattle.desk_hearing.specs.Hearing.{Hears}
 use Rattle.desk_serving.specs.declared.serving.DeskFault.{DeskFault}
 use Rattle.desk_serving.specs.declared.serving.DeskFault.TheVariants.{Read, Write, Memory}
 use Rattle.desk_serving.specs.Serving.{IsAnswered, ServesBytes}
-use Rattle.desk_listening.specs.Listening.{Connection, served, refused, lost, IsAfter, IsAfterAll, IsOf, IsRun, Tells, answers_of, is_answered, is_served, items_of}
+use Rattle.desk_listening.specs.Listening.{Connection, served, refused, lost, IsAfter, IsAfterAll, IsOf, IsRun, ReportsConnection, answers_of, is_answered, is_served, items_of}
 use Rattle.desk_listening.specs.Accepting.{Takes, TakesAll}
 use Rattle.desk_listening.specs.Peers.{IsWritten, Leaves, Link, WritesBeginning}
 use Rattle.desk_listening.specs.declared.draining.Drained.{Drained}
@@ -151,7 +151,7 @@ module _ {S : Type 0} (g : Ghosts S) (day : Date) where
     pub record Told {T : Type 0} (result : Result T DeskFault) : Type 0 where
       pub connection : Connection
       pub after : IsAfter g day connection old new
-      pub tells : Tells result connection
+      pub tells : ReportsConnection result connection
       pub heard : IfSome reader (λ input. IsOf input connection)
       pub written : IsWritten connection (contents (device_of writer)) (contents (device_of writer'))
 

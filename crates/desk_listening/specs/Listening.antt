@@ -59,9 +59,9 @@ done_of faults.Read = false
 done_of (faults.Write done) = done
 done_of (faults.Memory done) = done
 
-abbrev pub Tells : {T : Type 0} → Result T DeskFault → Connection → Type 0
-Tells (Ok _) connection = is_answered connection ≡ true
-Tells (Err fault) connection = (is_answered connection ≡ false) × (is_served connection ≡ done_of fault)
+abbrev pub ReportsConnection : {T : Type 0} → Result T DeskFault → Connection → Type 0
+ReportsConnection (Ok _) connection = is_answered connection ≡ true
+ReportsConnection (Err fault) connection = (is_answered connection ≡ false) × (is_served connection ≡ done_of fault)
 
 -- what the office served, in turn
 abbrev pub items_of : List Connection → List Item

@@ -3,7 +3,7 @@
 ghost use Rattle.std.specs.Prelude.{◌≡◌, ◌+◌, ◌<◌, ℕ, Bool, List, Err, IfErr, IfOk, is_ok};
 ghost use Rattle.std.specs.IoError.{error_kind};
 ghost use Rattle.desk_listening.specs.Accepting.{CountsAs, EndsAlone, EndsAt, Takes, TakesAll, served_of};
-ghost use Rattle.desk_listening.specs.Listening.{Connection, IsAfter, IsAfterAll, IsRun, Tells, is_answered};
+ghost use Rattle.desk_listening.specs.Listening.{Connection, IsAfter, IsAfterAll, IsRun, ReportsConnection, is_answered};
 ghost use Rattle.desk_listening.specs.Peers.{Talks, Treats};
 
 use crate::accepting::{AcceptFailed, Served, ends_one_connection};
@@ -28,7 +28,7 @@ fn serve_ends<S: Alter, P: Peer>(
     patience: &Patience,
 ) -> Result<(), DeskFault>
     ensures { (connection : Connection)
-        × IsAfter S.Store day connection office.old office.new × Tells result connection
+        × IsAfter S.Store day connection office.old office.new × ReportsConnection result connection
         × Talks (record { peer = P.Peer; reads = P.Reader.Read; writes = P.Writer.Write })
         patience.now (record { peer = peer.old; ends = ends.old }) connection
         (record { peer = peer.new; ends = ends.new }) }
@@ -53,7 +53,7 @@ pub fn serve_peer<S: Alter, P: Peer>(
     patience: &Patience,
 ) -> Result<(), DeskFault>
     ensures { (connection : Connection)
-        × IsAfter S.Store day connection office.old office.new × Tells result connection
+        × IsAfter S.Store day connection office.old office.new × ReportsConnection result connection
         × Treats (record { peer = P.Peer; reads = P.Reader.Read; writes = P.Writer.Write })
         patience.now peer.old connection peer.new }
 {

@@ -12,7 +12,7 @@ use Rattle.matchit.specs.Level.{IsText, AllSegment, AreSuffixes}
 use Rattle.matchit.proofs.SeekLemmas.{first-prefix, own-prepend, seek-empty}
 use Rattle.matchit.proofs.LongestLemmas.{longest-kid}
 use Rattle.matchit.proofs.ParamLemmas.{after_param-end, after_param-stop, after_param-kid, one_less}
-use Rattle.desk_routes.specs.PathReading.{Parts, after, nothing_more, onto, cut, by_part, no_more, last_part, all_of}
+use Rattle.desk_routes.specs.PathReading.{Parts, after_prefix, nothing_more, with_byte, cut, by_part, no_more, last_part, all_of}
 use Rattle.desk_routes.proofs.RowLemmas.{Leaves, first-beside, first-end, first-rest, first-param, IsText-drop, IsText-after}
 
 -- ---- what a cut says
@@ -25,7 +25,7 @@ pub cut-says : (path : List ℕ) → CutSays path (cut path)
 cut-says [] = (refl, refl, refl)
 cut-says (b ∷ path) = by (b == 47) refl (cut path) (cut-says path)
   where
-    by : (v : Bool) → (b == 47) ≡ v → (pair : List ℕ × Option (List ℕ)) → CutSays path pair → CutSays (b ∷ path) (cond v ([], Some path) (onto b pair))
+    by : (v : Bool) → (b == 47) ≡ v → (pair : List ℕ × Option (List ℕ)) → CutSays path pair → CutSays (b ∷ path) (cond v ([], Some path) (with_byte b pair))
     by true e pair h = let same : b ≡ 47 = grind (arith, nat_tests) in rw same (refl, refl, refl, refl)
     by false e (part, None) h = rw e (ap (λ l. b ∷ l) h.0, ap (λ l. b ∷ l) h.1, h.2)
     by false e (part, Some rest) h = rw e (ap (λ l. b ∷ l) h.0, ap (λ l. b ∷ l) h.1, h.2, h.3)
@@ -134,7 +134,7 @@ or-says key None b = refl
 or-says key (Some x) b = refl
 
 pub row-after : (key : Parts → ℕ) (w : List ℕ) (t : Rows) (f : List ℕ → Option Parts) (path : List ℕ) → IsText w → IsText path
-    → ((rest : List ℕ) → IsText rest → first t rest ≡ map_key key (f rest)) → first (prepend w t) path ≡ map_key key (after w f path)
+    → ((rest : List ℕ) → IsText rest → first t rest ≡ map_key key (f rest)) → first (prepend w t) path ≡ map_key key (after_prefix w f path)
 row-after key w t f path h text fs = first-prefix w t path h ∙ by (starts_with nat_eq path w)
   where
     by : (v : Bool) → cond v (first t (drop (length w) path)) None ≡ map_key key (cond v (f (drop (length w) path)) None)
@@ -143,9 +143,9 @@ row-after key w t f path h text fs = first-prefix w t path h ∙ by (starts_with
 
 pub rows-after : (key : Parts → ℕ) (w : List ℕ) (t r : Rows) (f : List ℕ → Option Parts) (other : Option Parts) (path : List ℕ) → IsText w → Leaves w r → IsText path
     → ((rest : List ℕ) → IsText rest → first t rest ≡ map_key key (f rest)) → first r path ≡ map_key key other
-    → first (prepend w t ++ r) path ≡ map_key key (option_or (after w f path) other)
+    → first (prepend w t ++ r) path ≡ map_key key (option_or (after_prefix w f path) other)
 rows-after key w t r f other path h l text fs others =
-    first-beside w t r path h l ∙ ap (λ o. or_row o (first r path)) (row-after key w t f path h text fs) ∙ ap (or_row (map_key key (after w f path))) others ∙ sym (or-says key (after w f path) other)
+    first-beside w t r path h l ∙ ap (λ o. or_row o (first r path)) (row-after key w t f path h text fs) ∙ ap (or_row (map_key key (after_prefix w f path))) others ∙ sym (or-says key (after_prefix w f path) other)
 
 pub end-says : (key : Parts → ℕ) (parts : Parts) (path : List ℕ) → first (ends (Some (key parts))) path ≡ map_key key (nothing_more parts path)
 unfolding seek

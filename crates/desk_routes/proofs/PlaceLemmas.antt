@@ -9,7 +9,7 @@ use Rattle.matchit.specs.Rows.{RowsOf}
 use Rattle.matchit.specs.Seek.{first, segment}
 use Rattle.matchit.specs.Level.{IsText}
 use Rattle.desk_routes.specs.declared.pattern.Pattern.{Pattern}
-use Rattle.desk_routes.specs.PathReading.{Parts, parts_of, place_by_parts, place_of, class, collection, deposit, holds_of_deposit, bag, audit, hold, file, deposits, holds, due}
+use Rattle.desk_routes.specs.PathReading.{Parts, parts_of, place_by_parts, place_named, class, collection, deposit, holds_of_deposit, bag, audit, hold, file, deposits, holds, due}
 use Rattle.desk_routes.specs.Rows.{row_of, the_rows}
 use Rattle.desk_routes.specs.Places.{PlaceValue}
 use Rattle.desk_routes.specs.Views.{Texts, place_by_texts}
@@ -120,7 +120,7 @@ by-texts holds = refl
 
 -- ---- what is found
 
-pub nothing-found : (path : List ℕ) (held : RowsOf (RouteOf Pattern)) → IsText path → held ≡ the_rows → first held path ≡ None → place_of path ≡ None
+pub nothing-found : (path : List ℕ) (held : RowsOf (RouteOf Pattern)) → IsText path → held ≡ the_rows → first held path ≡ None → place_named path ≡ None
 nothing-found path held text hold_them e = by (parts_of path) (sym (router-says path text) ∙ ap (λ r. first r path) (sym hold_them) ∙ e)
   where
     by : (found : Option Parts) → option_map row_of found ≡ None → option_and_then place_by_parts found ≡ None
@@ -128,7 +128,7 @@ nothing-found path held text hold_them e = by (parts_of path) (sym (router-says 
     by (Some parts) q = absurd (let z = q in cc)
 
 pub place-found : (path seen : List ℕ) (held : RowsOf (RouteOf Pattern)) (row : RouteOf Pattern) (result : Option PlaceValue) → IsText path → IsUtf8 path → held ≡ the_rows → first held path ≡ Some row → seen ≡ path
-    → (AllText (walk row.pattern row.text seen row.names 0 0) → result ≡ place_by_texts row.value (walk row.pattern row.text seen row.names 0 0)) → result ≡ place_of path
+    → (AllText (walk row.pattern row.text seen row.names 0 0) → result ≡ place_by_texts row.value (walk row.pattern row.text seen row.names 0 0)) → result ≡ place_named path
 place-found path seen held row result text u hold_them e same gives = by (parts_of path) refl (sym (router-says path text) ∙ ap (λ r. first r path) (sym hold_them) ∙ e)
   where
     by : (found : Option Parts) → parts_of path ≡ found → option_map row_of found ≡ Some row → result ≡ option_and_then place_by_parts found

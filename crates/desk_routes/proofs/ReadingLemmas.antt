@@ -6,7 +6,7 @@ use Rattle.std.proofs.lemmas.Bool.{and_parts}
 use Rattle.std.proofs.lemmas.Bool.Decides.{nat_tests}
 use Rattle.office_core.specs.Bounds.{max_name}
 use Rattle.office_core.specs.Names.{is_name, is_name_byte, IsName}
-use Rattle.desk_routes.specs.PathReading.{Parts, onto, cut, by_part, no_more, last_part, under_deposit, of_deposit, parts_of, name_of, number_of, place_by_parts, place_of, class, collection, deposit, holds_of_deposit, bag, audit, hold, file, deposits, holds, due}
+use Rattle.desk_routes.specs.PathReading.{Parts, with_byte, cut, by_part, no_more, last_part, under_deposit, under_deposits, parts_of, name_of, number_of, place_by_parts, place_named, class, collection, deposit, holds_of_deposit, bag, audit, hold, file, deposits, holds, due}
 use Rattle.desk_routes.specs.Places as places
 use Rattle.desk_routes.specs.Places.{PlaceValue, path_of, IsPlace, IsShortNumber, SpellsPlace}
 use Rattle.desk_routes.proofs.PartSpelling.{path_by_parts, has_slash, IsPart, AreParts, SpellsParts}
@@ -28,11 +28,11 @@ plain b part h = by (b == 47) refl h
 
 cut-last : (part : List ℕ) → has_slash part ≡ false → ◌≡◌ {A = Cut} (cut part) (part, None)
 cut-last [] h = refl
-cut-last (b ∷ part) h = let p = plain b part h in rw p.0 (ap (onto b) (cut-last part p.1))
+cut-last (b ∷ part) h = let p = plain b part h in rw p.0 (ap (with_byte b) (cut-last part p.1))
 
 cut-more : (part rest : List ℕ) → has_slash part ≡ false → ◌≡◌ {A = Cut} (cut (part ++ 47 ∷ rest)) (part, Some rest)
 cut-more [] rest h = refl
-cut-more (b ∷ part) rest h = let p = plain b part h in rw p.0 (ap (onto b) (cut-more part rest p.1))
+cut-more (b ∷ part) rest h = let p = plain b part h in rw p.0 (ap (with_byte b) (cut-more part rest p.1))
 
 part-last : (last : List ℕ → Option Parts) (more : List ℕ → List ℕ → Option Parts) (part : List ℕ) → IsPart part → by_part last more (cut part) ≡ last part
 part-last last more [] h = absurd (let s = h.0 in omega arith)
@@ -45,7 +45,7 @@ part-more last more (b ∷ part) rest h = ap (by_part last more) (cut-more (b �
 last-read : (f : List ℕ → Parts) (part : List ℕ) → IsPart part → last_part f part ≡ Some (f part)
 last-read f part h = part-last (λ p. Some (f p)) no_more part h
 
-under-read : (number rest : List ℕ) → IsPart number → of_deposit (number ++ 47 ∷ rest) ≡ under_deposit number rest
+under-read : (number rest : List ℕ) → IsPart number → under_deposits (number ++ 47 ∷ rest) ≡ under_deposit number rest
 under-read number rest h = part-more (λ n. Some (deposit n)) under_deposit number rest h
 
 file-read : (number path : List ℕ) → 0 < length path → under_deposit number (codes "files/" ++ path) ≡ Some (file number path)
@@ -95,10 +95,10 @@ named f name h = rw h refl
 numbered : (f : ℕ → PlaceValue) (number : ℕ) → IsShortNumber number → option_map f (number_of (decimal number)) ≡ Some (f number)
 numbered f number h = rw (number-read number h) refl
 
-read_by : (parts : Parts) (place : PlaceValue) → AreParts parts → place_by_parts parts ≡ Some place → place_of (path_by_parts parts) ≡ Some place
+read_by : (parts : Parts) (place : PlaceValue) → AreParts parts → place_by_parts parts ≡ Some place → place_named (path_by_parts parts) ≡ Some place
 read_by parts place h e = ap (option_and_then place_by_parts) (parts-read parts h) ∙ e
 
-pub place-read : (place : PlaceValue) → IsPlace place → place_of (path_of place) ≡ Some place
+pub place-read : (place : PlaceValue) → IsPlace place → place_named (path_of place) ≡ Some place
 place-read (places.class name) h = read_by (class name) (places.class name) (name-part name h) (named places.class name h)
 place-read (places.collection name) h = read_by (collection name) (places.collection name) (name-part name h) (named places.collection name h)
 place-read places.deposits h = refl
@@ -111,8 +111,8 @@ place-read places.holds h = refl
 place-read (places.hold n) h = read_by (hold (decimal n)) (places.hold n) (number-part n h) (numbered places.hold n h)
 place-read places.due h = refl
 
-pub spelling-read : (path : List ℕ) (place : PlaceValue) → SpellsPlace path place → place_of path ≡ Some place
-spelling-read path place h = ap place_of h.0 ∙ place-read place h.1
+pub spelling-read : (path : List ℕ) (place : PlaceValue) → SpellsPlace path place → place_named path ≡ Some place
+spelling-read path place h = ap place_named h.0 ∙ place-read place h.1
 
 by_name : (f : List ℕ → PlaceValue) (name : List ℕ) (place : PlaceValue) → option_map f (name_of name) ≡ Some place → (f name ≡ place) × IsName name
 by_name f name place e = by (is_name name) refl e
@@ -142,7 +142,7 @@ part_place path holds place h e = let same : places.holds ≡ place = cc in subs
 part_place path (hold text) place h e = let r = by_number places.hold text place e in subst (SpellsPlace path) r.1 (h.0 ∙ ap (λ t. codes "/holds/" ++ t) r.2, r.3)
 part_place path due place h e = let same : places.due ≡ place = cc in subst (SpellsPlace path) same (h.0, tt)
 
-pub reading-spelled : (path : List ℕ) (place : PlaceValue) → place_of path ≡ Some place → SpellsPlace path place
+pub reading-spelled : (path : List ℕ) (place : PlaceValue) → place_named path ≡ Some place → SpellsPlace path place
 reading-spelled path place e = by (parts_of path) refl e
   where
     by : (o : Option Parts) → parts_of path ≡ o → option_and_then place_by_parts o ≡ Some place → SpellsPlace path place

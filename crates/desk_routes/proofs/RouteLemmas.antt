@@ -9,7 +9,7 @@ use Rattle.matchit.specs.Seek.{first}
 use Rattle.matchit.specs.Level.{IsText}
 use Rattle.matchit.proofs.RenameLemmas.{first-rename}
 use Rattle.desk_routes.specs.declared.pattern.Pattern.{Pattern}
-use Rattle.desk_routes.specs.PathReading.{Parts, nothing_more, last_part, all_of, under_deposit, of_deposit, parts_of, class, collection, deposit, holds_of_deposit, bag, audit, hold, file, deposits, holds, due}
+use Rattle.desk_routes.specs.PathReading.{Parts, nothing_more, last_part, all_of, under_deposit, under_deposits, parts_of, class, collection, deposit, holds_of_deposit, bag, audit, hold, file, deposits, holds, due}
 use Rattle.desk_routes.specs.Rows.{row_of, the_rows}
 use Rattle.desk_routes.proofs.PathLemmas.{param-says, rows-after, row-after, end-says, all-says, last-says}
 
@@ -97,7 +97,7 @@ pub keyed-says : (path : List ℕ) → IsText path → first keyed path ≡ map_
 keyed-says path text =
     rows-after key (codes "/classes/") (parameter (one 0)) from_collections (last_part class) _ path (bytes (codes "/classes/") refl) refl text (λ p h. last-says key 0 class (λ r. refl) p h)
     (rows-after key (codes "/collections/") (parameter (one 1)) from_deposits (last_part collection) _ path (bytes (codes "/collections/") refl) refl text (λ p h. last-says key 1 collection (λ r. refl) p h)
-    (rows-after key (codes "/deposits/") (parameter (prepend (47 ∷ []) deposit_rows ++ ends (Some 6))) from_list of_deposit _ path (bytes (codes "/deposits/") refl) refl text (λ p h. param-says key (Some 6) deposit_rows (λ n. Some (deposit n)) under_deposit p h (λ n. refl) deposit-says)
+    (rows-after key (codes "/deposits/") (parameter (prepend (47 ∷ []) deposit_rows ++ ends (Some 6))) from_list under_deposits _ path (bytes (codes "/deposits/") refl) refl text (λ p h. param-says key (Some 6) deposit_rows (λ n. Some (deposit n)) under_deposit p h (λ n. refl) deposit-says)
     (rows-after key (codes "/deposits") (one 7) from_due (nothing_more deposits) _ path (bytes (codes "/deposits") refl) refl text (λ p h. end-says key deposits p)
     (rows-after key (codes "/due") (one 8) from_holds (nothing_more due) _ path (bytes (codes "/due") refl) refl text (λ p h. end-says key due p)
     (rows-after key (codes "/holds/") (parameter (one 9)) (prepend (codes "/holds") (one 10)) (last_part hold) _ path (bytes (codes "/holds/") refl) refl text (λ p h. last-says key 9 hold (λ r. refl) p h)

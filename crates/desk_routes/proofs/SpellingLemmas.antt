@@ -4,7 +4,7 @@ use Rattle.std.specs.List.{starts_with}
 use Rattle.std.specs.Option.{option_or}
 use Rattle.std.specs.Cmp.Lexicographic.{bytes_decides}
 use Rattle.std.proofs.lemmas.List.{take-append-drop}
-use Rattle.desk_routes.specs.PathReading.{Parts, after, nothing_more, cut, by_part, no_more, last_part, all_of, under_deposit, of_deposit, parts_of, class, collection, deposit, holds_of_deposit, bag, audit, hold, file, deposits, holds, due}
+use Rattle.desk_routes.specs.PathReading.{Parts, after_prefix, nothing_more, cut, by_part, no_more, last_part, all_of, under_deposit, under_deposits, parts_of, class, collection, deposit, holds_of_deposit, bag, audit, hold, file, deposits, holds, due}
 use Rattle.desk_routes.proofs.PathLemmas.{CutSays, cut-says}
 use Rattle.desk_routes.proofs.PartSpelling.{path_by_parts, has_slash, IsPart, AreParts, SpellsParts}
 
@@ -15,7 +15,7 @@ or-gives P (Some x) b parts f g e = f e
 starts-gives : (w path : List ℕ) → starts_with nat_eq path w ≡ true → path ≡ w ++ drop (length w) path
 starts-gives w path e = sym (take-append-drop (length w) path) ∙ ap (λ l. l ++ drop (length w) path) (sym ((bytes_decides w (take (length w) path)).0 e))
 
-after-gives : (P : Parts → Type 0) (w path : List ℕ) (f : List ℕ → Option Parts) (parts : Parts) → ((rest : List ℕ) → path ≡ w ++ rest → f rest ≡ Some parts → P parts) → after w f path ≡ Some parts → P parts
+after-gives : (P : Parts → Type 0) (w path : List ℕ) (f : List ℕ → Option Parts) (parts : Parts) → ((rest : List ℕ) → path ≡ w ++ rest → f rest ≡ Some parts → P parts) → after_prefix w f path ≡ Some parts → P parts
 after-gives P w path f parts g e = by (starts_with nat_eq path w) refl e
   where
     by : (v : Bool) → starts_with nat_eq path w ≡ v → cond v (f (drop (length w) path)) None ≡ Some parts → P parts
@@ -73,7 +73,7 @@ under-gives path number rest parts e good said = or-gives (SpellsParts path) _ _
     (or-gives (SpellsParts path) _ _ parts (tail (codes "files/") (all_of (file number)) files)
     (tail (codes "holds") (nothing_more (holds_of_deposit number)) (ending (codes "holds") (holds_of_deposit number) refl good)))) said
   where
-    tail : (w : List ℕ) (f : List ℕ → Option Parts) → ((after_it : List ℕ) → rest ≡ w ++ after_it → f after_it ≡ Some parts → SpellsParts path parts) → after w f rest ≡ Some parts → SpellsParts path parts
+    tail : (w : List ℕ) (f : List ℕ → Option Parts) → ((after_it : List ℕ) → rest ≡ w ++ after_it → f after_it ≡ Some parts → SpellsParts path parts) → after_prefix w f rest ≡ Some parts → SpellsParts path parts
     tail w f g s = after-gives (SpellsParts path) w rest f parts g s
 
     ending : (w : List ℕ) (x : Parts) → path_by_parts x ≡ codes "/deposits/" ++ (number ++ (47 ∷ (w ++ []))) → AreParts x → (after_it : List ℕ) → rest ≡ w ++ after_it → nothing_more x after_it ≡ Some parts → SpellsParts path parts
@@ -85,7 +85,7 @@ under-gives path number rest parts e good said = or-gives (SpellsParts path) _ _
     files [] r s = absurd (let q = s in cc)
     files (b ∷ l) r s = let same : file number (b ∷ l) ≡ parts = cc in subst (SpellsParts path) same (e ∙ ap (λ z. codes "/deposits/" ++ (number ++ (47 ∷ z))) r ∙ sym (file_is number (b ∷ l)), (good, omega arith))
 
-of-gives : (path rest : List ℕ) (parts : Parts) → path ≡ codes "/deposits/" ++ rest → of_deposit rest ≡ Some parts → SpellsParts path parts
+of-gives : (path rest : List ℕ) (parts : Parts) → path ≡ codes "/deposits/" ++ rest → under_deposits rest ≡ Some parts → SpellsParts path parts
 of-gives path rest parts e said = part-gives (SpellsParts path) (λ number. Some (deposit number)) under_deposit rest parts
     (λ part p h s. let same : deposit part ≡ parts = cc in subst (SpellsParts path) same (e ∙ ap (λ l. codes "/deposits/" ++ l) p, h))
     (λ part more p h s. under-gives path part more parts (e ∙ ap (λ l. codes "/deposits/" ++ l) p) h s) said
@@ -94,11 +94,11 @@ pub spelled : (path : List ℕ) (parts : Parts) → parts_of path ≡ Some parts
 spelled path parts said =
     or-gives (SpellsParts path) _ _ parts (front (codes "/classes/") (last_part class) (last-gives (codes "/classes/") path class parts (λ p. refl) (λ p h. h)))
     (or-gives (SpellsParts path) _ _ parts (front (codes "/collections/") (last_part collection) (last-gives (codes "/collections/") path collection parts (λ p. refl) (λ p h. h)))
-    (or-gives (SpellsParts path) _ _ parts (front (codes "/deposits/") of_deposit (λ rest e s. of-gives path rest parts e s))
+    (or-gives (SpellsParts path) _ _ parts (front (codes "/deposits/") under_deposits (λ rest e s. of-gives path rest parts e s))
     (or-gives (SpellsParts path) _ _ parts (front (codes "/deposits") (nothing_more deposits) (end-gives (codes "/deposits") path deposits parts refl tt))
     (or-gives (SpellsParts path) _ _ parts (front (codes "/due") (nothing_more due) (end-gives (codes "/due") path due parts refl tt))
     (or-gives (SpellsParts path) _ _ parts (front (codes "/holds/") (last_part hold) (last-gives (codes "/holds/") path hold parts (λ p. refl) (λ p h. h)))
     (front (codes "/holds") (nothing_more holds) (end-gives (codes "/holds") path holds parts refl tt))))))) said
   where
-    front : (w : List ℕ) (f : List ℕ → Option Parts) → ((rest : List ℕ) → path ≡ w ++ rest → f rest ≡ Some parts → SpellsParts path parts) → after w f path ≡ Some parts → SpellsParts path parts
+    front : (w : List ℕ) (f : List ℕ → Option Parts) → ((rest : List ℕ) → path ≡ w ++ rest → f rest ≡ Some parts → SpellsParts path parts) → after_prefix w f path ≡ Some parts → SpellsParts path parts
     front w f g s = after-gives (SpellsParts path) w path f parts g s

@@ -12,7 +12,7 @@ use Rattle.desk_routes.specs.declared.refusal.DeskRefusal.{DeskRefusal}
 use Rattle.desk_routes.specs.declared.refusal.DeskRefusal.TheVariants as refusals
 use Rattle.desk_routes.specs.Routes.{method_text, methods_of}
 use Rattle.desk_routes.specs.Places.{PlaceValue, class, collection, deposits, deposit, holds_of_deposit, bag, file, audit, holds, hold, due, SpellsPlace, pattern_of}
-use Rattle.desk_routes.specs.PathReading.{place_of}
+use Rattle.desk_routes.specs.PathReading.{place_named}
 use Rattle.desk_routes.specs.Table.{RouteValue, define_class, define_collection, deposit_bag, list_deposits, record_of, dispose, holds_of, download_bag, download_file, audit_of, place_hold, release, due_list, row, AsksFor, IsOtherMethod, route_at, method_of, route_of_place, route_of}
 use Rattle.desk_routes.proofs.ReadingLemmas.{spelling-read, reading-spelled}
 
@@ -160,16 +160,16 @@ asked-found method path route h =
     rw place (rw word (rw (row-found route) refl))
 
 pub found-asked : (method path : List ℕ) (route : RouteValue) → route_of method path ≡ Ok route → AsksFor method path route
-found-asked method path route e = by (place_of path) refl e
+found-asked method path route e = by (place_named path) refl e
   where
-    by_word : (place : PlaceValue) (word : Option Method) → place_of path ≡ Some place → method_of method ≡ word
+    by_word : (place : PlaceValue) (word : Option Method) → place_named path ≡ Some place → method_of method ≡ word
         → ok_or (option_and_then (λ m. route_at m place) word) (refusals.Method (pattern_of place)) ≡ Ok route → AsksFor method path route
     by_word place None is w q = absurd (let z = q in cc)
     by_word place (Some m) is w q =
         let r = row-only m place route (refused-gives (route_at m place) _ route q) in
         (method-written method m w ∙ ap method_text (sym r.0), subst (SpellsPlace path) (sym r.1) (reading-spelled path place is))
 
-    by : (o : Option PlaceValue) → place_of path ≡ o → route_of_place method o ≡ Ok route → AsksFor method path route
+    by : (o : Option PlaceValue) → place_named path ≡ o → route_of_place method o ≡ Ok route → AsksFor method path route
     by None is q = absurd (let z = q in cc)
     by (Some place) is q = by_word place (method_of method) is refl q
 
@@ -182,9 +182,9 @@ nothing-named method path e place h =
     no_route (option_and_then (λ m. route_at m place) (method_of method)) (pattern_of place) (sym (ap (route_of_place method) (spelling-read path place h)) ∙ e)
 
 pub named-nothing : (method path : List ℕ) → ((place : PlaceValue) → SpellsPlace path place → ⊥) → route_of method path ≡ Err refusals.NoRoute
-named-nothing method path h = by (place_of path) refl
+named-nothing method path h = by (place_named path) refl
   where
-    by : (o : Option PlaceValue) → place_of path ≡ o → route_of_place method o ≡ Err refusals.NoRoute
+    by : (o : Option PlaceValue) → place_named path ≡ o → route_of_place method o ≡ Err refusals.NoRoute
     by None is = refl
     by (Some place) is = absurd (h place (reading-spelled path place is))
 
@@ -193,9 +193,9 @@ refused-none None was pattern e = (refl, let z = e in cc)
 refused-none (Some r) was pattern e = absurd (let z = e in cc)
 
 pub method-refused : (method path : List ℕ) (pattern : Pattern) → route_of method path ≡ Err (refusals.Method pattern) → IsOtherMethod method path pattern
-method-refused method path pattern e = by (place_of path) refl e
+method-refused method path pattern e = by (place_named path) refl e
   where
-    by : (o : Option PlaceValue) → place_of path ≡ o → route_of_place method o ≡ Err (refusals.Method pattern) → IsOtherMethod method path pattern
+    by : (o : Option PlaceValue) → place_named path ≡ o → route_of_place method o ≡ Err (refusals.Method pattern) → IsOtherMethod method path pattern
     by None is q = absurd (let z = q in cc)
     by (Some place) is q =
         let r = refused-none (option_and_then (λ m. route_at m place) (method_of method)) (pattern_of place) pattern q in (

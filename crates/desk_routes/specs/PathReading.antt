@@ -16,20 +16,20 @@ pub data Parts : Type 0 where
   deposits holds due : Parts
 
 -- what a path says that begins so, by what follows
-abbrev pub after : List ℕ → (List ℕ → Option Parts) → List ℕ → Option Parts
-after front rest_of path = if starts_with nat_eq path front then rest_of (drop (length front) path) else None
+abbrev pub after_prefix : List ℕ → (List ℕ → Option Parts) → List ℕ → Option Parts
+after_prefix front rest_of path = if starts_with nat_eq path front then rest_of (drop (length front) path) else None
 
 abbrev pub nothing_more : Parts → List ℕ → Option Parts
 nothing_more parts [] = Some parts
 nothing_more parts (b ∷ rest) = None
 
-abbrev pub onto : ℕ → List ℕ × Option (List ℕ) → List ℕ × Option (List ℕ)
-onto b pair = (b ∷ pair.0, pair.1)
+abbrev pub with_byte : ℕ → List ℕ × Option (List ℕ) → List ℕ × Option (List ℕ)
+with_byte b pair = (b ∷ pair.0, pair.1)
 
 -- the text before the first slash, and what follows that slash
 abbrev pub cut : List ℕ → List ℕ × Option (List ℕ)
 cut [] = ([], None)
-cut (b ∷ text) = if b == 47 then ([], Some text) else onto b (cut text)
+cut (b ∷ text) = if b == 47 then ([], Some text) else with_byte b (cut text)
 
 -- a part that is not empty: the last of the path, or one that more follows
 abbrev pub by_part : (List ℕ → Option Parts) → (List ℕ → List ℕ → Option Parts) → List ℕ × Option (List ℕ) → Option Parts
@@ -51,24 +51,24 @@ all_of parts (b ∷ rest) = Some (parts (b ∷ rest))
 -- what follows `/deposits/N/`
 abbrev pub under_deposit : List ℕ → List ℕ → Option Parts
 under_deposit number rest =
-    option_or (after (codes "audit") (nothing_more (audit number)) rest)
-    (option_or (after (codes "bag") (nothing_more (bag number)) rest)
-    (option_or (after (codes "files/") (all_of (file number)) rest)
-    (after (codes "holds") (nothing_more (holds_of_deposit number)) rest)))
+    option_or (after_prefix (codes "audit") (nothing_more (audit number)) rest)
+    (option_or (after_prefix (codes "bag") (nothing_more (bag number)) rest)
+    (option_or (after_prefix (codes "files/") (all_of (file number)) rest)
+    (after_prefix (codes "holds") (nothing_more (holds_of_deposit number)) rest)))
 
 -- what follows `/deposits/`
-abbrev pub of_deposit : List ℕ → Option Parts
-of_deposit text = by_part (λ number. Some (deposit number)) under_deposit (cut text)
+abbrev pub under_deposits : List ℕ → Option Parts
+under_deposits text = by_part (λ number. Some (deposit number)) under_deposit (cut text)
 
 abbrev pub parts_of : List ℕ → Option Parts
 parts_of path =
-    option_or (after (codes "/classes/") (last_part class) path)
-    (option_or (after (codes "/collections/") (last_part collection) path)
-    (option_or (after (codes "/deposits/") of_deposit path)
-    (option_or (after (codes "/deposits") (nothing_more deposits) path)
-    (option_or (after (codes "/due") (nothing_more due) path)
-    (option_or (after (codes "/holds/") (last_part hold) path)
-    (after (codes "/holds") (nothing_more holds) path))))))
+    option_or (after_prefix (codes "/classes/") (last_part class) path)
+    (option_or (after_prefix (codes "/collections/") (last_part collection) path)
+    (option_or (after_prefix (codes "/deposits/") under_deposits path)
+    (option_or (after_prefix (codes "/deposits") (nothing_more deposits) path)
+    (option_or (after_prefix (codes "/due") (nothing_more due) path)
+    (option_or (after_prefix (codes "/holds/") (last_part hold) path)
+    (after_prefix (codes "/holds") (nothing_more holds) path))))))
 
 -- 1 to 7 digits, of which the first is no zero, unless it stands alone
 abbrev pub is_number : List ℕ → Bool
@@ -97,5 +97,5 @@ place_by_parts (hold number) = option_map places.hold (number_of number)
 place_by_parts due = Some places.due
 
 -- what a path names, if anything
-abbrev pub place_of : List ℕ → Option PlaceValue
-place_of path = option_and_then place_by_parts (parts_of path)
+abbrev pub place_named : List ℕ → Option PlaceValue
+place_named path = option_and_then place_by_parts (parts_of path)

@@ -8,7 +8,7 @@ use Rattle.desk_routes.specs.declared.refusal.DeskRefusal.{DeskRefusal}
 use Rattle.desk_routes.specs.declared.refusal.DeskRefusal.TheVariants as refusals
 use Rattle.desk_routes.specs.Routes.{method_text, methods_of}
 use Rattle.desk_routes.specs.Places.{PlaceValue, class, collection, deposits, deposit, holds_of_deposit, bag, file, audit, holds, hold, due, SpellsPlace, pattern_of}
-use Rattle.desk_routes.specs.PathReading.{place_of}
+use Rattle.desk_routes.specs.PathReading.{place_named}
 
 -- what a method asks of a place
 pub data RouteValue : Type 0 where
@@ -80,4 +80,4 @@ route_of_place method (Some place) = ok_or (option_and_then (λ m. route_at m pl
 
 -- what a method and a path ask for, or why that is refused: the path names nothing, or its place doesn't take the method
 abbrev pub route_of : List ℕ → List ℕ → Result RouteValue DeskRefusal
-route_of method path = route_of_place method (place_of path)
+route_of method path = route_of_place method (place_named path)

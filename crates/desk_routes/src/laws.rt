@@ -7,7 +7,7 @@ ghost use Rattle.std.specs.Ordering.{nat_cmp};
 ghost use Rattle.desk_routes.specs.declared.method.Method.{Method as AnyMethod};
 ghost use Rattle.desk_routes.specs.declared.pattern.Pattern.{Pattern as AnyPattern};
 ghost use Rattle.desk_routes.specs.declared.refusal.DeskRefusal.TheVariants.{NoRoute, Method};
-ghost use Rattle.desk_routes.specs.PathReading.{place_of};
+ghost use Rattle.desk_routes.specs.PathReading.{place_named};
 ghost use Rattle.desk_routes.specs.Places.{PlaceValue, SpellsPlace, pattern_of};
 ghost use Rattle.desk_routes.specs.Routes.{method_text, methods_of};
 ghost use Rattle.desk_routes.specs.Table.{RouteValue, AsksFor, IsOtherMethod, row, route_at, route_of};
@@ -16,7 +16,7 @@ ghost use Rattle.desk_routes.specs.Targets.{Splits, path_part, query_part};
 /// A path is read as a place exactly where it is the spelling of that place.
 pub fn spelled_places()
     ensures { (path : List ℕ) (place : PlaceValue)
-        → (place_of path ≡ Some place) ↔ SpellsPlace path place }
+        → (place_named path ≡ Some place) ↔ SpellsPlace path place }
 {}
 
 /// A path is the spelling of one place at most.

@@ -1,7 +1,7 @@
 //! The table of the routes.
 
 ghost use Rattle.std.specs.Prelude.{◌≡◌, [], IfOk, OnOk, MatchResult, Ok, Err, option_map};
-ghost use Rattle.desk_routes.specs.PathReading.{place_of};
+ghost use Rattle.desk_routes.specs.PathReading.{place_named};
 ghost use Rattle.desk_routes.specs.Rows.{definition_rows, rows_with_deposits, rows_with_parts_of_deposit, the_rows};
 ghost use Rattle.desk_routes.specs.Table.{route_of};
 ghost use Rattle.desk_routes.specs.Views.{place_view, route_view};
@@ -110,7 +110,7 @@ impl Routes {
 
     /// What a path names, if anything: the place of which the path is the spelling.
     pub fn find<'p>(&self, path: &'p str) -> Option<Place<'p>>
-        ensures { option_map place_view result ≡ place_of path.now }
+        ensures { option_map place_view result ≡ place_named path.now }
     {
         match self.router.at(path) {
             Ok(found) => place_by_params(*found.value, &found.params),

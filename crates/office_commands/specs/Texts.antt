@@ -38,10 +38,10 @@ abbrev pub bad_record_text : ℕ → List ℕ
 bad_record_text index = codes "record " ++ decimal index ++ 10 ∷ []
 
 -- what standard error is told: a line, and of a policy that is refused also why
-abbrev pub fault_text : CommandFault → List ℕ
-fault_text (Policy refused) = bad_policy_text refused.fault ++ string_bytes refused.reason
-fault_text (BadRecord index) = bad_record_text index
-fault_text (Failed fault cause) = message_of fault
+abbrev pub command_fault_text : CommandFault → List ℕ
+command_fault_text (Policy refused) = bad_policy_text refused.fault ++ string_bytes refused.reason
+command_fault_text (BadRecord index) = bad_record_text index
+command_fault_text (Failed fault cause) = message_of fault
 
 -- how the program ends then
 abbrev pub ending_of : CommandFault → Ending

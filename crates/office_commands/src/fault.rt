@@ -2,7 +2,7 @@
 
 ghost use Rattle.std.specs.Prelude.{◌≡◌, ◌++◌, IfOk, None, Some, false, string_bytes};
 ghost use Rattle.commands.specs.Explaining.{bad_policy_text};
-ghost use Rattle.office_commands.specs.Texts.{IsOfOpening, IsOfStore, IsUnopenable, ending_of, fault_text, found_nothing, is_of_nothing, is_of_search, is_sought, message_of};
+ghost use Rattle.office_commands.specs.Texts.{IsOfOpening, IsOfStore, IsUnopenable, ending_of, command_fault_text, found_nothing, is_of_nothing, is_of_search, is_sought, message_of};
 ghost use Rattle.office_commands.specs.declared.fault.CommandFault.TheVariants.{Failed};
 
 use commands::{Ending, Failure, RefusedPolicy};
@@ -143,7 +143,7 @@ impl CommandFault {
 
     /// The line that says so on standard error, and after it why a policy is refused.
     pub fn line(&self, alloc: Global) -> Result<String, AllocError>
-        ensures { IfOk result (λ text. string_bytes text ≡ fault_text self.now) }
+        ensures { IfOk result (λ text. string_bytes text ≡ command_fault_text self.now) }
     {
         match self {
             CommandFault::Policy(refused) => refused_lines(alloc, refused),

@@ -4,7 +4,7 @@ use Rattle.std.proofs.lemmas.Bool.{or_parts}
 use Rattle.std.specs.List.{list_any, filter_map, AllByRecursion}
 use Rattle.toml.specs.Data.{Data, Members, as_table}
 use Rattle.office_core.specs.FirstOf.{first_some, answer_if}
-use Rattle.office_core.specs.Policies.{caller_in, caller_entries, callers_among, callers_of, is_bad_among, rule_in, rule_values, rules_among, rules_of, first_bad, bad_rule_among, bad_rule, has_days, has_bad_version, has_unknown_key, has_bad_caller, faults, rule_of, rule_at, GivesEach, SpellsRules, SpellsCallers}
+use Rattle.office_core.specs.Policies.{caller_in, caller_entries, callers_among, callers_of, is_bad_among, rule_of_value, rule_values, rules_among, rules_of, first_bad, bad_rule_among, bad_rule, has_days, has_bad_version, has_unknown_key, has_bad_caller, faults, rule_of, rule_table_at, GivesEach, SpellsRules, SpellsCallers}
 use Rattle.office_core.specs.declared.rule.Rule.{Rule}
 use Rattle.office_core.specs.declared.policy_fault.PolicyFault.TheVariants.{BadVersion, UnknownKey, BadCaller, BadRule}
 use Rattle.office_core.proofs.OptionLemmas.{some_and_then, none_of, answer_if_none, option_map_none}
@@ -26,12 +26,12 @@ gives_each : {A B : Type 0} (read : A → Option B) (values : List A) → AllGiv
 gives_each read [] all = record { count = refl; each = λ place. refl }
 gives_each read (value ∷ values) all = one_more read value values (read value) refl all.0 (gives_each read values all.1)
 
-none_is_bad : (with_days : Bool) (number : ℕ) (values : List Data) → first_bad with_days number values ≡ None → AllGive (rule_in with_days) values
+none_is_bad : (with_days : Bool) (number : ℕ) (values : List Data) → first_bad with_days number values ≡ None → AllGive (rule_of_value with_days) values
 none_is_bad with_days number [] e = tt
-none_is_bad with_days number (value ∷ values) e = by_rule (is_none (rule_in with_days value)) refl e (none_is_bad with_days (suc number) values)
+none_is_bad with_days number (value ∷ values) e = by_rule (is_none (rule_of_value with_days value)) refl e (none_is_bad with_days (suc number) values)
   where
-    by_rule : (test : Bool) → is_none (rule_in with_days value) ≡ test → (if test then Some number else first_bad with_days (suc number) values) ≡ None
-        → (first_bad with_days (suc number) values ≡ None → AllGive (rule_in with_days) values) → AllGive (rule_in with_days) (value ∷ values)
+    by_rule : (test : Bool) → is_none (rule_of_value with_days value) ≡ test → (if test then Some number else first_bad with_days (suc number) values) ≡ None
+        → (first_bad with_days (suc number) values ≡ None → AllGive (rule_of_value with_days) values) → AllGive (rule_of_value with_days) (value ∷ values)
     by_rule true is found more = absurd cc
     by_rule false is found more = (is, more found)
 
@@ -42,9 +42,9 @@ none_is_bad_caller (entry ∷ entries) e =
     (both.0, none_is_bad_caller entries both.1)
 
 rules_are : (with_days : Bool) (found : Option (List Data)) → bad_rule_among with_days found ≡ None
-    → (values : List Data) × (found ≡ Some values) × GivesEach (rule_in with_days) values (rules_among with_days found)
+    → (values : List Data) × (found ≡ Some values) × GivesEach (rule_of_value with_days) values (rules_among with_days found)
 rules_are with_days None e = absurd cc
-rules_are with_days (Some values) e = (values, refl, gives_each (rule_in with_days) values (none_is_bad with_days 1 values e))
+rules_are with_days (Some values) e = (values, refl, gives_each (rule_of_value with_days) values (none_is_bad with_days 1 values e))
 
 callers_are : (found : Option (List (List ℕ × Data))) → is_bad_among found ≡ false → (entries : List (List ℕ × Data)) × (found ≡ Some entries) × GivesEach caller_in entries (callers_among found)
 callers_are None e = absurd cc
@@ -69,8 +69,8 @@ some_then f (Some x) y e = (x, refl, e)
 
 -- the rule in a place is the one that the table in that place spells
 pub rule_in_place : (tree : Members) (rules : List Rule) → SpellsRules tree rules → (place : ℕ) (rule : Rule) → slice_get rules place ≡ Some rule
-    → (ms : Members) × (rule_at tree place ≡ Some ms) × (rule_of (has_days tree) ms ≡ Some rule)
+    → (ms : Members) × (rule_table_at tree place ≡ Some ms) × (rule_of (has_days tree) ms ≡ Some rule)
 rule_in_place tree rules (values, are, gives) place rule at =
-    let (value, there, read) = some_then (rule_in (has_days tree)) (slice_get values place) rule (sym (gives.each place) ∙ at) in
+    let (value, there, read) = some_then (rule_of_value (has_days tree)) (slice_get values place) rule (sym (gives.each place) ∙ at) in
     let (ms, table, spells) = some_and_then (as_table value) (rule_of (has_days tree)) rule read in
     (ms, ap (λ found. option_and_then as_table (option_and_then (λ vs. slice_get vs place) found)) are ∙ ap (option_and_then as_table) there ∙ table, spells)

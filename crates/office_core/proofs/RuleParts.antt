@@ -14,7 +14,7 @@ use Rattle.toml.specs.Data.{Data, Members, no_members, member, get_member, as_st
 use Rattle.office_core.specs.Days.{first_day, last_day, IsDay}
 use Rattle.office_core.specs.DayReading.{day_of}
 use Rattle.office_core.specs.Rules.{HasNoDays}
-use Rattle.office_core.specs.Policies.{entries, is_one_of, rule_keys, keys_of_rule, effect_at, action_at, pattern_at, day_in, day_at, first_at, last_at, days_from, days_at, rule_of, rule_in, rules_among, IsBound, WritesDays, HasDays}
+use Rattle.office_core.specs.Policies.{entries, is_one_of, rule_keys, keys_of_rule, effect_at, action_at, pattern_at, day_in, day_at, first_at, last_at, days_from, days_at, rule_of, rule_of_value, rules_among, IsBound, WritesDays, HasDays}
 use Rattle.office_core.specs.declared.rule.Rule.{Rule}
 use Rattle.office_core.proofs.OptionLemmas.{some_if, some_and_then}
 use Rattle.office_core.proofs.DayTexts.{written_day}
@@ -57,16 +57,16 @@ pub all_rules : (P : Rule → Type 0) (with_days : Bool) → ((ms : Members) (ru
 all_rules P with_days each None = tt
 all_rules P with_days each (Some values) = all values
   where
-    one_more : (value : Data) (values : List Data) → AllByRecursion P (filter_map (rule_in with_days) values) → (found : Option Rule) → rule_in with_days value ≡ found
-        → AllByRecursion P (filter_map (rule_in with_days) (value ∷ values))
+    one_more : (value : Data) (values : List Data) → AllByRecursion P (filter_map (rule_of_value with_days) values) → (found : Option Rule) → rule_of_value with_days value ≡ found
+        → AllByRecursion P (filter_map (rule_of_value with_days) (value ∷ values))
     one_more value values more None is = rw is more
     one_more value values more (Some rule) is =
         let (ms, table, read) = some_and_then (as_table value) (rule_of with_days) rule is in
         rw is (each ms rule read, more)
 
-    all : (values : List Data) → AllByRecursion P (filter_map (rule_in with_days) values)
+    all : (values : List Data) → AllByRecursion P (filter_map (rule_of_value with_days) values)
     all [] = tt
-    all (value ∷ values) = one_more value values (all values) (rule_in with_days value) refl
+    all (value ∷ values) = one_more value values (all values) (rule_of_value with_days value) refl
 
 -- ---- days
 

@@ -139,8 +139,8 @@ rule_of with_days ms = if list_all (λ entry. is_one_of (keys_of_rule with_days)
   (first, last) ← days_at ms
   Some (record { effect = effect; role = role; action = action; collection = collection; class = class; first = first; last = last })) else None
 
-abbrev pub rule_in : Bool → Data → Option Rule
-rule_in with_days value = as_table value >>= rule_of with_days
+abbrev pub rule_of_value : Bool → Data → Option Rule
+rule_of_value with_days value = as_table value >>= rule_of with_days
 
 -- the values of the array `rule`, none where it isn't there; nothing where it is no array
 abbrev pub array_elements : Option Data → Option (List Data)
@@ -153,10 +153,10 @@ rule_values tree = array_elements (get_member (codes "rule") tree)
 -- the place of the first value that spells no rule, counted from that number
 abbrev pub first_bad : Bool → ℕ → List Data → Option ℕ
 first_bad with_days number [] = None
-first_bad with_days number (value ∷ more) = if is_none (rule_in with_days value) then Some number else first_bad with_days (suc number) more
+first_bad with_days number (value ∷ more) = if is_none (rule_of_value with_days value) then Some number else first_bad with_days (suc number) more
 
 abbrev pub rules_among : Bool → Option (List Data) → List Rule
-rules_among with_days found = option_map_or (filter_map (rule_in with_days)) found []
+rules_among with_days found = option_map_or (filter_map (rule_of_value with_days)) found []
 
 abbrev pub bad_rule_among : Bool → Option (List Data) → Option ℕ
 bad_rule_among with_days found = option_map_or (first_bad with_days 1) found (Some 0)
@@ -164,15 +164,15 @@ bad_rule_among with_days found = option_map_or (first_bad with_days 1) found (So
 -- ---- versions
 
 -- the whole number at `version`
-abbrev pub version_in : Members → Option ℤ
-version_in tree = option_and_then as_integer (get_member (codes "version") tree)
+abbrev pub version_number_in : Members → Option ℤ
+version_number_in tree = option_and_then as_integer (get_member (codes "version") tree)
 
-abbrev pub is_version : ℤ → Members → Bool
-is_version number tree = option_map_or (int_eq number) (version_in tree) false
+abbrev pub has_version_number : ℤ → Members → Bool
+has_version_number number tree = option_map_or (int_eq number) (version_number_in tree) false
 
 -- under version 2 rules may have days
 abbrev pub has_days : Members → Bool
-has_days tree = is_version (pos 2) tree
+has_days tree = has_version_number (pos 2) tree
 
 -- the same of a text: its tree is of version 2
 abbrev pub may_have_days : List ℕ → Bool
@@ -189,7 +189,7 @@ bad_rule tree = bad_rule_among (has_days tree) (rule_values tree)
 
 -- Y2: the version is missing, or is neither the whole number 1 nor 2
 abbrev pub has_bad_version : Members → Bool
-has_bad_version tree = not (is_version (pos 1) tree || is_version (pos 2) tree)
+has_bad_version tree = not (has_version_number (pos 1) tree || has_version_number (pos 2) tree)
 
 abbrev pub top_keys : List (List ℕ)
 top_keys = codes "version" ∷ codes "callers" ∷ codes "rule" ∷ []
@@ -246,11 +246,11 @@ pub record GivesEach {A B : Type 0} (read : A → Option B) (values : List A) (i
 
 -- the values of the array `rule` of a tree give these rules, each in its place
 abbrev pub SpellsRules : Members → List Rule → Type 0
-SpellsRules tree rules = (values : List Data) × (rule_values tree ≡ Some values) × GivesEach (rule_in (has_days tree)) values rules
+SpellsRules tree rules = (values : List Data) × (rule_values tree ≡ Some values) × GivesEach (rule_of_value (has_days tree)) values rules
 
 -- the table at that place, from 0, of the array `rule`
-abbrev pub rule_at : Members → ℕ → Option Members
-rule_at tree place = option_and_then as_table (option_and_then (λ values. slice_get values place) (rule_values tree))
+abbrev pub rule_table_at : Members → ℕ → Option Members
+rule_table_at tree place = option_and_then as_table (option_and_then (λ values. slice_get values place) (rule_values tree))
 
 -- the key has the text of the day, or isn't there, and the day is the one that is given
 abbrev pub IsBound : List ℕ → Date → Members → Date → Type 0

@@ -4,7 +4,7 @@ ghost use Rattle.std.specs.Prelude.{◌≡◌, ◌≢◌, ◌↔◌, ◌++◌, �
 ghost use Rattle.std.specs.List.{AllByRecursion};
 ghost use Rattle.jiff.specs.Types.{Date};
 ghost use Rattle.jiff.specs.Words.{epoch_day};
-ghost use Rattle.office_core.specs.Policies.{PolicyValue, SpellsPolicy, SpellsRules, SpellsCallers, IsPolicy, WritesDays, may_have_days, rule_at, version_in};
+ghost use Rattle.office_core.specs.Policies.{PolicyValue, SpellsPolicy, SpellsRules, SpellsCallers, IsPolicy, WritesDays, may_have_days, rule_table_at, version_number_in};
 ghost use Rattle.office_core.specs.Rules.{Question, HasNoDays, IsFirstMatch, NoneMatches, asked_on, counts_on, matches, patterns_match, first_place, decision_of, some_rule_allows};
 ghost use Rattle.office_core.specs.Days.{IsDay};
 ghost use Rattle.office_core.specs.Requests.{IsYears};
@@ -98,7 +98,7 @@ pub fn spelled_in_order()
 /// text whose rules may have no days.
 pub fn version_1_has_no_days()
     ensures version { (text : List ℕ) (policy : PolicyValue) (spells : SpellsPolicy text policy)
-        → version_in spells.tree ≡ Some (pos 1)
+        → version_number_in spells.tree ≡ Some (pos 1)
         → AllByRecursion HasNoDays policy.rules }
     ensures text { (text : List ℕ) (policy : PolicyValue)
         → SpellsPolicy text policy → may_have_days text ≡ false
@@ -110,7 +110,7 @@ pub fn version_1_has_no_days()
 pub fn written_days()
     ensures { (text : List ℕ) (policy : PolicyValue) (spells : SpellsPolicy text policy)
         (place : ℕ) (rule : Rule) → slice_get policy.rules place ≡ Some rule
-        → IsSomeAnd (rule_at spells.tree place) (λ table. WritesDays table rule) }
+        → IsSomeAnd (rule_table_at spells.tree place) (λ table. WritesDays table rule) }
 {}
 
 /// The due day that is computed is the one that the calendar has, of each day of the office and of

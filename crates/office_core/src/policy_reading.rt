@@ -4,7 +4,7 @@ ghost use Rattle.std.specs.Prelude.{◌≡◌, Some, Ok, Err, ok_or, not, if◌t
 ghost use Rattle.std.specs.List.{list_all};
 ghost use Rattle.toml.specs.View.{view, table_view, array_view};
 ghost use Rattle.bag_text.specs.Answers.{Gives};
-ghost use Rattle.office_core.specs.Policies.{caller_in, caller_entries, rule_values, entries, elements, is_one_of, top_keys, is_version, has_days, has_bad_version, named_policy_fault};
+ghost use Rattle.office_core.specs.Policies.{caller_in, caller_entries, rule_values, entries, elements, is_one_of, top_keys, has_version_number, has_days, has_bad_version, named_policy_fault};
 ghost use Rattle.office_core.specs.Names.{is_name};
 ghost use Rattle.office_core.specs.PolicyReading.{read_callers, read_rules};
 ghost use Rattle.office_core.specs.declared.policy_fault.PolicyFault.TheVariants.{BadCaller};
@@ -20,8 +20,8 @@ use std::alloc::Global;
 use toml::value::Array;
 use toml::{Table, Value};
 
-fn is_version(tree: &Table, number: i64) -> bool
-    ensures { result ≡ is_version number (table_view tree.now) }
+fn has_version_number(tree: &Table, number: i64) -> bool
+    ensures { result ≡ has_version_number number (table_view tree.now) }
 {
     match value_at(tree, "version") {
         Some(value) => value.as_integer() == Some(number),
@@ -33,14 +33,14 @@ fn is_version(tree: &Table, number: i64) -> bool
 pub fn has_bad_version(tree: &Table) -> bool
     ensures { result ≡ has_bad_version (table_view tree.now) }
 {
-    !(is_version(tree, 1) || is_version(tree, 2))
+    !(has_version_number(tree, 1) || has_version_number(tree, 2))
 }
 
 /// Whether the rules of the policy may have days: its version is 2.
 pub fn has_days(tree: &Table) -> bool
     ensures { result ≡ has_days (table_view tree.now) }
 {
-    is_version(tree, 2)
+    has_version_number(tree, 2)
 }
 
 fn is_top_key(key: &str) -> bool

@@ -3,7 +3,7 @@
 ghost use Rattle.std.specs.Prelude.{◌≡◌};
 ghost use Rattle.std.specs.List.{list_all};
 ghost use Rattle.toml.specs.View.{view, table_view};
-ghost use Rattle.office_core.specs.Policies.{effect_at, action_at, pattern_at, days_at, effect_in, pattern_in, action_pattern_in, keys_of_rule, is_one_of, entries, rule_of, rule_in};
+ghost use Rattle.office_core.specs.Policies.{effect_at, action_at, pattern_at, days_at, effect_in, pattern_in, action_pattern_in, keys_of_rule, is_one_of, entries, rule_of, rule_of_value};
 ghost use Rattle.office_core.specs.PolicyReading.{Reads};
 
 use crate::action::Action;
@@ -127,7 +127,7 @@ fn read_rule_table(alloc: Global, with_days: bool, table: &Table) -> Result<Rule
 
 /// The rule that a value of a policy file spells, where rules have days or don't.
 pub fn read_rule(alloc: Global, with_days: bool, value: &Value) -> Result<Rule, RuleFlaw>
-    ensures { Reads result (rule_in with_days (view value.now)) }
+    ensures { Reads result (rule_of_value with_days (view value.now)) }
 {
     match value.as_table() {
         Some(table) => read_rule_table(alloc, with_days, table),

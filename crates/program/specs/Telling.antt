@@ -13,7 +13,7 @@ use Rattle.commands.specs.declared.ending.Ending.TheVariants.{Failed, Misused, U
 use Rattle.commands.specs.declared.failure.Failure.TheVariants.{Device, Memory}
 use Rattle.command_line.specs.declared.use_fault.UseFault.{UseFault}
 use Rattle.command_line.specs.declared.use_fault.UseFault.TheVariants as uses
-use Rattle.office_commands.specs.Texts.{ending_of, fault_text}
+use Rattle.office_commands.specs.Texts.{ending_of, command_fault_text}
 use Rattle.program.specs.Streams.{Stream}
 use Rattle.program.specs.declared.stopped.Stopped.{Stopped}
 use Rattle.program.specs.declared.stopped.Stopped.TheVariants.{Folder, Output, Store, Unread}
@@ -51,7 +51,7 @@ line_told (Unread trouble) = message_of (failure_in trouble)
 line_told (Folder (folders.Device trouble)) = message_of Device
 line_told (Folder folders.Memory) = message_of Memory
 line_told (Output error) = message_of (failure_of (error_kind error))
-line_told (Store fault) = fault_text fault
+line_told (Store fault) = command_fault_text fault
 
 -- how the program ends then
 abbrev pub ending_told : Stopped → Ending

@@ -1,13 +1,13 @@
 use Rattle.std.proofs.Common.{rules, map-id}
 use Rattle.std.proofs.lemmas.Iterator.Consumers.{YieldsList-end}
 use Rattle.std.proofs.lemmas.Iterator.Adapters.{YieldsList-from_vec}
-use Rattle.bag_folders.specs.Listing.{file_in, odd_in}
+use Rattle.bag_folders.specs.Listing.{file_listed, odd_in}
 use Rattle.bag_folders.proofs.GrowingLemmas.{filter_map_next, first_next}
 use Rattle.bag_folders.proofs.listing.found_in.Goals as goal
 
 pub loop-entry-preserved : goal.loop-entry-preserved
 loop-entry-preserved c = record {
-  files = filter_map_next file_in c.loop-entry.yielded c.in-Some.entry _ _ c.loop-entry.invariant.files c.in_ok-take_up.ensures.files;
+  files = filter_map_next file_listed c.loop-entry.yielded c.in-Some.entry _ _ c.loop-entry.invariant.files c.in_ok-take_up.ensures.files;
   odd = first_next odd_in c.loop-entry.yielded c.in-Some.entry _ _ c.loop-entry.invariant.odd c.in_ok-take_up.ensures.odd;
 }
 

@@ -1,10 +1,10 @@
 use Rattle.std.proofs.Common.{◌≡◌}
 use Rattle.std.specs.Prelude.{filter_map, slice_get}
-use Rattle.bag_folders.specs.Listing.{file_in, odd_in}
+use Rattle.bag_folders.specs.Listing.{file_listed, odd_in}
 use Rattle.bag_folders.proofs.listing.found_in.Given as goal
 
 abbrev pub invariant-loop-entry : goal.invariant-loop-entry
 invariant-loop-entry l = record {
-  files : l.found.files.items ≡ filter_map file_in l.yielded;
+  files : l.found.files.items ≡ filter_map file_listed l.yielded;
   odd : l.found.odd ≡ slice_get (filter_map odd_in l.yielded) 0;
 }
