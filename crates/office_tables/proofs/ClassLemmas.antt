@@ -26,7 +26,7 @@ use Rattle.sql_meaning.proofs.Typed.{typed_at, all_both}
 use Rattle.sql_meaning.proofs.Edits.{appended, decoded, counted, cast_null, cast_int, none_revised}
 use Rattle.sql_meaning.proofs.Whole.{keeps_rule}
 use Rattle.sql_meaning.proofs.Changing.{revises}
-use Rattle.office_tables.specs.Schema.{office_schema, class_table}
+use Rattle.office_tables.specs.Schema.{office_schema, class_table, class_tree}
 use Rattle.office_rows.specs.Rows.{Tables, ClassRow, is_class, class_named, with_years, with_new_class, with_class}
 use Rattle.office_tables.specs.Tables.{IsOffice, Becomes, tables_of, class_in}
 use Rattle.office_tables.specs.Contents.{KeepsOnce}
@@ -39,18 +39,18 @@ use Rattle.office_tables.proofs.RowsRead.{finds_named}
 abbrev pub IsClassRow : Row → Type 0
 IsClassRow r = (column r 1 ≡ Text (bytes_at r 1)) × (column r 2 ≡ Int (int_at r 2))
 
-pub class_rows : (db : Database) → IsOffice db → AllByRecursion IsClassRow (db.trees 4)
+pub class_rows : (db : Database) → IsOffice db → AllByRecursion IsClassRow (db.trees class_tree)
 class_rows db office = all_both (λ r typed present.
     let at = typed_at office_schema db.trees class_table r typed present in
-    (at 0 refl, at 1 refl)) (db.trees 4) (keeps_rule office.whole Datatype).1.1.1.0 (keeps_rule office.whole NotNull).1.1.1.0
+    (at 0 refl, at 1 refl)) (db.trees class_tree) (keeps_rule office.whole Datatype).1.1.1.0 (keeps_rule office.whole NotNull).1.1.1.0
 
 -- what is known of the table: each name is a text, and at most one class has it
 module _ (db : Database) (office : IsOffice db) (name : List ℕ) where
-  named : AllByRecursion (λ r. column r 1 ≡ Text (bytes_at r 1)) (db.trees 4)
-  named = all_from _ (db.trees 4) (λ r there. (all_has IsClassRow (db.trees 4) r (class_rows db office) there).0)
+  named : AllByRecursion (λ r. column r 1 ≡ Text (bytes_at r 1)) (db.trees class_tree)
+  named = all_from _ (db.trees class_tree) (λ r there. (all_has IsClassRow (db.trees class_tree) r (class_rows db office) there).0)
 
-  few : (filter (has_text 1 name) (db.trees 4) ≡ []) ⊎ ((r : Row) × Has (db.trees 4) r × (has_text 1 name r ≡ true) × (filter (has_text 1 name) (db.trees 4) ≡ r ∷ []))
-  few = few_named 1 (db.trees 4) office.whole.shaped.1.1.1.0 named (keeps_rule office.whole Unique).1.1.1.0 name
+  few : (filter (has_text 1 name) (db.trees class_tree) ≡ []) ⊎ ((r : Row) × Has (db.trees class_tree) r × (has_text 1 name r ≡ true) × (filter (has_text 1 name) (db.trees class_tree) ≡ r ∷ []))
+  few = few_named 1 (db.trees class_tree) office.whole.shaped.1.1.1.0 named (keeps_rule office.whole Unique).1.1.1.0 name
 
 -- ---- the years of a class
 
@@ -71,7 +71,7 @@ adds_class old new name years count office h =
     let done = inserts add_class_text params old new office_schema office.whole.schema_is 3 class_table refl idle (all_given 2) 3 class_meanings.add_class_means refl refl count h in
     let cast_is : cast_row class_table source ≡ Null ∷ Text name ∷ Int years ∷ [] = rw (cast_null, cast_int years) refl in
     let end = appended db class_table source (Text name ∷ Int years ∷ []) office.whole.shaped.1.1.1.0 cast_is in
-    becomes old new edit count edit.news office (refl, (refl, tt)) done _ (ap (λ rows. record (tables_of old.now) { classes = rows }) (ap (map class_in) end ∙ map-append class_in (db 4) _))
+    becomes old new edit count edit.news office (refl, (refl, tt)) done _ (ap (λ rows. record (tables_of old.now) { classes = rows }) (ap (map class_in) end ∙ map-append class_in (db class_tree) _))
 
 pub adds_class_once : (old new : State) (name : List ℕ) (years : ℤ) (count : ℕ) → IsOffice old.now → Executes add_class_text (Text name ∷ Int years ∷ []) old new (Ok count) → KeepsOnce old.now → KeepsOnce new.now
 adds_class_once old new name years count office h =
@@ -93,17 +93,17 @@ revises_class old new name years count office h =
     let keep = has_text 1 name in
     let set : Row → Row = λ r. rowid r ∷ Text (bytes_at r 1) ∷ Int years ∷ [] in
     let done = revises revise_text (Text name ∷ Int years ∷ []) old new office_schema office.whole.schema_is 3 class_table refl idle shaped (by_text 1) revised_columns
-    keep (each_passes 1 name (Int years ∷ []) (db 4) (named old.now office name)) class_meanings.revise_means set (few old.now office name)
-    (λ r there. (refl, cast_set years r (all_has IsClassRow (db 4) r (class_rows old.now office) there) (all_has _ (db 4) r shaped.1 there), refl)) count h in
+    keep (each_passes 1 name (Int years ∷ []) (db class_tree) (named old.now office name)) class_meanings.revise_means set (few old.now office name)
+    (λ r there. (refl, cast_set years r (all_has IsClassRow (db class_tree) r (class_rows old.now office) there) (all_has _ (db class_tree) r shaped.1 there), refl)) count h in
     let edit = edit_of db class_table (ids_of done.answer) Given 1 done.answer in
-    let set_is = decoded class_in keep set (is_class name) (λ c. record c { years = years }) (λ r. refl) (λ r. refl) (db 4) in (
+    let set_is = decoded class_in keep set (is_class name) (λ c. record c { years = years }) (λ r. refl) (λ r. refl) (db class_tree) in (
       becomes old new edit count edit.news office (refl, (refl, tt)) done.change _ (ap (λ rows. record (tables_of old.now) { classes = rows }) (ap (map class_in) done.made ∙ set_is)),
       done.change.counted ∙ counted db class_table done.answer keep (shown_of (Text name ∷ Int years ∷ []) revised_columns) class_in (is_class name) (λ r. refl) (few old.now office name) done.shows,
     )
 
 pub revises_class_once : (old new : State) (name : List ℕ) (years : ℤ) (count : ℕ) → IsOffice old.now → Executes revise_text (Text name ∷ Int years ∷ []) old new (Ok count) → KeepsOnce old.now → KeepsOnce new.now
 revises_class_once old new name years count office h =
-    leaves_once old new _ count _ (updates revise_text (Text name ∷ Int years ∷ []) old new office_schema office.whole.schema_is 3 class_table refl idle (as_program (scan 4 (by_text 1) revised_columns [])) class_meanings.revise_means count h).2
+    leaves_once old new _ count _ (updates revise_text (Text name ∷ Int years ∷ []) old new office_schema office.whole.schema_is 3 class_table refl idle (as_program (scan class_tree (by_text 1) revised_columns [])) class_meanings.revise_means count h).2
 
 -- where the UPDATE counted none, the INSERT is left to do; where it counted one, nothing is
 pub puts_class : (t : Tables) (name : List ℕ) (years : ℤ) (mid : Database) (count : ℕ) → Becomes mid (with_years name years t) → count ≡ (if list_any (is_class name) t.classes then 1 else 0)

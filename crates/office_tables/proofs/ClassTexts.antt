@@ -9,7 +9,7 @@ use Rattle.sql_meaning.proofs.Scanning.{scan, as_program}
 use Rattle.sql_meaning.proofs.Reading.{Asks}
 use Rattle.sql_meaning.proofs.TextKeys.{by_text}
 use Rattle.sql_meaning.proofs.Writing.{Means}
-use Rattle.office_tables.specs.Schema.{office_schema}
+use Rattle.office_tables.specs.Schema.{office_schema, class_tree, collection_tree}
 use Rattle.office_tables.proofs.Columns.{only, all_given}
 
 abbrev pub years_text : List ℕ
@@ -33,10 +33,10 @@ add_collection_text = codes "INSERT INTO collection (name) VALUES (?1)"
 -- ---- what each means
 
 pub record ClassMeanings : Type 0 where
-  pub asks_years : Asks office_schema years_text 4 (by_text 1) (only 2) []
-  pub revise_means : Means office_schema revise_text (Update 3 (as_program (scan 4 (by_text 1) revised_columns [])))
+  pub asks_years : Asks office_schema years_text class_tree (by_text 1) (only 2) []
+  pub revise_means : Means office_schema revise_text (Update 3 (as_program (scan class_tree (by_text 1) revised_columns [])))
   pub add_class_means : Means office_schema add_class_text (Insert 3 (Values (all_given 2) 3))
-  pub asks_collection : Asks office_schema find_text 6 (by_text 1) (only 1) []
+  pub asks_collection : Asks office_schema find_text collection_tree (by_text 1) (only 1) []
   pub add_collection_means : Means office_schema add_collection_text (Insert 4 (Values (all_given 1) 2))
 
 pub class_meanings : ClassMeanings

@@ -21,7 +21,7 @@ use Rattle.sql_meaning.proofs.TextKeys.{has_text, few_named}
 use Rattle.sql_meaning.proofs.Typed.{typed_at, all_both}
 use Rattle.sql_meaning.proofs.Edits.{appended, cast_null}
 use Rattle.sql_meaning.proofs.Whole.{keeps_rule}
-use Rattle.office_tables.specs.Schema.{office_schema, collection_table}
+use Rattle.office_tables.specs.Schema.{office_schema, collection_table, collection_tree}
 use Rattle.office_rows.specs.Rows.{has_collection, is_collection, with_new_collection}
 use Rattle.office_tables.specs.Tables.{IsOffice, Becomes, tables_of, collection_in}
 use Rattle.office_tables.proofs.Frames.{idle, becomes}
@@ -29,13 +29,13 @@ use Rattle.office_tables.proofs.ClassTexts.{find_text, add_collection_text, clas
 use Rattle.office_tables.proofs.Columns.{only, all_given}
 use Rattle.office_tables.proofs.RowsRead.{reads_named}
 
-pub collection_rows : (db : Database) → IsOffice db → AllByRecursion (λ r. column r 1 ≡ Text (bytes_at r 1)) (db.trees 6)
+pub collection_rows : (db : Database) → IsOffice db → AllByRecursion (λ r. column r 1 ≡ Text (bytes_at r 1)) (db.trees collection_tree)
 collection_rows db office = all_both (λ r typed present. typed_at office_schema db.trees collection_table r typed present 0 refl)
-    (db.trees 6) (keeps_rule office.whole Datatype).1.1.1.1.0 (keeps_rule office.whole NotNull).1.1.1.1.0
+    (db.trees collection_tree) (keeps_rule office.whole Datatype).1.1.1.1.0 (keeps_rule office.whole NotNull).1.1.1.1.0
 
 module _ (db : Database) (office : IsOffice db) (name : List ℕ) where
-  few : (filter (has_text 1 name) (db.trees 6) ≡ []) ⊎ ((r : Row) × Has (db.trees 6) r × (has_text 1 name r ≡ true) × (filter (has_text 1 name) (db.trees 6) ≡ r ∷ []))
-  few = few_named 1 (db.trees 6) office.whole.shaped.1.1.1.1.0 (collection_rows db office) (keeps_rule office.whole Unique).1.1.1.1.0 name
+  few : (filter (has_text 1 name) (db.trees collection_tree) ≡ []) ⊎ ((r : Row) × Has (db.trees collection_tree) r × (has_text 1 name r ≡ true) × (filter (has_text 1 name) (db.trees collection_tree) ≡ r ∷ []))
+  few = few_named 1 (db.trees collection_tree) office.whole.shaped.1.1.1.1.0 (collection_rows db office) (keeps_rule office.whole Unique).1.1.1.1.0 name
 
 some_there : {X : Type 0} (xs : List X) → list_any (λ x. true) xs ≡ not (length xs == 0)
 some_there [] = refl
@@ -48,7 +48,7 @@ pub finds_collection : (old new : State) (name : List ℕ) (rows : List Row) →
     → (new.now ≡ old.now) × (has_collection name (tables_of old.now) ≡ not (length rows == 0))
 finds_collection old new name rows office h =
     let read = reads_named old new rows office 1 class_meanings.asks_collection name (collection_rows old.now office) (few old.now office name) h in
-    (read.0, finds_any (old.now.trees 6) rows (has_text 1 name) (shown_of (Text name ∷ []) (only 1)) collection_in (is_collection name) (λ r. refl) read.1 ∙ some_there rows)
+    (read.0, finds_any (old.now.trees collection_tree) rows (has_text 1 name) (shown_of (Text name ∷ []) (only 1)) collection_in (is_collection name) (λ r. refl) read.1 ∙ some_there rows)
 
 pub adds_collection : (old new : State) (name : List ℕ) (count : ℕ) → IsOffice old.now → Executes add_collection_text (Text name ∷ []) old new (Ok count)
     → Becomes new.now (with_new_collection name (tables_of old.now))
@@ -60,4 +60,4 @@ adds_collection old new name count office h =
     let done = inserts add_collection_text params old new office_schema office.whole.schema_is 4 collection_table refl idle (all_given 1) 2 class_meanings.add_collection_means refl refl count h in
     let cast_is : cast_row collection_table source ≡ Null ∷ Text name ∷ [] = rw cast_null refl in
     let end = appended db collection_table source (Text name ∷ []) office.whole.shaped.1.1.1.1.0 cast_is in
-    becomes old new edit count edit.news office (refl, (refl, tt)) done _ (ap (λ rows. record (tables_of old.now) { collections = rows }) (ap (map collection_in) end ∙ map-append collection_in (db 6) _))
+    becomes old new edit count edit.news office (refl, (refl, tt)) done _ (ap (λ rows. record (tables_of old.now) { collections = rows }) (ap (map collection_in) end ∙ map-append collection_in (db collection_tree) _))

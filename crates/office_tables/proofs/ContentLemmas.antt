@@ -46,7 +46,7 @@ use Rattle.sql_meaning.proofs.Typed.{typed_at, all_both}
 use Rattle.sql_meaning.proofs.Edits.{appended, cast_null, cast_int, map_alike}
 use Rattle.sql_meaning.proofs.Whole.{keeps_rule}
 use Rattle.sql_meaning.proofs.Changing.{drops}
-use Rattle.office_tables.specs.Schema.{office_schema, content_table, file_table}
+use Rattle.office_tables.specs.Schema.{office_schema, content_table, file_table, file_tree, content_tree}
 use Rattle.office_rows.specs.Rows.{FileRow, ContentRow, is_content, content_numbered, bytes_under, is_alike, next_id, last_number, with_content, with_file, file_at, Tables}
 use Rattle.office_tables.specs.Tables.{IsOffice, tables_of, contents_of, content_in, file_in}
 use Rattle.office_tables.specs.Contents.{references_of, StandOnce, IsMarked, AreUsed, KeepsOnce, KeepsFiles, content_after, IsContentAdded, IsContentThere, IsNewContent, IsContentKept, IsFileAdded, IsMarkedPut, AreFilesDropped, AreUsedOr, IsTidied}
@@ -60,21 +60,21 @@ use Rattle.office_tables.proofs.RowsRead.{reads_numbered}
 abbrev IsContentRow : Row → Type 0
 IsContentRow r = (column r 2 ≡ Blob (bytes_at r 2)) × (column r 3 ≡ Int (int_at r 3)) × (column r 4 ≡ Blob (bytes_at r 4))
 
-content_rows : (db : Database) → IsOffice db → AllByRecursion IsContentRow (db.trees 13)
+content_rows : (db : Database) → IsOffice db → AllByRecursion IsContentRow (db.trees content_tree)
 content_rows db office = all_both (λ r t p.
     let at = typed_at office_schema db.trees content_table r t p in
-    (at 1 refl, at 2 refl, at 3 refl)) (db.trees 13) (keeps_rule office.whole Datatype).1.1.1.1.1.1.1.1.0 (keeps_rule office.whole NotNull).1.1.1.1.1.1.1.1.0
+    (at 1 refl, at 2 refl, at 3 refl)) (db.trees content_tree) (keeps_rule office.whole Datatype).1.1.1.1.1.1.1.1.0 (keeps_rule office.whole NotNull).1.1.1.1.1.1.1.1.0
 
 -- the reference of a stored file
-pub file_references : (db : Database) → IsOffice db → AllByRecursion (λ r. column r 3 ≡ Int (int_at r 3)) (db.trees 10)
+pub file_references : (db : Database) → IsOffice db → AllByRecursion (λ r. column r 3 ≡ Int (int_at r 3)) (db.trees file_tree)
 file_references db office = all_both (λ r t p. typed_at office_schema db.trees file_table r t p 2 refl)
-    (db.trees 10) (keeps_rule office.whole Datatype).1.1.1.1.1.1.0 (keeps_rule office.whole NotNull).1.1.1.1.1.1.0
+    (db.trees file_tree) (keeps_rule office.whole Datatype).1.1.1.1.1.1.0 (keeps_rule office.whole NotNull).1.1.1.1.1.1.0
 
 -- ---- the content of a number
 
 module _ (db : Database) (office : IsOffice db) where
   abbrev stored : List Row
-  stored = db.trees 13
+  stored = db.trees content_tree
 
   shaped : IsShaped shape.Table stored
   shaped = office.whole.shaped.1.1.1.1.1.1.1.1.0
@@ -98,11 +98,11 @@ module _ (db : Database) (office : IsOffice db) where
   abbrev parents : Row → Bool
   parents row = list_any (λ parent. agree plain (0 ∷ []) parent (3 ∷ []) row) stored
 
-  held : (row : Row) → Has (db.trees 10) row → parents row ≡ true
+  held : (row : Row) → Has (db.trees file_tree) row → parents row ≡ true
   unfolding joined same_name
   held row there =
-      let each = all_has _ (db.trees 10) row (keeps_rule office.whole ForeignKey).1.1.1.1.1.1.0 there in
-      let typed : column row 3 ≡ Int (int_at row 3) = all_has _ (db.trees 10) row (file_references db office) there in
+      let each = all_has _ (db.trees file_tree) row (keeps_rule office.whole ForeignKey).1.1.1.1.1.1.0 there in
+      let typed : column row 3 ≡ Int (int_at row 3) = all_has _ (db.trees file_tree) row (file_references db office) there in
       let one : (has_null (3 ∷ []) row || parents row) && true ≡ true = each in
       let either : has_null (3 ∷ []) row || parents row ≡ true = (and_parts _ _ one).0 in
       let filled : has_null (3 ∷ []) row ≡ false = ap (λ v. is_null v || false) typed in
@@ -113,14 +113,14 @@ module _ (db : Database) (office : IsOffice db) where
   parent_is row parent names there =
       and-true _ ∙ ap₂ (λ a b. is_true (binary (Compare Eq Binary) a b)) (int_is (rowid parent) (all_has _ stored parent shaped.1 there)) names ∙ same_int (int_at parent 0) (int_at row 3)
 
-  pub parent_of : (row : Row) → Has (db.trees 10) row → (p : Row) × Has stored p × (has_number (int_at row 3) p ≡ true)
+  pub parent_of : (row : Row) → Has (db.trees file_tree) row → (p : Row) × Has stored p × (has_number (int_at row 3) p ≡ true)
   parent_of row there =
       let it = some_has (λ parent. agree plain (0 ∷ []) parent (3 ∷ []) row) stored (held row there) in
-      let names : column row 3 ≡ Int (int_at row 3) = all_has _ (db.trees 10) row (file_references db office) there in
+      let names : column row 3 ≡ Int (int_at row 3) = all_has _ (db.trees file_tree) row (file_references db office) there in
       (it.0, it.1, sym (parent_is row it.0 names it.1) ∙ it.2)
 
   -- the content of a file is there
-  pub fetched : (row : Row) → Has (db.trees 10) row → (c : ContentRow) × (content_numbered (int_at row 3) (contents_of db) ≡ Some c) × Has (contents_of db) c
+  pub fetched : (row : Row) → Has (db.trees file_tree) row → (c : ContentRow) × (content_numbered (int_at row 3) (contents_of db) ≡ Some c) × Has (contents_of db) c
   fetched row there =
       let p = parent_of row there in
       (content_in p.0, row_numbered (int_at row 3) p.0 p.1 p.2, mapped_has content_in stored p.0 p.1)
@@ -154,7 +154,7 @@ pub finds_bytes : (old new : State) (id : ℤ) (rows : List Row) → IsOffice ol
     → (new.now ≡ old.now) × (option_map (λ (c : ContentRow). c.bytes) (content_numbered id (contents_of old.now)) ≡ option_map (λ row. bytes_at row 0) (slice_get rows 0))
 finds_bytes old new id rows office h =
     let read = reads_numbered old new rows office content_meanings.asks_bytes id office.whole.shaped.1.1.1.1.1.1.1.1.0 h in
-    (read.0, finds_part (old.now.trees 13) rows (has_number id) (shown_of (Int id ∷ []) (only 4)) content_in (is_content id) (λ r. refl) read.1 (λ (c : ContentRow). c.bytes) (λ row. bytes_at row 0) (λ r. refl))
+    (read.0, finds_part (old.now.trees content_tree) rows (has_number id) (shown_of (Int id ∷ []) (only 4)) content_in (is_content id) (λ r. refl) read.1 (λ (c : ContentRow). c.bytes) (λ row. bytes_at row 0) (λ r. refl))
 
 abbrev is_like : List ℕ → List ℕ → Row → Bool
 is_like mark bytes r = bytes_eq (bytes_at r 2) mark && bytes_eq (bytes_at r 4) bytes
@@ -164,8 +164,8 @@ passes_likeness mark bytes r it = ap₂ ◌&&◌
     (ap (λ v. is_true (binary (Compare Eq Binary) v (Blob mark))) it.0 ∙ same_blob (bytes_at r 2) mark)
     (and-true _ ∙ ap (λ v. is_true (binary (Compare Eq Binary) v (Blob bytes))) it.2 ∙ same_blob (bytes_at r 4) bytes)
 
-each_like : (db : Database) → IsOffice db → (mark bytes : List ℕ) → AllByRecursion (λ r. passes (Blob mark ∷ Blob bytes ∷ []) by_likeness r ≡ is_like mark bytes r) (db.trees 13)
-each_like db office mark bytes = all_from _ (db.trees 13) (λ r there. passes_likeness mark bytes r (all_has IsContentRow (db.trees 13) r (content_rows db office) there))
+each_like : (db : Database) → IsOffice db → (mark bytes : List ℕ) → AllByRecursion (λ r. passes (Blob mark ∷ Blob bytes ∷ []) by_likeness r ≡ is_like mark bytes r) (db.trees content_tree)
+each_like db office mark bytes = all_from _ (db.trees content_tree) (λ r there. passes_likeness mark bytes r (all_has IsContentRow (db.trees content_tree) r (content_rows db office) there))
 
 -- the number that a row shows is that of a content with the mark and the bytes
 pub finds_alike : (old new : State) (mark bytes : List ℕ) (rows : List Row) → IsOffice old.now → Shown alike_text (Blob mark ∷ Blob bytes ∷ []) old new rows
@@ -175,20 +175,20 @@ finds_alike old new mark bytes rows office h =
     let params : Row = Blob mark ∷ Blob bytes ∷ [] in
     let db = old.now.trees in
     let each = each_like old.now office mark bytes in
-    let found = reads_scan office_schema alike_text 13 by_likeness (only 0) [] content_meanings.asks_alike params old new office.whole.schema_is rows h in (
-      reads_same office_schema alike_text 13 by_likeness (only 0) [] content_meanings.asks_alike params old new office.whole.schema_is rows h,
+    let found = reads_scan office_schema alike_text content_tree by_likeness (only 0) [] content_meanings.asks_alike params old new office.whole.schema_is rows h in (
+      reads_same office_schema alike_text content_tree by_likeness (only 0) [] content_meanings.asks_alike params old new office.whole.schema_is rows h,
       λ none. elim (cases_Bool (list_any (is_alike mark bytes) (contents_of old.now))) [
         | inl some ↦ absurd (
             let c = some_has (is_alike mark bytes) (contents_of old.now) some in
-            let r = has_mapped content_in (db 13) c.0 c.1 in
+            let r = has_mapped content_in (db content_tree) c.0 c.1 in
             let keeps : is_like mark bytes r.0 ≡ true = ap (is_alike mark bytes) (sym r.2) ∙ c.2 in
-            let x = answer_complete db params 13 by_likeness (only 0) [] rows (is_like mark bytes) found each r.0 r.1 keeps in
+            let x = answer_complete db params content_tree by_likeness (only 0) [] rows (is_like mark bytes) found each r.0 r.1 keeps in
             subst (λ rs. Has rs (shown_of params (only 0) r.0)) none x)
         | inr isnt ↦ isnt
       ],
       λ x first.
-          let r = answer_sound db params 13 by_likeness (only 0) [] rows (is_like mark bytes) found each x (first_has rows x first) in
-          (content_in r.0, mapped_has content_in (db 13) r.0 r.1, ap (λ row. int_at row 0) r.3, r.2),
+          let r = answer_sound db params content_tree by_likeness (only 0) [] rows (is_like mark bytes) found each x (first_has rows x first) in
+          (content_in r.0, mapped_has content_in (db content_tree) r.0 r.1, ap (λ row. int_at row 0) r.3, r.2),
     )
   where
     first_has : (rs : List Row) (x : Row) → slice_get rs 0 ≡ Some x → Has rs x
@@ -197,7 +197,7 @@ finds_alike old new mark bytes rows office h =
 
 pub finds_last : (old new : State) (rows : List Row) → IsOffice old.now → Shown last_text [] old new rows
     → (new.now ≡ old.now) × (last_number (λ (c : ContentRow). c.id) (contents_of old.now) ≡ option_map (λ row. int_at row 0) (slice_get rows 0))
-finds_last old new rows office h = reads_last 13 content_in (λ (c : ContentRow). c.id) (λ r. refl) office_schema last_text content_meanings.asks_last old new office.whole.schema_is office.whole.shaped.1.1.1.1.1.1.1.1.0.0 rows h
+finds_last old new rows office h = reads_last content_tree content_in (λ (c : ContentRow). c.id) (λ r. refl) office_schema last_text content_meanings.asks_last old new office.whole.schema_is office.whole.shaped.1.1.1.1.1.1.1.1.0.0 rows h
 
 abbrev shown_size : Row → ℤ × ℤ
 shown_size row = (int_at row 0, int_at row 1)
@@ -205,13 +205,13 @@ shown_size row = (int_at row 0, int_at row 1)
 pub lists_contents : (old new : State) (rows : List Row) → IsOffice old.now → Shown contents_text [] old new rows
     → (new.now ≡ old.now) × (map (λ (c : ContentRow). (c.id, c.size)) (contents_of old.now) ≡ map shown_size rows)
 lists_contents old new rows office h =
-    let stored = old.now.trees 13 in
+    let stored = old.now.trees content_tree in
     let up = ascending_weaker _ _ (λ a b lower. rw lower refl) stored office.whole.shaped.1.1.1.1.1.1.1.1.0.0 in
-    let is = reads_rising office_schema contents_text 13 [] size_columns rising content_meanings.asks_contents [] old new office.whole.schema_is rows h (λ r. true) (all_from _ stored (λ r there. refl)) up in
+    let is = reads_rising office_schema contents_text content_tree [] size_columns rising content_meanings.asks_contents [] old new office.whole.schema_is rows h (λ r. true) (all_from _ stored (λ r there. refl)) up in
     let whole : rows ≡ map (shown_of [] size_columns) stored = is ∙ ap (map (shown_of [] size_columns)) (filter_all (λ r. true) stored (λ r there. refl)) in
     let shows : map shown_size (map (shown_of [] size_columns) stored) ≡ map (λ r. (int_at r 0, int_at r 3)) stored = map-map shown_size (shown_of [] size_columns) stored in
     let typed : map (λ (c : ContentRow). (c.id, c.size)) (map content_in stored) ≡ map (λ r. (int_at r 0, int_at r 3)) stored = map-map (λ (c : ContentRow). (c.id, c.size)) content_in stored in (
-      reads_same office_schema contents_text 13 [] size_columns rising content_meanings.asks_contents [] old new office.whole.schema_is rows h,
+      reads_same office_schema contents_text content_tree [] size_columns rising content_meanings.asks_contents [] old new office.whole.schema_is rows h,
       typed ∙ sym shows ∙ sym (ap (map shown_size) whole),
     )
 
@@ -223,10 +223,10 @@ passes_content id r it = and-true _ ∙ ap (λ v. is_true (binary (Compare Eq Bi
 
 -- a row stands exactly where some file has the content of that number
 pub finds_users : (old new : State) (id : ℤ) (rows : List Row) → IsOffice old.now → Shown users_text (Int id ∷ []) old new rows
-    → (new.now ≡ old.now) × (list_any (refers_to id) (old.now.trees 10) ≡ list_any (λ r. true) rows)
+    → (new.now ≡ old.now) × (list_any (refers_to id) (old.now.trees file_tree) ≡ list_any (λ r. true) rows)
 finds_users old new id rows office h =
-    reads_some office_schema users_text 10 by_content (only 1) content_meanings.asks_users (Int id ∷ []) old new office.whole.schema_is rows h (refers_to id)
-    (all_from _ (old.now.trees 10) (λ r there. passes_content id r (all_has _ (old.now.trees 10) r (file_references old.now office) there)))
+    reads_some office_schema users_text file_tree by_content (only 1) content_meanings.asks_users (Int id ∷ []) old new office.whole.schema_is rows h (refers_to id)
+    (all_from _ (old.now.trees file_tree) (λ r there. passes_content id r (all_has _ (old.now.trees file_tree) r (file_references old.now office) there)))
 
 -- ---- one content more
 
@@ -256,12 +256,12 @@ module _ (old new : State) (mark bytes : List ℕ) (count : ℕ) (office : IsOff
   -- the contents are one more
   added_at_end : contents_of (with_edit added_edit old.now) ≡ contents_of old.now ++ added_content ∷ []
   added_at_end =
-      ap (map content_in) (appended old.now.trees content_table (Null ∷ added_columns) added_columns office.whole.shaped.1.1.1.1.1.1.1.1.0 added_cast) ∙ map-append content_in (old.now.trees 13) _
-      ∙ ap (λ n. contents_of old.now ++ record { id = n; mark = mark; size = pos (length bytes); bytes = bytes } ∷ []) (next_is (old.now.trees 13) (pos 1))
+      ap (map content_in) (appended old.now.trees content_table (Null ∷ added_columns) added_columns office.whole.shaped.1.1.1.1.1.1.1.1.0 added_cast) ∙ map-append content_in (old.now.trees content_tree) _
+      ∙ ap (λ n. contents_of old.now ++ record { id = n; mark = mark; size = pos (length bytes); bytes = bytes } ∷ []) (next_is (old.now.trees content_tree) (pos 1))
 
   pub adds_content : IsContentAdded mark bytes old.now new.now
   adds_content =
-      let rows = old.now.trees 10 in
+      let rows = old.now.trees file_tree in
       let cs = contents_of old.now in
       let files : map (file_in (contents_of (with_edit added_edit old.now))) rows ≡ map (file_in cs) rows =
       ap (λ all. map (file_in all) rows) added_at_end ∙ same_files (cs ++ added_content ∷ []) cs rows (λ r there. let it = fetched old.now office r there in found_before (int_at r 3) cs (added_content ∷ []) it.0 it.1 ∙ sym it.1) in
@@ -288,16 +288,16 @@ removes_content old new id count office h =
     let db = old.now.trees in
     let shaped = office.whole.shaped.1.1.1.1.1.1.1.1.0 in
     let done = drops remove_text (Int id ∷ []) old new office_schema office.whole.schema_is 8 content_table refl idle shaped by_number (only 0)
-    (has_number id) (each_numbered id [] (db 13) shaped) content_meanings.remove_means (λ r. refl) count h in
+    (has_number id) (each_numbered id [] (db content_tree) shaped) content_meanings.remove_means (λ r. refl) count h in
     let edit = edit_of db content_table (ids_of done.answer) Given 0 [] in
     let cs = contents_of old.now in
-    let fewer : contents_of (with_edit edit old.now) ≡ filter (λ c. not (is_content id c)) cs = ap (map content_in) done.made ∙ sym (filter-map (λ c. not (is_content id c)) content_in (db 13)) in
+    let fewer : contents_of (with_edit edit old.now) ≡ filter (λ c. not (is_content id c)) cs = ap (map content_in) done.made ∙ sym (filter-map (λ c. not (is_content id c)) content_in (db content_tree)) in
     let contents = contents_after old new edit count _ done.change ∙ fewer in
     let references = references_after old new edit count _ done.change in
     let whole = becomes old new edit count _ office (refl, (refl, tt)) done.change _ refl in
-    let rows : new.now.trees 10 ≡ db 10 = file_rows_after old new edit count _ done.change in
-    let files : map (file_in (contents_of (with_edit edit old.now))) (db 10) ≡ map (file_in cs) (db 10) =
-    ap (λ all. map (file_in all) (db 10)) fewer ∙ same_files (filter (λ c. not (is_content id c)) cs) cs (db 10)
+    let rows : new.now.trees file_tree ≡ db file_tree = file_rows_after old new edit count _ done.change in
+    let files : map (file_in (contents_of (with_edit edit old.now))) (db file_tree) ≡ map (file_in cs) (db file_tree) =
+    ap (λ all. map (file_in all) (db file_tree)) fewer ∙ same_files (filter (λ c. not (is_content id c)) cs) cs (db file_tree)
     (λ r there. found_kept (int_at r 3) (λ c. not (is_content id c)) cs (stays new.now whole.office contents r (subst (λ rs. Has rs r) (sym rows) there))) in (
       record {
         becomes = becomes old new edit count _ office (refl, (refl, tt)) done.change _ (ap (λ (fs : List FileRow). record (tables_of old.now) { files = fs }) files);
@@ -307,7 +307,7 @@ removes_content old new id count office h =
     )
   where
     -- no file refers to what was taken out
-    stays : (after : Database) → IsOffice after → contents_of after ≡ filter (λ c. not (is_content id c)) (contents_of old.now) → (r : Row) → Has (after.trees 10) r
+    stays : (after : Database) → IsOffice after → contents_of after ≡ filter (λ c. not (is_content id c)) (contents_of old.now) → (r : Row) → Has (after.trees file_tree) r
         → (c : ContentRow) → is_content (int_at r 3) c ≡ true → not (is_content id c) ≡ true
     stays after whole is r there c same =
         let it = fetched after whole r there in
@@ -422,10 +422,10 @@ sym_tidied id ids refs (c ∷ cs) there used = (
 )
 
 -- a content that some file has stays
-pub tidies_used : (id : ℤ) (ids : List ℤ) (old new : Database) → IsOffice old → new ≡ old → list_any (λ r. int_eq (int_at r 3) id) (old.trees 10) ≡ true → IsTidied (id ∷ ids) ids old new
+pub tidies_used : (id : ℤ) (ids : List ℤ) (old new : Database) → IsOffice old → new ≡ old → list_any (λ r. int_eq (int_at r 3) id) (old.trees file_tree) ≡ true → IsTidied (id ∷ ids) ids old new
 tidies_used id ids old new office same some =
-    let it = some_has (λ r. int_eq (int_at r 3) id) (old.trees 10) some in
-    let there : Has (references_of old) id = subst (Has (references_of old)) (same_number (int_at it.0 3) id it.2) (mapped_has (λ row. int_at row 3) (old.trees 10) it.0 it.1) in
+    let it = some_has (λ r. int_eq (int_at r 3) id) (old.trees file_tree) some in
+    let there : Has (references_of old) id = subst (Has (references_of old)) (same_number (int_at it.0 3) id it.2) (mapped_has (λ row. int_at row 3) (old.trees file_tree) it.0 it.1) in
     subst (λ db. IsTidied (id ∷ ids) ids old db) (sym same) (record {
       keeps = record { becomes = record { office = office; are = refl }; references = refl };
       once = λ once. once;
@@ -539,7 +539,7 @@ put_once path bytes n old new put kept = by (list_any (is_alike (sha256 bytes) b
         }
 
 -- after the files of a deposit were dropped, and then their contents that nobody else has, each content is some file's if each was before
-module _ (n : ℤ) (ids : List ℤ) (old mid new : Database) (theirs : (r : Row) → Has (old.trees 10) r → int_eq (int_at r 1) n ≡ true → Has ids (int_at r 3)) (dropped : AreFilesDropped n old mid) (tidied : IsTidied ids [] mid new) where
+module _ (n : ℤ) (ids : List ℤ) (old mid new : Database) (theirs : (r : Row) → Has (old.trees file_tree) r → int_eq (int_at r 1) n ≡ true → Has ids (int_at r 3)) (dropped : AreFilesDropped n old mid) (tidied : IsTidied ids [] mid new) where
   none_left : (cs : List ContentRow) → AreUsedOr [] (references_of new) cs → AreHeld (references_of new) cs
   none_left [] used = tt
   none_left (c ∷ cs) used = (elim used.0 [ inl his ↦ his | inr none ↦ absurd none ], none_left cs used.1)

@@ -15,7 +15,7 @@ use Rattle.sql_meaning.proofs.Reading.{Asks}
 use Rattle.sql_meaning.proofs.Limited.{AsksSome}
 use Rattle.sql_meaning.proofs.Writing.{Means}
 use Rattle.office_tables.proofs.LastRow.{AsksLast}
-use Rattle.office_tables.specs.Schema.{office_schema}
+use Rattle.office_tables.specs.Schema.{office_schema, file_tree, content_tree}
 use Rattle.office_tables.proofs.Columns.{only}
 
 -- ---- reads
@@ -60,13 +60,13 @@ remove_text = codes "DELETE FROM content WHERE id = ?1"
 -- ---- what each means
 
 pub record ContentMeanings : Type 0 where
-  pub asks_bytes : Asks office_schema bytes_text 13 by_number (only 4) []
-  pub asks_alike : Asks office_schema alike_text 13 by_likeness (only 0) []
-  pub asks_last : AsksLast office_schema last_text 13
-  pub asks_contents : Asks office_schema contents_text 13 [] size_columns rising
-  pub asks_users : AsksSome office_schema users_text 10 by_content (only 1)
+  pub asks_bytes : Asks office_schema bytes_text content_tree by_number (only 4) []
+  pub asks_alike : Asks office_schema alike_text content_tree by_likeness (only 0) []
+  pub asks_last : AsksLast office_schema last_text content_tree
+  pub asks_contents : Asks office_schema contents_text content_tree [] size_columns rising
+  pub asks_users : AsksSome office_schema users_text file_tree by_content (only 1)
   pub add_means : Means office_schema add_text (Insert 8 (Values add_terms 5))
-  pub remove_means : Means office_schema remove_text (Delete 8 (as_program (scan 13 by_number (only 0) [])))
+  pub remove_means : Means office_schema remove_text (Delete 8 (as_program (scan content_tree by_number (only 0) [])))
 
 pub content_meanings : ContentMeanings
 unfolding understood everything

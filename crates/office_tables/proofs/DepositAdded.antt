@@ -22,7 +22,7 @@ use Rattle.sql_meaning.proofs.TextKeys.{IsText, has_text, one_named, any_parent}
 use Rattle.sql_meaning.proofs.RowidKeys.{has_number, one_numbered}
 use Rattle.sql_meaning.proofs.Edits.{any_mapped, cast_null, cast_int}
 use Rattle.sql_meaning.proofs.Whole.{keeps_rule}
-use Rattle.office_tables.specs.Schema.{office_schema, deposit_table}
+use Rattle.office_tables.specs.Schema.{office_schema, deposit_table, class_tree, collection_tree, deposit_tree}
 use Rattle.office_rows.specs.Rows.{DepositRow, DueRow, put_by, with_deposit, is_deposit, deposit_numbered, has_accession, deposit_by, is_class, has_class, is_collection, has_collection}
 use Rattle.office_tables.specs.Tables.{IsOffice, Becomes, tables_of, deposit_in, due_in, class_in, collection_in}
 use Rattle.office_tables.specs.Deposits.{IsAdded}
@@ -56,47 +56,47 @@ module _ (old new : State) (d : DepositRow) (kept : d.gone ≡ None) (count : �
       let at_its_place = placed deposit_in number (λ r. refl) old new deposit_table (row_of d) (stored_of d) d.number count (adding deposit_table (row_of d) old).news office.whole.shaped.1.1.1.1.1.0 cast_is change in
       let due_at_its_place = placed due_in (λ (e : DueRow). e.number) (λ r. refl) old new deposit_table (row_of d) (stored_of d) d.number count (adding deposit_table (row_of d) old).news office.whole.shaped.1.1.1.1.1.0 cast_is change in
       becomes old new (adding deposit_table (row_of d) old) count (adding deposit_table (row_of d) old).news office (refl, (refl, tt)) change _ (ap₂ (λ rows dues. record (tables_of old.now) { deposits = rows; dues = dues })
-      (at_its_place ∙ ap (λ x. put_by number x (map deposit_in (old.now.trees 8))) is_d) due_at_its_place)
+      (at_its_place ∙ ap (λ x. put_by number x (map deposit_in (old.now.trees deposit_tree))) is_d) due_at_its_place)
 
   row_is : put office_schema Enforced old.now.trees new.now.trees deposit_table (row_of d) change.applies ≡ (row_of d)
-  row_is = ap (with_rowid Chosen (old.now.trees 8)) cast_is
+  row_is = ap (with_rowid Chosen (old.now.trees deposit_tree)) cast_is
 
   -- no deposit passes a test that two deposits of an office can't both pass, and the new one does
-  none_passes : (keep : Row → Bool) → keep (row_of d) ≡ true → ((x y : Row) → Has (new.now.trees 8) x → Has (new.now.trees 8) y → keep x ≡ true → keep y ≡ true → x ≡ y) → filter keep (old.now.trees 8) ≡ []
+  none_passes : (keep : Row → Bool) → keep (row_of d) ≡ true → ((x y : Row) → Has (new.now.trees deposit_tree) x → Has (new.now.trees deposit_tree) y → keep x ≡ true → keep y ≡ true → x ≡ y) → filter keep (old.now.trees deposit_tree) ≡ []
   none_passes keep is alike = none_before office_schema Enforced old.now.trees new.now.trees deposit_table (row_of d) change.applies keep (ap keep row_is ∙ is) alike
 
   number_was_new : deposit_numbered d.number (tables_of old.now).deposits ≡ None
   number_was_new =
-      let none = none_passes (has_number d.number) (int_itself d.number) (one_numbered (new.now.trees 8) after.office.whole.shaped.1.1.1.1.1.0 d.number) in
-      found_by (is_deposit d.number) (has_number d.number) deposit_in (old.now.trees 8) (all_from _ (old.now.trees 8) (λ r there. refl)) ∙ ap (λ rs. option_map deposit_in (slice_get rs 0)) none
+      let none = none_passes (has_number d.number) (int_itself d.number) (one_numbered (new.now.trees deposit_tree) after.office.whole.shaped.1.1.1.1.1.0 d.number) in
+      found_by (is_deposit d.number) (has_number d.number) deposit_in (old.now.trees deposit_tree) (all_from _ (old.now.trees deposit_tree) (λ r there. refl)) ∙ ap (λ rs. option_map deposit_in (slice_get rs 0)) none
 
   accession_was_new : deposit_by d.accession (tables_of old.now).deposits ≡ None
   accession_was_new =
-      let alike = one_named 2 (new.now.trees 8) after.office.whole.shaped.1.1.1.1.1.0 (accessions new.now after.office) (keeps_rule after.office.whole Unique).1.1.1.1.1.0 d.accession in
+      let alike = one_named 2 (new.now.trees deposit_tree) after.office.whole.shaped.1.1.1.1.1.0 (accessions new.now after.office) (keeps_rule after.office.whole Unique).1.1.1.1.1.0 d.accession in
       let none = none_passes (has_text 2 d.accession) (bytes_itself d.accession) alike in
-      found_by (has_accession d.accession) (has_text 2 d.accession) deposit_in (old.now.trees 8) (all_from _ (old.now.trees 8) (λ r there. refl)) ∙ ap (λ rs. option_map deposit_in (slice_get rs 0)) none
+      found_by (has_accession d.accession) (has_text 2 d.accession) deposit_in (old.now.trees deposit_tree) (all_from _ (old.now.trees deposit_tree) (λ r there. refl)) ∙ ap (λ rs. option_map deposit_in (slice_get rs 0)) none
 
   -- the parents of the new row are there
-  was_there : Has (new.now.trees 8) (row_of d)
-  was_there = subst (λ r. Has (new.now.trees 8) r) row_is (was_put office_schema Enforced old.now.trees new.now.trees deposit_table (row_of d) change.applies)
+  was_there : Has (new.now.trees deposit_tree) (row_of d)
+  was_there = subst (λ r. Has (new.now.trees deposit_tree) r) row_is (was_put office_schema Enforced old.now.trees new.now.trees deposit_table (row_of d) change.applies)
 
-  held : (list_any (λ parent. agree plain (1 ∷ []) parent (3 ∷ []) (row_of d)) (new.now.trees 6) ≡ true) × (list_any (λ parent. agree plain (1 ∷ []) parent (4 ∷ []) (row_of d)) (new.now.trees 4) ≡ true)
+  held : (list_any (λ parent. agree plain (1 ∷ []) parent (3 ∷ []) (row_of d)) (new.now.trees collection_tree) ≡ true) × (list_any (λ parent. agree plain (1 ∷ []) parent (4 ∷ []) (row_of d)) (new.now.trees class_tree) ≡ true)
   unfolding joined same_name
   held =
-      let each = all_has _ (new.now.trees 8) (row_of d) (keeps_rule after.office.whole ForeignKey).1.1.1.1.1.0 was_there in
+      let each = all_has _ (new.now.trees deposit_tree) (row_of d) (keeps_rule after.office.whole ForeignKey).1.1.1.1.1.0 was_there in
       let two = and_parts _ _ each in
       (two.0, (and_parts _ _ two.1).0)
 
   collection_was_there : IsTrue (has_collection d.collection (tables_of old.now))
   collection_was_there =
-      let named = any_parent 1 3 d.collection (row_of d) (new.now.trees 6) (collection_rows new.now after.office) refl in
-      sym (ap (λ t. has_collection d.collection t) after.are) ∙ any_mapped collection_in (has_text 1 d.collection) (is_collection d.collection) (λ r. refl) (new.now.trees 6) ∙ sym named ∙ held.0
+      let named = any_parent 1 3 d.collection (row_of d) (new.now.trees collection_tree) (collection_rows new.now after.office) refl in
+      sym (ap (λ t. has_collection d.collection t) after.are) ∙ any_mapped collection_in (has_text 1 d.collection) (is_collection d.collection) (λ r. refl) (new.now.trees collection_tree) ∙ sym named ∙ held.0
 
   class_was_there : IsTrue (has_class d.class (tables_of old.now))
   class_was_there =
-      let names : AllByRecursion (IsText 1) (new.now.trees 4) = all_from _ (new.now.trees 4) (λ r there. (all_has IsClassRow (new.now.trees 4) r (class_rows new.now after.office) there).0) in
-      let named = any_parent 1 4 d.class (row_of d) (new.now.trees 4) names refl in
-      sym (ap (λ t. has_class d.class t) after.are) ∙ any_mapped class_in (has_text 1 d.class) (is_class d.class) (λ r. refl) (new.now.trees 4) ∙ sym named ∙ held.1
+      let names : AllByRecursion (IsText 1) (new.now.trees class_tree) = all_from _ (new.now.trees class_tree) (λ r there. (all_has IsClassRow (new.now.trees class_tree) r (class_rows new.now after.office) there).0) in
+      let named = any_parent 1 4 d.class (row_of d) (new.now.trees class_tree) names refl in
+      sym (ap (λ t. has_class d.class t) after.are) ∙ any_mapped class_in (has_text 1 d.class) (is_class d.class) (λ r. refl) (new.now.trees class_tree) ∙ sym named ∙ held.1
 
   pub is_added : IsAdded d old.now new.now
   is_added = record {

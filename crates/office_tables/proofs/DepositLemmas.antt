@@ -25,7 +25,7 @@ use Rattle.sql_meaning.proofs.Typed.{typed_at, all_both}
 use Rattle.sql_meaning.proofs.Edits.{decoded, cast_null, cast_int}
 use Rattle.sql_meaning.proofs.Whole.{keeps_rule}
 use Rattle.sql_meaning.proofs.Changing.{revises}
-use Rattle.office_tables.specs.Schema.{office_schema, deposit_table}
+use Rattle.office_tables.specs.Schema.{office_schema, deposit_table, deposit_tree}
 use Rattle.office_rows.specs.Rows.{DepositRow, is_deposit, deposit_numbered, has_accession, deposit_by, last_number, with_gone}
 use Rattle.office_tables.specs.Tables.{IsOffice, Becomes, tables_of, deposit_in, due_in}
 use Rattle.office_tables.specs.Deposits.{shown_deposit}
@@ -42,10 +42,10 @@ IsDepositRow r = (column r 2 ≡ Text (bytes_at r 2)) × (column r 3 ≡ Text (b
     × ((column r 10 ≡ Null) ⊎ (column r 10 ≡ Int (int_at r 10))) × (column r 11 ≡ Int (int_at r 11))
     × ((column r 9 ≡ Null) ⊎ (column r 9 ≡ Int (int_at r 9)))
 
-pub deposit_rows : (db : Database) → IsOffice db → AllByRecursion IsDepositRow (db.trees 8)
+pub deposit_rows : (db : Database) → IsOffice db → AllByRecursion IsDepositRow (db.trees deposit_tree)
 deposit_rows db office = all_both (λ r t p.
     let at = typed_at office_schema db.trees deposit_table r t p in
-    (at 1 refl, at 2 refl, at 3 refl, at 4 refl, at 5 refl, at 6 refl, at 7 refl, at 9 refl, at 10 refl, at 8 refl)) (db.trees 8) (keeps_rule office.whole Datatype).1.1.1.1.1.0 (keeps_rule office.whole NotNull).1.1.1.1.1.0
+    (at 1 refl, at 2 refl, at 3 refl, at 4 refl, at 5 refl, at 6 refl, at 7 refl, at 9 refl, at 10 refl, at 8 refl)) (db.trees deposit_tree) (keeps_rule office.whole Datatype).1.1.1.1.1.0 (keeps_rule office.whole NotNull).1.1.1.1.1.0
 
 -- ---- one deposit
 
@@ -53,21 +53,21 @@ pub finds_deposit : (old new : State) (n : ℤ) (rows : List Row) → IsOffice o
     → (new.now ≡ old.now) × (deposit_numbered n (tables_of old.now).deposits ≡ option_map shown_deposit (slice_get rows 0))
 finds_deposit old new n rows office h =
     let read = reads_numbered old new rows office deposit_meanings.asks_deposit n office.whole.shaped.1.1.1.1.1.0 h in
-    (read.0, finds_one (old.now.trees 8) rows (has_number n) (shown_of (Int n ∷ []) deposit_columns) deposit_in shown_deposit (is_deposit n) (λ r. refl) (λ r. refl) read.1)
+    (read.0, finds_one (old.now.trees deposit_tree) rows (has_number n) (shown_of (Int n ∷ []) deposit_columns) deposit_in shown_deposit (is_deposit n) (λ r. refl) (λ r. refl) read.1)
 
 -- at most one deposit has the accession
-pub accessions : (db : Database) → IsOffice db → AllByRecursion (λ r. column r 2 ≡ Text (bytes_at r 2)) (db.trees 8)
-accessions db office = all_from _ (db.trees 8) (λ r there. (all_has IsDepositRow (db.trees 8) r (deposit_rows db office) there).0)
+pub accessions : (db : Database) → IsOffice db → AllByRecursion (λ r. column r 2 ≡ Text (bytes_at r 2)) (db.trees deposit_tree)
+accessions db office = all_from _ (db.trees deposit_tree) (λ r there. (all_has IsDepositRow (db.trees deposit_tree) r (deposit_rows db office) there).0)
 
 pub few_accessions : (db : Database) → IsOffice db → (accession : List ℕ)
-    → (filter (has_text 2 accession) (db.trees 8) ≡ []) ⊎ ((r : Row) × Has (db.trees 8) r × (has_text 2 accession r ≡ true) × (filter (has_text 2 accession) (db.trees 8) ≡ r ∷ []))
-few_accessions db office accession = few_named 2 (db.trees 8) office.whole.shaped.1.1.1.1.1.0 (accessions db office) (keeps_rule office.whole Unique).1.1.1.1.1.0 accession
+    → (filter (has_text 2 accession) (db.trees deposit_tree) ≡ []) ⊎ ((r : Row) × Has (db.trees deposit_tree) r × (has_text 2 accession r ≡ true) × (filter (has_text 2 accession) (db.trees deposit_tree) ≡ r ∷ []))
+few_accessions db office accession = few_named 2 (db.trees deposit_tree) office.whole.shaped.1.1.1.1.1.0 (accessions db office) (keeps_rule office.whole Unique).1.1.1.1.1.0 accession
 
 pub finds_accession : (old new : State) (accession : List ℕ) (rows : List Row) → IsOffice old.now → Shown accession_text (Text accession ∷ []) old new rows
     → (new.now ≡ old.now) × (deposit_by accession (tables_of old.now).deposits ≡ option_map shown_deposit (slice_get rows 0))
 finds_accession old new accession rows office h =
     let read = reads_named old new rows office 2 deposit_meanings.asks_accession accession (accessions old.now office) (few_accessions old.now office accession) h in
-    (read.0, finds_one (old.now.trees 8) rows (has_text 2 accession) (shown_of (Text accession ∷ []) deposit_columns) deposit_in shown_deposit (has_accession accession) (λ r. refl) (λ r. refl) read.1)
+    (read.0, finds_one (old.now.trees deposit_tree) rows (has_text 2 accession) (shown_of (Text accession ∷ []) deposit_columns) deposit_in shown_deposit (has_accession accession) (λ r. refl) (λ r. refl) read.1)
 
 -- ---- every deposit, in the order of the numbers
 
@@ -81,7 +81,7 @@ lists_deposits old new rows office h =
 pub finds_last : (old new : State) (rows : List Row) → IsOffice old.now → Shown last_text [] old new rows
     → (new.now ≡ old.now) × (last_number (λ d. d.number) (tables_of old.now).deposits ≡ option_map (λ row. int_at row 0) (slice_get rows 0))
 finds_last old new rows office h =
-    reads_last 8 deposit_in (λ (d : DepositRow). d.number) (λ r. refl) office_schema last_text deposit_meanings.asks_last old new office.whole.schema_is office.whole.shaped.1.1.1.1.1.0.0 rows h
+    reads_last deposit_tree deposit_in (λ (d : DepositRow). d.number) (λ r. refl) office_schema last_text deposit_meanings.asks_last old new office.whole.schema_is office.whole.shaped.1.1.1.1.1.0.0 rows h
 
 -- ---- the day when it was destroyed
 
@@ -114,9 +114,9 @@ marks_gone old new n day count office h =
     let db = old.now.trees in
     let shaped = office.whole.shaped.1.1.1.1.1.0 in
     let done = revises gone_text (Int n ∷ Int day ∷ []) old new office_schema office.whole.schema_is 5 deposit_table refl idle shaped by_number (deposit_with 9 (col 0 1))
-    (has_number n) (each_numbered n (Int day ∷ []) (db 8) shaped) deposit_meanings.gone_means (set_gone day) (few_numbered n (db 8) shaped)
-    (λ r there. (refl, cast_gone n day r (all_has IsDepositRow (db 8) r (deposit_rows old.now office) there) (all_has _ (db 8) r shaped.1 there), refl)) count h in
+    (has_number n) (each_numbered n (Int day ∷ []) (db deposit_tree) shaped) deposit_meanings.gone_means (set_gone day) (few_numbered n (db deposit_tree) shaped)
+    (λ r there. (refl, cast_gone n day r (all_has IsDepositRow (db deposit_tree) r (deposit_rows old.now office) there) (all_has _ (db deposit_tree) r shaped.1 there), refl)) count h in
     let edit = edit_of db deposit_table (ids_of done.answer) Given 1 done.answer in
-    let gone_is = decoded deposit_in (has_number n) (set_gone day) (is_deposit n) (λ d. record d { gone = Some day }) (λ r. refl) (λ r. refl) (db 8) in
-    let dues_are : map due_in (edited db edit) ≡ map due_in (db 8) = ap (map due_in) done.made ∙ kept_alike due_in (has_number n) (set_gone day) (λ r. refl) (db 8) in
+    let gone_is = decoded deposit_in (has_number n) (set_gone day) (is_deposit n) (λ d. record d { gone = Some day }) (λ r. refl) (λ r. refl) (db deposit_tree) in
+    let dues_are : map due_in (edited db edit) ≡ map due_in (db deposit_tree) = ap (map due_in) done.made ∙ kept_alike due_in (has_number n) (set_gone day) (λ r. refl) (db deposit_tree) in
     becomes old new edit count edit.news office (refl, (refl, tt)) done.change _ (ap₂ (λ rows dues. record (tables_of old.now) { deposits = rows; dues = dues }) (ap (map deposit_in) done.made ∙ gone_is) dues_are)

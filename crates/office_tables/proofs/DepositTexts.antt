@@ -11,7 +11,7 @@ use Rattle.sql_meaning.proofs.Reading.{Asks}
 use Rattle.sql_meaning.proofs.RowidKeys.{by_number, rising}
 use Rattle.sql_meaning.proofs.TextKeys.{by_text}
 use Rattle.sql_meaning.proofs.Writing.{Means}
-use Rattle.office_tables.specs.Schema.{office_schema}
+use Rattle.office_tables.specs.Schema.{office_schema, deposit_tree}
 use Rattle.office_tables.proofs.LastRow.{AsksLast}
 
 -- ---- reads
@@ -56,12 +56,12 @@ last_text = codes "SELECT number FROM deposit ORDER BY number DESC LIMIT 1"
 -- ---- what each means
 
 pub record DepositMeanings : Type 0 where
-  pub asks_deposit : Asks office_schema deposit_text 8 by_number deposit_columns []
-  pub asks_accession : Asks office_schema accession_text 8 (by_text 2) deposit_columns []
-  pub asks_deposits : Asks office_schema deposits_text 8 [] deposit_columns rising
+  pub asks_deposit : Asks office_schema deposit_text deposit_tree by_number deposit_columns []
+  pub asks_accession : Asks office_schema accession_text deposit_tree (by_text 2) deposit_columns []
+  pub asks_deposits : Asks office_schema deposits_text deposit_tree [] deposit_columns rising
   pub put_means : Means office_schema put_text (Insert 5 (Values put_terms 12))
-  pub gone_means : Means office_schema gone_text (Update 5 (as_program (scan 8 by_number (deposit_with 9 (col 0 1)) [])))
-  pub asks_last : AsksLast office_schema last_text 8
+  pub gone_means : Means office_schema gone_text (Update 5 (as_program (scan deposit_tree by_number (deposit_with 9 (col 0 1)) [])))
+  pub asks_last : AsksLast office_schema last_text deposit_tree
 
 pub deposit_meanings : DepositMeanings
 unfolding understood everything

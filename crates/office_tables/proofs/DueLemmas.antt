@@ -33,7 +33,7 @@ use Rattle.sql_meaning.proofs.RowidKeys.{by_number, has_number, each_numbered, f
 use Rattle.sql_meaning.proofs.Edits.{decoded, cast_null, cast_int}
 use Rattle.sql_meaning.proofs.Changing.{revises}
 use Rattle.sql_meaning.proofs.ManyRows.{revises_all}
-use Rattle.office_tables.specs.Schema.{office_schema, deposit_table}
+use Rattle.office_tables.specs.Schema.{office_schema, deposit_table, deposit_tree}
 use Rattle.office_rows.specs.Rows.{DepositRow, DueRow, is_due_of, due_numbered, with_due, with_holds, beside, more_holds, with_more_holds, with_more_holds_class, is_within, is_of_class, of_class, least_number, is_by, is_disposable}
 use Rattle.office_rows.specs.Told.{place_row, closing_of, due_places, class_closings}
 use Rattle.office_tables.specs.Dues.{shown_due, shown_beside, shown_place, shown_closing, FitMore}
@@ -63,7 +63,7 @@ pub finds_due : (old new : State) (n : ℤ) (rows : List Row) → IsOffice old.n
     → (new.now ≡ old.now) × (due_numbered n (tables_of old.now).dues ≡ option_map shown_due (slice_get rows 0))
 finds_due old new n rows office h =
     let read = reads_numbered old new rows office due_meanings.asks_due_of n office.whole.shaped.1.1.1.1.1.0 h in
-    (read.0, finds_one (old.now.trees 8) rows (has_number n) (shown_of (Int n ∷ []) due_of_columns) due_in shown_due (is_due_of n) (λ r. refl) (λ r. refl) read.1)
+    (read.0, finds_one (old.now.trees deposit_tree) rows (has_number n) (shown_of (Int n ∷ []) due_of_columns) due_in shown_due (is_due_of n) (λ r. refl) (λ r. refl) read.1)
 
 pub sets_due : (old new : State) (n day : ℤ) (count : ℕ) → IsOffice old.now → Executes set_due_text (Int n ∷ Int day ∷ []) old new (Ok count)
     → Becomes new.now (with_due n (Some day) (tables_of old.now))
@@ -72,17 +72,17 @@ sets_due old new n day count office h =
     let shaped = office.whole.shaped.1.1.1.1.1.0 in
     let set : Row → Row = λ r. with_last (column r 9) (Int day) (Int (int_at r 11)) r in
     let done = revises set_due_text (Int n ∷ Int day ∷ []) old new office_schema office.whole.schema_is 5 deposit_table refl idle shaped by_number (deposit_with 10 (col 0 1))
-    (has_number n) (each_numbered n (Int day ∷ []) (db 8) shaped) due_meanings.set_due_means set (few_numbered n (db 8) shaped)
+    (has_number n) (each_numbered n (Int day ∷ []) (db deposit_tree) shaped) due_meanings.set_due_means set (few_numbered n (db deposit_tree) shaped)
     (λ r there.
-    let it = all_has IsDepositRow (db 8) r (deposit_rows old.now office) there in (
+    let it = all_has IsDepositRow (db deposit_tree) r (deposit_rows old.now office) there in (
       refl,
       ap (λ v. cast_row deposit_table (rowid r ∷ Null ∷ column r 2 ∷ column r 3 ∷ column r 4 ∷ column r 5 ∷ column r 6 ∷ column r 7 ∷ column r 8 ∷ column r 9 ∷ Int day ∷ v ∷ [])) it.8
-          ∙ cast_last (column r 9) (Int day) (Int (int_at r 11)) r it (all_has _ (db 8) r shaped.1 there) (keeps_int (column r 9) it.9) (cast_int day) (cast_int (int_at r 11)),
+          ∙ cast_last (column r 9) (Int day) (Int (int_at r 11)) r it (all_has _ (db deposit_tree) r shaped.1 there) (keeps_int (column r 9) it.9) (cast_int day) (cast_int (int_at r 11)),
       refl,
     )) count h in
     let edit = edit_of db deposit_table (ids_of done.answer) Given 1 done.answer in
-    let deposits_are : map deposit_in (edited db edit) ≡ map deposit_in (db 8) = ap (map deposit_in) done.made ∙ kept_alike deposit_in (has_number n) set (λ r. refl) (db 8) in
-    let dues_are = decoded due_in (has_number n) set (is_due_of n) (λ d. record d { due = Some day }) (λ r. refl) (λ r. refl) (db 8) in
+    let deposits_are : map deposit_in (edited db edit) ≡ map deposit_in (db deposit_tree) = ap (map deposit_in) done.made ∙ kept_alike deposit_in (has_number n) set (λ r. refl) (db deposit_tree) in
+    let dues_are = decoded due_in (has_number n) set (is_due_of n) (λ d. record d { due = Some day }) (λ r. refl) (λ r. refl) (db deposit_tree) in
     becomes old new edit count edit.news office (refl, (refl, tt)) done.change _ (ap₂ (λ rows dues. record (tables_of old.now) { deposits = rows; dues = dues }) deposits_are (ap (map due_in) done.made ∙ dues_are))
 
 pub clears_due : (old new : State) (n : ℤ) (count : ℕ) → IsOffice old.now → Executes clear_due_text (Int n ∷ []) old new (Ok count)
@@ -92,17 +92,17 @@ clears_due old new n count office h =
     let shaped = office.whole.shaped.1.1.1.1.1.0 in
     let set : Row → Row = λ r. with_last (column r 9) (Null) (Int (int_at r 11)) r in
     let done = revises clear_due_text (Int n ∷ []) old new office_schema office.whole.schema_is 5 deposit_table refl idle shaped by_number (deposit_with 10 (lit Null))
-    (has_number n) (each_numbered n [] (db 8) shaped) due_meanings.clear_due_means set (few_numbered n (db 8) shaped)
+    (has_number n) (each_numbered n [] (db deposit_tree) shaped) due_meanings.clear_due_means set (few_numbered n (db deposit_tree) shaped)
     (λ r there.
-    let it = all_has IsDepositRow (db 8) r (deposit_rows old.now office) there in (
+    let it = all_has IsDepositRow (db deposit_tree) r (deposit_rows old.now office) there in (
       refl,
       ap (λ v. cast_row deposit_table (rowid r ∷ Null ∷ column r 2 ∷ column r 3 ∷ column r 4 ∷ column r 5 ∷ column r 6 ∷ column r 7 ∷ column r 8 ∷ column r 9 ∷ Null ∷ v ∷ [])) it.8
-          ∙ cast_last (column r 9) (Null) (Int (int_at r 11)) r it (all_has _ (db 8) r shaped.1 there) (keeps_int (column r 9) it.9) cast_null (cast_int (int_at r 11)),
+          ∙ cast_last (column r 9) (Null) (Int (int_at r 11)) r it (all_has _ (db deposit_tree) r shaped.1 there) (keeps_int (column r 9) it.9) cast_null (cast_int (int_at r 11)),
       refl,
     )) count h in
     let edit = edit_of db deposit_table (ids_of done.answer) Given 1 done.answer in
-    let deposits_are : map deposit_in (edited db edit) ≡ map deposit_in (db 8) = ap (map deposit_in) done.made ∙ kept_alike deposit_in (has_number n) set (λ r. refl) (db 8) in
-    let dues_are = decoded due_in (has_number n) set (is_due_of n) (λ d. record d { due = None }) (λ r. refl) (λ r. refl) (db 8) in
+    let deposits_are : map deposit_in (edited db edit) ≡ map deposit_in (db deposit_tree) = ap (map deposit_in) done.made ∙ kept_alike deposit_in (has_number n) set (λ r. refl) (db deposit_tree) in
+    let dues_are = decoded due_in (has_number n) set (is_due_of n) (λ d. record d { due = None }) (λ r. refl) (λ r. refl) (db deposit_tree) in
     becomes old new edit count edit.news office (refl, (refl, tt)) done.change _ (ap₂ (λ rows dues. record (tables_of old.now) { deposits = rows; dues = dues }) deposits_are (ap (map due_in) done.made ∙ dues_are))
 
 pub sets_holds : (old new : State) (n holds : ℤ) (count : ℕ) → IsOffice old.now → Executes set_holds_text (Int n ∷ Int holds ∷ []) old new (Ok count)
@@ -112,13 +112,13 @@ sets_holds old new n holds count office h =
     let shaped = office.whole.shaped.1.1.1.1.1.0 in
     let set : Row → Row = λ r. with_last (column r 9) (column r 10) (Int holds) r in
     let done = revises set_holds_text (Int n ∷ Int holds ∷ []) old new office_schema office.whole.schema_is 5 deposit_table refl idle shaped by_number (deposit_with 11 (col 0 1))
-    (has_number n) (each_numbered n (Int holds ∷ []) (db 8) shaped) due_meanings.set_holds_means set (few_numbered n (db 8) shaped)
+    (has_number n) (each_numbered n (Int holds ∷ []) (db deposit_tree) shaped) due_meanings.set_holds_means set (few_numbered n (db deposit_tree) shaped)
     (λ r there.
-    let it = all_has IsDepositRow (db 8) r (deposit_rows old.now office) there in
-    (refl, cast_last (column r 9) (column r 10) (Int holds) r it (all_has _ (db 8) r shaped.1 there) (keeps_int (column r 9) it.9) (keeps_int (column r 10) it.7) (cast_int holds), refl)) count h in
+    let it = all_has IsDepositRow (db deposit_tree) r (deposit_rows old.now office) there in
+    (refl, cast_last (column r 9) (column r 10) (Int holds) r it (all_has _ (db deposit_tree) r shaped.1 there) (keeps_int (column r 9) it.9) (keeps_int (column r 10) it.7) (cast_int holds), refl)) count h in
     let edit = edit_of db deposit_table (ids_of done.answer) Given 1 done.answer in
-    let deposits_are : map deposit_in (edited db edit) ≡ map deposit_in (db 8) = ap (map deposit_in) done.made ∙ kept_alike deposit_in (has_number n) set (λ r. refl) (db 8) in
-    let dues_are = decoded due_in (has_number n) set (is_due_of n) (λ d. record d { holds = holds }) (λ r. refl) (λ r. refl) (db 8) in
+    let deposits_are : map deposit_in (edited db edit) ≡ map deposit_in (db deposit_tree) = ap (map deposit_in) done.made ∙ kept_alike deposit_in (has_number n) set (λ r. refl) (db deposit_tree) in
+    let dues_are = decoded due_in (has_number n) set (is_due_of n) (λ d. record d { holds = holds }) (λ r. refl) (λ r. refl) (db deposit_tree) in
     becomes old new edit count edit.news office (refl, (refl, tt)) done.change _ (ap₂ (λ rows dues. record (tables_of old.now) { deposits = rows; dues = dues }) deposits_are (ap (map due_in) done.made ∙ dues_are))
 
 -- ---- more holds over those that pass
@@ -145,7 +145,7 @@ more_decoded those by keep tests (r ∷ rows) = rw (tests r) (ap₂ (λ y more. 
     one false = refl
 
 -- a text by which each deposit with that text in the column gets as many more
-module _ (text : List ℕ) (place : ℕ) (means : Means office_schema text (Update 5 (as_program (scan 8 (by_text place) more_columns [])))) (typed : (r : Row) → IsDepositRow r → IsText place r)
+module _ (text : List ℕ) (place : ℕ) (means : Means office_schema text (Update 5 (as_program (scan deposit_tree (by_text place) more_columns [])))) (typed : (r : Row) → IsDepositRow r → IsText place r)
     (those : DepositRow → Bool) (name : List ℕ) (tests : (r : Row) → those (deposit_in r) ≡ has_text place name r) where
   adds_to : (old new : State) (by : ℤ) (count : ℕ) → IsOffice old.now → FitMore by (tables_of old.now).dues → Executes text (Text name ∷ Int by ∷ []) old new (Ok count)
       → Becomes new.now (record (tables_of old.now) { dues = more_holds those by (tables_of old.now).deposits (tables_of old.now).dues })
@@ -154,19 +154,19 @@ module _ (text : List ℕ) (place : ℕ) (means : Means office_schema text (Upda
       let shaped = office.whole.shaped.1.1.1.1.1.0 in
       let keep : Row → Bool = has_text place name in
       let rows_are = deposit_rows old.now office in
-      let texts = all_from (IsText place) (db 8) (λ r there. typed r (all_has IsDepositRow (db 8) r rows_are there)) in
-      let done = revises_all text (Text name ∷ Int by ∷ []) old new office_schema office.whole.schema_is 5 deposit_table refl idle shaped (by_text place) more_columns keep (each_passes place name (Int by ∷ []) (db 8) texts)
+      let texts = all_from (IsText place) (db deposit_tree) (λ r there. typed r (all_has IsDepositRow (db deposit_tree) r rows_are there)) in
+      let done = revises_all text (Text name ∷ Int by ∷ []) old new office_schema office.whole.schema_is 5 deposit_table refl idle shaped (by_text place) more_columns keep (each_passes place name (Int by ∷ []) (db deposit_tree) texts)
       means (set_more by) (λ r. refl) (λ r there kept.
-      let it = all_has IsDepositRow (db 8) r rows_are there in
-      let fits = all_has _ (db 8) r (fit_at by (db 8) fit) there in
+      let it = all_has IsDepositRow (db deposit_tree) r rows_are there in
+      let fits = all_has _ (db deposit_tree) r (fit_at by (db deposit_tree) fit) there in
       let sum : binary (Arith Add) (column r 11) (Int by) ≡ Int (int_at r 11 +ℤ by) = ap (λ v. binary (Arith Add) v (Int by)) it.8 ∙ sum_is (int_at r 11) by fits in (
         ap (λ v. cast_row deposit_table (rowid r ∷ Null ∷ column r 2 ∷ column r 3 ∷ column r 4 ∷ column r 5 ∷ column r 6 ∷ column r 7 ∷ column r 8 ∷ column r 9 ∷ column r 10 ∷ v ∷ [])) sum
-            ∙ cast_last (column r 9) (column r 10) (Int (int_at r 11 +ℤ by)) r it (all_has _ (db 8) r shaped.1 there) (keeps_int (column r 9) it.9) (keeps_int (column r 10) it.7) (cast_int (int_at r 11 +ℤ by)),
+            ∙ cast_last (column r 9) (column r 10) (Int (int_at r 11 +ℤ by)) r it (all_has _ (db deposit_tree) r shaped.1 there) (keeps_int (column r 9) it.9) (keeps_int (column r 10) it.7) (cast_int (int_at r 11 +ℤ by)),
         refl,
       )) count h in
       let edit = edit_of db deposit_table (ids_of done.answer) Given 1 done.answer in
-      let deposits_are : map deposit_in (edited db edit) ≡ map deposit_in (db 8) = ap (map deposit_in) done.made ∙ kept_alike deposit_in keep (set_more by) (λ r. refl) (db 8) in
-      let dues_are = more_decoded those by keep tests (db 8) in
+      let deposits_are : map deposit_in (edited db edit) ≡ map deposit_in (db deposit_tree) = ap (map deposit_in) done.made ∙ kept_alike deposit_in keep (set_more by) (λ r. refl) (db deposit_tree) in
+      let dues_are = more_decoded those by keep tests (db deposit_tree) in
       becomes old new edit count edit.news office (refl, (refl, tt)) done.change _ (ap₂ (λ rows dues. record (tables_of old.now) { deposits = rows; dues = dues }) deposits_are (ap (map due_in) done.made ∙ dues_are))
 
 pub adds_holds : (old new : State) (collection : List ℕ) (by : ℤ) (count : ℕ) → IsOffice old.now → FitMore by (tables_of old.now).dues → Executes add_holds_text (Text collection ∷ Int by ∷ []) old new (Ok count)
@@ -227,7 +227,7 @@ pub lists_beside : (old new : State) (rows : List Row) → IsOffice old.now → 
     → (new.now ≡ old.now) × (beside (tables_of old.now).deposits (tables_of old.now).dues ≡ map shown_beside rows)
 lists_beside old new rows office h =
     let read = lists_all old new rows office due_meanings.asks_beside office.whole.shaped.1.1.1.1.1.0 (λ r. (deposit_in r, due_in r)) shown_beside (λ r. refl) h in
-    (read.0, beside_is (old.now.trees 8) ∙ read.1)
+    (read.0, beside_is (old.now.trees deposit_tree) ∙ read.1)
 
 pub lists_due : (old new : State) (day : ℤ) (rows : List Row) → IsOffice old.now → Shown due_rows_text (Int day ∷ Int least_number ∷ []) old new rows
     → (new.now ≡ old.now) × (due_places day (tables_of old.now) ≡ map shown_place rows)
@@ -237,13 +237,13 @@ lists_due old new day rows office h =
     let typed = deposit_rows old.now office in
     let pair : Row → DepositRow × DueRow = λ r. (deposit_in r, due_in r) in
     let keep : Row → Bool = λ r. is_disposable day (pair r) in
-    let up = ascending_weaker _ _ (λ a b lower. rw lower refl) (db 8) office.whole.shaped.1.1.1.1.1.0.0 in
-    let each = all_from (λ r. passes params is_due r ≡ keep r) (db 8) (λ r there. passes_due day r (all_has IsDepositRow (db 8) r typed there)) in
-    let is = reads_rising office_schema due_rows_text 8 is_due due_rows_columns rising due_meanings.asks_due_rows params old new office.whole.schema_is rows h keep each up in
-    let shows : map shown_place (map (shown_of params due_rows_columns) (filter keep (db 8))) ≡ map (λ r. place_row (pair r)) (filter keep (db 8)) = map-map shown_place (shown_of params due_rows_columns) (filter keep (db 8)) in
-    let places : due_places day (tables_of old.now) ≡ map (λ r. place_row (pair r)) (filter keep (db 8)) =
-    ap (λ ps. map place_row (filter (is_disposable day) ps)) (beside_is (db 8)) ∙ ap (map place_row) (filter-map (is_disposable day) pair (db 8)) ∙ map-map place_row pair (filter keep (db 8)) in (
-      reads_same office_schema due_rows_text 8 is_due due_rows_columns rising due_meanings.asks_due_rows params old new office.whole.schema_is rows h,
+    let up = ascending_weaker _ _ (λ a b lower. rw lower refl) (db deposit_tree) office.whole.shaped.1.1.1.1.1.0.0 in
+    let each = all_from (λ r. passes params is_due r ≡ keep r) (db deposit_tree) (λ r there. passes_due day r (all_has IsDepositRow (db deposit_tree) r typed there)) in
+    let is = reads_rising office_schema due_rows_text deposit_tree is_due due_rows_columns rising due_meanings.asks_due_rows params old new office.whole.schema_is rows h keep each up in
+    let shows : map shown_place (map (shown_of params due_rows_columns) (filter keep (db deposit_tree))) ≡ map (λ r. place_row (pair r)) (filter keep (db deposit_tree)) = map-map shown_place (shown_of params due_rows_columns) (filter keep (db deposit_tree)) in
+    let places : due_places day (tables_of old.now) ≡ map (λ r. place_row (pair r)) (filter keep (db deposit_tree)) =
+    ap (λ ps. map place_row (filter (is_disposable day) ps)) (beside_is (db deposit_tree)) ∙ ap (map place_row) (filter-map (is_disposable day) pair (db deposit_tree)) ∙ map-map place_row pair (filter keep (db deposit_tree)) in (
+      reads_same office_schema due_rows_text deposit_tree is_due due_rows_columns rising due_meanings.asks_due_rows params old new office.whole.schema_is rows h,
       places ∙ sym shows ∙ ap (map shown_place) (sym is),
     )
 
@@ -256,12 +256,12 @@ lists_class old new class rows office h =
     let params : Row = Text class ∷ [] in
     let typed = deposit_rows old.now office in
     let keep : Row → Bool = has_text 4 class in
-    let up = ascending_weaker _ _ (λ a b lower. rw lower refl) (db 8) office.whole.shaped.1.1.1.1.1.0.0 in
-    let texts = all_from (λ r. column r 4 ≡ Text (bytes_at r 4)) (db 8) (λ r there. (all_has IsDepositRow (db 8) r typed there).2) in
-    let is = reads_rising office_schema class_rows_text 8 (by_text 4) class_rows_columns rising due_meanings.asks_class_rows params old new office.whole.schema_is rows h keep (each_passes 4 class [] (db 8) texts) up in
-    let shows : map shown_closing (map (shown_of params class_rows_columns) (filter keep (db 8))) ≡ map (λ r. closing_of (deposit_in r)) (filter keep (db 8)) = map-map shown_closing (shown_of params class_rows_columns) (filter keep (db 8)) in
-    let found : map closing_of (of_class class (tables_of old.now)) ≡ map (λ r. closing_of (deposit_in r)) (filter keep (db 8)) =
-    ap (map closing_of) (filter-map (is_of_class class) deposit_in (db 8)) ∙ map-map closing_of deposit_in (filter keep (db 8)) in (
-      reads_same office_schema class_rows_text 8 (by_text 4) class_rows_columns rising due_meanings.asks_class_rows params old new office.whole.schema_is rows h,
+    let up = ascending_weaker _ _ (λ a b lower. rw lower refl) (db deposit_tree) office.whole.shaped.1.1.1.1.1.0.0 in
+    let texts = all_from (λ r. column r 4 ≡ Text (bytes_at r 4)) (db deposit_tree) (λ r there. (all_has IsDepositRow (db deposit_tree) r typed there).2) in
+    let is = reads_rising office_schema class_rows_text deposit_tree (by_text 4) class_rows_columns rising due_meanings.asks_class_rows params old new office.whole.schema_is rows h keep (each_passes 4 class [] (db deposit_tree) texts) up in
+    let shows : map shown_closing (map (shown_of params class_rows_columns) (filter keep (db deposit_tree))) ≡ map (λ r. closing_of (deposit_in r)) (filter keep (db deposit_tree)) = map-map shown_closing (shown_of params class_rows_columns) (filter keep (db deposit_tree)) in
+    let found : map closing_of (of_class class (tables_of old.now)) ≡ map (λ r. closing_of (deposit_in r)) (filter keep (db deposit_tree)) =
+    ap (map closing_of) (filter-map (is_of_class class) deposit_in (db deposit_tree)) ∙ map-map closing_of deposit_in (filter keep (db deposit_tree)) in (
+      reads_same office_schema class_rows_text deposit_tree (by_text 4) class_rows_columns rising due_meanings.asks_class_rows params old new office.whole.schema_is rows h,
       found ∙ sym shows ∙ ap (map shown_closing) (sym is),
     )

@@ -14,7 +14,7 @@ use Rattle.sql_meaning.proofs.Reading.{Asks}
 use Rattle.sql_meaning.proofs.RowidKeys.{by_number, rising}
 use Rattle.sql_meaning.proofs.TextKeys.{by_text}
 use Rattle.sql_meaning.proofs.Writing.{Means}
-use Rattle.office_tables.specs.Schema.{office_schema}
+use Rattle.office_tables.specs.Schema.{office_schema, deposit_tree}
 use Rattle.office_tables.proofs.DepositTexts.{deposit_with}
 
 -- ---- the deposits of a class
@@ -75,15 +75,15 @@ due_rows_columns = col 1 0 ∷ col 1 3 ∷ col 1 4 ∷ col 1 10 ∷ []
 -- ---- what each means
 
 pub record DueMeanings : Type 0 where
-  pub asks_class_rows : Asks office_schema class_rows_text 8 (by_text 4) class_rows_columns rising
-  pub asks_due_of : Asks office_schema due_of_text 8 by_number due_of_columns []
-  pub set_due_means : Means office_schema set_due_text (Update 5 (as_program (scan 8 by_number (deposit_with 10 (col 0 1)) [])))
-  pub clear_due_means : Means office_schema clear_due_text (Update 5 (as_program (scan 8 by_number (deposit_with 10 (lit Null)) [])))
-  pub set_holds_means : Means office_schema set_holds_text (Update 5 (as_program (scan 8 by_number (deposit_with 11 (col 0 1)) [])))
-  pub asks_beside : Asks office_schema beside_text 8 [] beside_columns rising
-  pub add_holds_means : Means office_schema add_holds_text (Update 5 (as_program (scan 8 (by_text 3) more_columns [])))
-  pub add_holds_class_means : Means office_schema add_holds_class_text (Update 5 (as_program (scan 8 (by_text 4) more_columns [])))
-  pub asks_due_rows : Asks office_schema due_rows_text 8 is_due due_rows_columns rising
+  pub asks_class_rows : Asks office_schema class_rows_text deposit_tree (by_text 4) class_rows_columns rising
+  pub asks_due_of : Asks office_schema due_of_text deposit_tree by_number due_of_columns []
+  pub set_due_means : Means office_schema set_due_text (Update 5 (as_program (scan deposit_tree by_number (deposit_with 10 (col 0 1)) [])))
+  pub clear_due_means : Means office_schema clear_due_text (Update 5 (as_program (scan deposit_tree by_number (deposit_with 10 (lit Null)) [])))
+  pub set_holds_means : Means office_schema set_holds_text (Update 5 (as_program (scan deposit_tree by_number (deposit_with 11 (col 0 1)) [])))
+  pub asks_beside : Asks office_schema beside_text deposit_tree [] beside_columns rising
+  pub add_holds_means : Means office_schema add_holds_text (Update 5 (as_program (scan deposit_tree (by_text 3) more_columns [])))
+  pub add_holds_class_means : Means office_schema add_holds_class_text (Update 5 (as_program (scan deposit_tree (by_text 4) more_columns [])))
+  pub asks_due_rows : Asks office_schema due_rows_text deposit_tree is_due due_rows_columns rising
 
 pub due_meanings : DueMeanings
 unfolding understood everything

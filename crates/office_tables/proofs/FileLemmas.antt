@@ -54,7 +54,7 @@ use Rattle.sql_meaning.proofs.Typed.{typed_at, all_both}
 use Rattle.sql_meaning.proofs.Edits.{appended, cast_null, cast_int, map_alike}
 use Rattle.sql_meaning.proofs.Whole.{keeps_rule}
 use Rattle.sql_meaning.proofs.Changing.{drops}
-use Rattle.office_tables.specs.Schema.{office_schema, file_table}
+use Rattle.office_tables.specs.Schema.{office_schema, file_table, file_tree}
 use Rattle.office_rows.proofs.Order.{map_back}
 use Rattle.office_rows.specs.Rows.{FileRow, ContentRow, bytes_under, is_file_of, is_file_at, file_at, with_file}
 use Rattle.office_tables.specs.Tables.{IsOffice, Becomes, tables_of, contents_of, file_in}
@@ -68,10 +68,10 @@ use Rattle.office_tables.proofs.Columns.{only, all_given}
 abbrev IsFileRow : Row → Type 0
 IsFileRow r = (column r 1 ≡ Int (int_at r 1)) × (column r 2 ≡ Text (bytes_at r 2))
 
-file_rows : (db : Database) → IsOffice db → AllByRecursion IsFileRow (db.trees 10)
+file_rows : (db : Database) → IsOffice db → AllByRecursion IsFileRow (db.trees file_tree)
 file_rows db office = all_both (λ r t p.
     let at = typed_at office_schema db.trees file_table r t p in
-    (at 0 refl, at 1 refl)) (db.trees 10) (keeps_rule office.whole Datatype).1.1.1.1.1.1.0 (keeps_rule office.whole NotNull).1.1.1.1.1.1.0
+    (at 0 refl, at 1 refl)) (db.trees file_tree) (keeps_rule office.whole Datatype).1.1.1.1.1.1.0 (keeps_rule office.whole NotNull).1.1.1.1.1.1.0
 
 -- ---- the tests by the deposit, and by the deposit and the path
 
@@ -89,21 +89,21 @@ passes_place n path r it = ap₂ ◌&&◌
     (ap (λ v. is_true (binary (Compare Eq Binary) v (Int n))) it.0 ∙ same_int (int_at r 1) n)
     (and-true _ ∙ ap (λ v. is_true (binary (Compare Eq Binary) v (Text path))) it.1 ∙ same_text (bytes_at r 2) path)
 
-each_of : (db : Database) → IsOffice db → (n : ℤ) → AllByRecursion (λ r. passes (Int n ∷ []) by_deposit r ≡ has_deposit n r) (db.trees 10)
-each_of db office n = all_from _ (db.trees 10) (λ r there. passes_deposit n r (all_has IsFileRow (db.trees 10) r (file_rows db office) there))
+each_of : (db : Database) → IsOffice db → (n : ℤ) → AllByRecursion (λ r. passes (Int n ∷ []) by_deposit r ≡ has_deposit n r) (db.trees file_tree)
+each_of db office n = all_from _ (db.trees file_tree) (λ r there. passes_deposit n r (all_has IsFileRow (db.trees file_tree) r (file_rows db office) there))
 
-each_at : (db : Database) → IsOffice db → (n : ℤ) (path : List ℕ) → AllByRecursion (λ r. passes (Int n ∷ Text path ∷ []) by_place r ≡ has_place n path r) (db.trees 10)
-each_at db office n path = all_from _ (db.trees 10) (λ r there. passes_place n path r (all_has IsFileRow (db.trees 10) r (file_rows db office) there))
+each_at : (db : Database) → IsOffice db → (n : ℤ) (path : List ℕ) → AllByRecursion (λ r. passes (Int n ∷ Text path ∷ []) by_place r ≡ has_place n path r) (db.trees file_tree)
+each_at db office n path = all_from _ (db.trees file_tree) (λ r there. passes_place n path r (all_has IsFileRow (db.trees file_tree) r (file_rows db office) there))
 
 -- two files of one deposit with one path are one row
 module _ (db : Database) (office : IsOffice db) (n : ℤ) where
-  one_file : (path : List ℕ) (x y : Row) → Has (db.trees 10) x → Has (db.trees 10) y → has_place n path x ≡ true → has_place n path y ≡ true → x ≡ y
+  one_file : (path : List ℕ) (x y : Row) → Has (db.trees file_tree) x → Has (db.trees file_tree) y → has_place n path x ≡ true → has_place n path y ≡ true → x ≡ y
   unfolding first_key
   one_file path x y hx hy px py =
       let rows = file_rows db office in
-      let tx = all_has IsFileRow (db.trees 10) x rows hx in
-      let ty = all_has IsFileRow (db.trees 10) y rows hy in
-      let apart = all_has _ (db.trees 10) y (keeps_rule office.whole Unique).1.1.1.1.1.1.0 hy in
+      let tx = all_has IsFileRow (db.trees file_tree) x rows hx in
+      let ty = all_has IsFileRow (db.trees file_tree) y rows hy in
+      let apart = all_has _ (db.trees file_tree) y (keeps_rule office.whole Unique).1.1.1.1.1.1.0 hy in
       let key : Row = Int n ∷ Text path ∷ [] in
       let eqx : equal Binary (column x 1) (Int n) ≡ true = ap (λ v. equal Binary v (Int n)) tx.0 ∙ same_int (int_at x 1) n ∙ (and_parts _ _ px).0 in
       let eqy : equal Binary (column y 1) (Int n) ≡ true = ap (λ v. equal Binary v (Int n)) ty.0 ∙ same_int (int_at y 1) n ∙ (and_parts _ _ py).0 in
@@ -112,10 +112,10 @@ module _ (db : Database) (office : IsOffice db) (n : ℤ) where
       let kx : agree plain (1 ∷ 2 ∷ []) x (0 ∷ 1 ∷ []) key ≡ true = rw (eqx, pathx) refl in
       let ky : agree plain (1 ∷ 2 ∷ []) y (0 ∷ 1 ∷ []) key ≡ true = rw (eqy, pathy) refl in
       let agrees = agree_chain plain (1 ∷ 2 ∷ []) (0 ∷ 1 ∷ []) (1 ∷ 2 ∷ []) x key y kx (agree_back plain (1 ∷ 2 ∷ []) (0 ∷ 1 ∷ []) y key ky) in
-      same_key plain (1 ∷ 2 ∷ []) (db.trees 10) office.whole.shaped.1.1.1.1.1.1.0 x y hx hy (unclashed _ apart) agrees
+      same_key plain (1 ∷ 2 ∷ []) (db.trees file_tree) office.whole.shaped.1.1.1.1.1.1.0 x y hx hy (unclashed _ apart) agrees
 
-  pub few_files : (path : List ℕ) → (filter (has_place n path) (db.trees 10) ≡ []) ⊎ ((r : Row) × Has (db.trees 10) r × (has_place n path r ≡ true) × (filter (has_place n path) (db.trees 10) ≡ r ∷ []))
-  few_files path = lone (has_place n path) (db.trees 10) (db.trees 10) office.whole.shaped.1.1.1.1.1.1.0.0 (λ r there. there) (one_file path)
+  pub few_files : (path : List ℕ) → (filter (has_place n path) (db.trees file_tree) ≡ []) ⊎ ((r : Row) × Has (db.trees file_tree) r × (has_place n path r ≡ true) × (filter (has_place n path) (db.trees file_tree) ≡ r ∷ []))
+  few_files path = lone (has_place n path) (db.trees file_tree) (db.trees file_tree) office.whole.shaped.1.1.1.1.1.1.0.0 (λ r there. there) (one_file path)
 
 -- ---- one file
 
@@ -127,23 +127,23 @@ pub finds_content : (old new : State) (n : ℤ) (path : List ℕ) (rows : List R
     → (new.now ≡ old.now) × (option_map (λ (f : FileRow). f.content) (file_at n path (tables_of old.now).files) ≡ option_map (content_under (contents_of old.now)) (slice_get rows 0))
 finds_content old new n path rows office h =
     let params : Row = Int n ∷ Text path ∷ [] in
-    let stored = old.now.trees 10 in
+    let stored = old.now.trees file_tree in
     let contents = contents_of old.now in
-    let is = reads_one office_schema content_text 10 by_place (only 3) [] file_meanings.asks_content params old new office.whole.schema_is rows h (has_place n path)
+    let is = reads_one office_schema content_text file_tree by_place (only 3) [] file_meanings.asks_content params old new office.whole.schema_is rows h (has_place n path)
     (each_at old.now office n path) (few_files old.now office n path) in (
-      reads_same office_schema content_text 10 by_place (only 3) [] file_meanings.asks_content params old new office.whole.schema_is rows h,
+      reads_same office_schema content_text file_tree by_place (only 3) [] file_meanings.asks_content params old new office.whole.schema_is rows h,
       finds_part stored rows (has_place n path) (shown_of params (only 3)) (file_in contents) (is_file_at n path) (λ r. refl) is (λ (f : FileRow). f.content) (content_under contents) (λ r. refl),
     )
 
 -- the numbers of the contents of a deposit's files
 pub finds_contents : (old new : State) (n : ℤ) (rows : List Row) → IsOffice old.now → Shown ids_text (Int n ∷ []) old new rows
-    → (new.now ≡ old.now) × ((r : Row) → Has (old.now.trees 10) r → has_deposit n r ≡ true → Has (map (λ row. int_at row 0) rows) (int_at r 3))
+    → (new.now ≡ old.now) × ((r : Row) → Has (old.now.trees file_tree) r → has_deposit n r ≡ true → Has (map (λ row. int_at row 0) rows) (int_at r 3))
 finds_contents old new n rows office h =
     let params : Row = Int n ∷ [] in
     let db = old.now.trees in
-    let found = reads_scan office_schema ids_text 10 by_deposit (only 3) [] file_meanings.asks_ids params old new office.whole.schema_is rows h in (
-      reads_same office_schema ids_text 10 by_deposit (only 3) [] file_meanings.asks_ids params old new office.whole.schema_is rows h,
-      λ r there keeps. mapped_has (λ row. int_at row 0) rows _ (answer_complete db params 10 by_deposit (only 3) [] rows (has_deposit n) found (each_of old.now office n) r there keeps),
+    let found = reads_scan office_schema ids_text file_tree by_deposit (only 3) [] file_meanings.asks_ids params old new office.whole.schema_is rows h in (
+      reads_same office_schema ids_text file_tree by_deposit (only 3) [] file_meanings.asks_ids params old new office.whole.schema_is rows h,
+      λ r there keeps. mapped_has (λ row. int_at row 0) rows _ (answer_complete db params file_tree by_deposit (only 3) [] rows (has_deposit n) found (each_of old.now office n) r there keeps),
     )
 
 -- ---- a new file
@@ -161,18 +161,18 @@ module _ (old new : State) (n : ℤ) (path : List ℕ) (id : ℤ) (count : ℕ) 
   put_cast : cast_row file_table (Null ∷ put_columns) ≡ Null ∷ put_columns
   put_cast = rw (cast_null, cast_int n, cast_int id) refl
 
-  put_end : (with_edit put_edit old.now).trees 10 ≡ old.now.trees 10 ++ (Int (next_rowid (old.now.trees 10)) ∷ put_columns) ∷ []
+  put_end : (with_edit put_edit old.now).trees file_tree ≡ old.now.trees file_tree ++ (Int (next_rowid (old.now.trees file_tree)) ∷ put_columns) ∷ []
   put_end = appended old.now.trees file_table (Null ∷ put_columns) put_columns office.whole.shaped.1.1.1.1.1.1.0 put_cast
 
   puts_file : Becomes new.now (with_file (record { deposit = n; path = path; content = bytes_under (contents_of old.now) id }) (tables_of old.now))
   puts_file =
       becomes old new put_edit count put_edit.news office (refl, (refl, tt)) put_change _ (ap (λ rows. record (tables_of old.now) { files = rows })
-      (ap (map (file_in (contents_of old.now))) put_end ∙ map-append (file_in (contents_of old.now)) (old.now.trees 10) _))
+      (ap (map (file_in (contents_of old.now))) put_end ∙ map-append (file_in (contents_of old.now)) (old.now.trees file_tree) _))
 
   -- so there was no such file
   path_was_new : file_at n path (tables_of old.now).files ≡ None
   path_was_new =
-      let stored = old.now.trees 10 in
+      let stored = old.now.trees file_tree in
       let places : has_place n path (with_rowid Chosen stored (Null ∷ put_columns)) ≡ true = ap₂ ◌&&◌ (int_itself n) (bytes_itself path) in
       let placed : has_place n path (with_rowid Chosen stored (cast_row file_table (Null ∷ put_columns))) ≡ true = ap (λ r. has_place n path (with_rowid Chosen stored r)) put_cast ∙ places in
       let none = none_before office_schema Enforced old.now.trees new.now.trees file_table (Null ∷ put_columns) put_change.applies (has_place n path) placed (one_file new.now puts_file.office n path) in
@@ -182,7 +182,7 @@ module _ (old new : State) (n : ℤ) (path : List ℕ) (id : ℤ) (count : ℕ) 
   adds_file = record {
     becomes = puts_file;
     contents = contents_after old new put_edit count put_edit.news put_change;
-    references = references_after old new put_edit count put_edit.news put_change ∙ ap (map (λ row. int_at row 3)) put_end ∙ map-append (λ row. int_at row 3) (old.now.trees 10) _;
+    references = references_after old new put_edit count put_edit.news put_change ∙ ap (map (λ row. int_at row 3)) put_end ∙ map-append (λ row. int_at row 3) (old.now.trees file_tree) _;
     new_path = path_was_new;
   }
 
@@ -195,16 +195,16 @@ drops_files old new n count office h =
     (has_deposit n) (each_of old.now office n) file_meanings.drop_means (λ r. refl) count h in
     let edit = edit_of db file_table (ids_of done.answer) Given 0 [] in
     let decode = file_in (contents_of old.now) in
-    let others_stay = sym (filter-map (λ f. not (is_file_of n f)) decode (db 10)) in
-    let rows : new.now.trees 10 ≡ filter (λ r. not (has_deposit n r)) (db 10) = file_rows_after old new edit count _ done.change ∙ done.made in
+    let others_stay = sym (filter-map (λ f. not (is_file_of n f)) decode (db file_tree)) in
+    let rows : new.now.trees file_tree ≡ filter (λ r. not (has_deposit n r)) (db file_tree) = file_rows_after old new edit count _ done.change ∙ done.made in
     record {
       becomes = becomes old new edit count _ office (refl, (refl, tt)) done.change _ (ap (λ rows. record (tables_of old.now) { files = rows }) (ap (map decode) done.made ∙ others_stay));
       contents = contents_after old new edit count _ done.change;
       references = λ id there.
-          let r = has_mapped (λ row. int_at row 3) (db 10) id there in
+          let r = has_mapped (λ row. int_at row 3) (db file_tree) id there in
           elim (cases_Bool (has_deposit n r.0)) [
             | inl his ↦ inr (r.0, r.1, his, sym r.2)
-            | inr other ↦ inl (subst (Has (references_of new.now)) (sym r.2) (mapped_has (λ row. int_at row 3) (new.now.trees 10) r.0 (subst (λ rs. Has rs r.0) (sym rows) (has_kept (λ r. not (has_deposit n r)) (db 10) r.0 r.1 (ap not other)))))
+            | inr other ↦ inl (subst (Has (references_of new.now)) (sym r.2) (mapped_has (λ row. int_at row 3) (new.now.trees file_tree) r.0 (subst (λ rs. Has rs r.0) (sym rows) (has_kept (λ r. not (has_deposit n r)) (db file_tree) r.0 r.1 (ap not other)))))
           ];
     }
 
@@ -227,13 +227,13 @@ shown_by o = shown_path o.1
 abbrev IsByPath : Row × Row → Type 0
 IsByPath o = column o.0 0 ≡ Text (shown_by o)
 
-sorted_paths : (os : List (Row × Row)) → AllByRecursion IsByPath os → IsSorted (output_cmp (scan 10 by_deposit (only 2) by_path)) os → IsSorted text_cmp (map shown_by os)
+sorted_paths : (os : List (Row × Row)) → AllByRecursion IsByPath os → IsSorted (output_cmp (scan file_tree by_deposit (only 2) by_path)) os → IsSorted text_cmp (map shown_by os)
 sorted_paths os typed up = sorted_map (λ k d low high.
     let a = slice_index_or os (k + 1) d in
     let b = slice_index_or os k d in
     let ta : IsByPath a = All-from_recursion IsByPath os typed (k + 1) d (omega arith) in
     let tb : IsByPath b = All-from_recursion IsByPath os typed k d (omega arith) in
-    let same : output_cmp (scan 10 by_deposit (only 2) by_path) a b ≡ text_cmp (shown_by a) (shown_by b) =
+    let same : output_cmp (scan file_tree by_deposit (only 2) by_path) a b ≡ text_cmp (shown_by a) (shown_by b) =
     then-Equal (value_cmp (column a.0 0) (column b.0 0)) ∙ subst₂ (λ v w. value_cmp v w ≡ text_cmp (shown_by a) (shown_by b)) (sym ta) (sym tb) (value_cmp-Text (shown_by a) (shown_by b)) in
     subst (λ o. is_lt o ≡ false) same (up k d low high))
   where
@@ -247,7 +247,7 @@ path_total : IsTotalOrder path_cmp
 path_total = on_texts (λ (f : FileRow). f.path)
 
 -- two files of one deposit have two paths
-untied : (db : Database) → IsOffice db → (n : ℤ) (a b : Row) → Has (db.trees 10) a × (has_deposit n a ≡ true) → Has (db.trees 10) b × (has_deposit n b ≡ true) → value_cmp (rowid a) (rowid b) ≡ Less
+untied : (db : Database) → IsOffice db → (n : ℤ) (a b : Row) → Has (db.trees file_tree) a × (has_deposit n a ≡ true) → Has (db.trees file_tree) b × (has_deposit n b ≡ true) → value_cmp (rowid a) (rowid b) ≡ Less
     → is_eq (text_cmp (path_in a) (path_in b)) ≡ false
 untied db office n a b ha hb below = elim (cases_Bool (is_eq (text_cmp (path_in a) (path_in b)))) [
   | inl tie ↦ absurd (
@@ -265,30 +265,30 @@ pub lists_paths : (old new : State) (n : ℤ) (rows : List Row) → IsOffice old
 lists_paths old new n rows office h =
     let params : Row = Int n ∷ [] in
     let db = old.now.trees in
-    let q = scan 10 by_deposit (only 2) by_path in
-    let found = reads_scan office_schema paths_text 10 by_deposit (only 2) by_path file_meanings.asks_paths params old new office.whole.schema_is rows h in
+    let q = scan file_tree by_deposit (only 2) by_path in
+    let found = reads_scan office_schema paths_text file_tree by_deposit (only 2) by_path file_meanings.asks_paths params old new office.whole.schema_is rows h in
     let typed = file_rows old.now office in
     let keep = has_deposit n in
-    let kept = filter keep (db 10) in
+    let kept = filter keep (db file_tree) in
     let out : Row → Row × Row = λ r. output q (params ∷ r ∷ []) in
-    let passed : filter (passes params by_deposit) (db 10) ≡ kept = filter_same (passes params by_deposit) keep (db 10) (each_of old.now office n) in
+    let passed : filter (passes params by_deposit) (db file_tree) ≡ kept = filter_same (passes params by_deposit) keep (db file_tree) (each_of old.now office n) in
     let same : IsPermutation (map out kept) found.ordered = subst (λ rs. IsPermutation (map out rs) found.ordered) passed found.same in
-    let typed_out : AllByRecursion IsByPath (map out kept) = all_map IsByPath out kept (all_from (λ r. IsByPath (out r)) kept (λ r there. (all_has IsFileRow (db 10) r typed (has_filtered keep (db 10) r there).0).1)) in
+    let typed_out : AllByRecursion IsByPath (map out kept) = all_map IsByPath out kept (all_from (λ r. IsByPath (out r)) kept (λ r there. (all_has IsFileRow (db file_tree) r typed (has_filtered keep (db file_tree) r there).0).1)) in
     let typed_ordered : AllByRecursion IsByPath found.ordered = recursion_from_All IsByPath found.ordered (All-permutation IsByPath (map out kept) found.ordered same (All-from_recursion IsByPath (map out kept) typed_out)) in
     let up = sorted_paths found.ordered typed_ordered found.sorted in
     let as_paths : map shown_by (map out kept) ≡ map path_in kept = map-map shown_by out kept in
     let moved : IsPermutation (map path_in kept) (map shown_by found.ordered) = subst (λ xs. IsPermutation xs (map shown_by found.ordered)) as_paths (IsPermutation-map shown_by (map out kept) found.ordered same) in
     let apart : IsAscending (λ a b. is_eq (text_cmp (path_in a) (path_in b)) ≡ false) kept = ascending_has (λ a b. value_cmp (rowid a) (rowid b) ≡ Less) (λ a b. is_eq (text_cmp (path_in a) (path_in b)) ≡ false) kept
-    (λ a b ha hb below. untied old.now office n a b (has_filtered keep (db 10) a ha) (has_filtered keep (db 10) b hb) below)
-    (ascending-filter (λ a b. value_cmp (rowid a) (rowid b) ≡ Less) keep (db 10) office.whole.shaped.1.1.1.1.1.1.0.0) in
+    (λ a b ha hb below. untied old.now office n a b (has_filtered keep (db file_tree) a ha) (has_filtered keep (db file_tree) b hb) below)
+    (ascending-filter (λ a b. value_cmp (rowid a) (rowid b) ≡ Less) keep (db file_tree) office.whole.shaped.1.1.1.1.1.1.0.0) in
     let distinct = ascending-map (λ s t. is_eq (text_cmp s t) ≡ false) path_in kept apart in
     let sorted_is : map shown_by found.ordered ≡ sort_by text_cmp (map path_in kept) = sorted_is-sort_by text_cmp text_total (map path_in kept) (map shown_by found.ordered) distinct moved up in
     let decode = file_in (contents_of old.now) in
-    let files = filter (is_file_of n) (map decode (db 10)) in
-    let paths_are : map (λ (f : FileRow). f.path) files ≡ map path_in kept = ap (map (λ (f : FileRow). f.path)) (filter-map (is_file_of n) decode (db 10)) ∙ map-map (λ (f : FileRow). f.path) decode kept in
+    let files = filter (is_file_of n) (map decode (db file_tree)) in
+    let paths_are : map (λ (f : FileRow). f.path) files ≡ map path_in kept = ap (map (λ (f : FileRow). f.path)) (filter-map (is_file_of n) decode (db file_tree)) ∙ map-map (λ (f : FileRow). f.path) decode kept in
     let in_order : map (λ (f : FileRow). f.path) (sort_by path_cmp files) ≡ sort_by text_cmp (map path_in kept) = sym (sort_by-map text_cmp (λ (f : FileRow). f.path) files) ∙ ap (sort_by text_cmp) paths_are in
     let rows_are : map shown_path rows ≡ map shown_by found.ordered = ap (map shown_path) found.shown ∙ map-map shown_path (λ (o : Row × Row). o.1) found.ordered in (
-      reads_same office_schema paths_text 10 by_deposit (only 2) by_path file_meanings.asks_paths params old new office.whole.schema_is rows h,
+      reads_same office_schema paths_text file_tree by_deposit (only 2) by_path file_meanings.asks_paths params old new office.whole.schema_is rows h,
       in_order ∙ sym sorted_is ∙ sym rows_are,
     )
 
@@ -320,7 +320,7 @@ finds_next find rows i row files x is low before here =
 
 module _ (db : Database) (office : IsOffice db) (n : ℤ) where
   abbrev stored : List Row
-  stored = db.trees 10
+  stored = db.trees file_tree
 
   abbrev decode : Row → FileRow
   decode = file_in (contents_of db)

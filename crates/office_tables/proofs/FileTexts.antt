@@ -12,7 +12,7 @@ use Rattle.sqlite_value.specs.declared.keys.Key.{Key}
 use Rattle.sql_meaning.proofs.Scanning.{scan, as_program}
 use Rattle.sql_meaning.proofs.Reading.{Asks}
 use Rattle.sql_meaning.proofs.Writing.{Means}
-use Rattle.office_tables.specs.Schema.{office_schema}
+use Rattle.office_tables.specs.Schema.{office_schema, file_tree}
 use Rattle.office_tables.proofs.Columns.{only, all_given}
 
 -- ---- reads
@@ -48,11 +48,11 @@ drop_text = codes "DELETE FROM file WHERE deposit = ?1"
 -- ---- what each means
 
 pub record FileMeanings : Type 0 where
-  pub asks_content : Asks office_schema content_text 10 by_place (only 3) []
-  pub asks_ids : Asks office_schema ids_text 10 by_deposit (only 3) []
-  pub asks_paths : Asks office_schema paths_text 10 by_deposit (only 2) by_path
+  pub asks_content : Asks office_schema content_text file_tree by_place (only 3) []
+  pub asks_ids : Asks office_schema ids_text file_tree by_deposit (only 3) []
+  pub asks_paths : Asks office_schema paths_text file_tree by_deposit (only 2) by_path
   pub put_means : Means office_schema put_text (Insert 6 (Values (all_given 3) 4))
-  pub drop_means : Means office_schema drop_text (Delete 6 (as_program (scan 10 by_deposit (only 0) [])))
+  pub drop_means : Means office_schema drop_text (Delete 6 (as_program (scan file_tree by_deposit (only 0) [])))
 
 pub file_meanings : FileMeanings
 unfolding understood everything

@@ -12,7 +12,7 @@ use Rattle.sqlite.specs.State.{State}
 use Rattle.sql_meaning.specs.Whole.{AreShaped}
 use Rattle.sql_meaning.proofs.Writing.{Changes, IsIdle}
 use Rattle.sql_meaning.proofs.Whole.{whole_after, with_rows, rows_after}
-use Rattle.office_tables.specs.Schema.{office_schema, all_tables, emptied_trees}
+use Rattle.office_tables.specs.Schema.{office_schema, all_tables, emptied_trees, old_rule_tree, file_tree, old_hold_tree}
 use Rattle.office_rows.specs.Rows.{Tables}
 use Rattle.sql_meaning.specs.Columns.{int_at}
 use Rattle.office_tables.specs.Tables.{IsOffice, Becomes, tables_of, contents_of, content_in}
@@ -52,7 +52,7 @@ becomes_shaped old new edit count written shaped empty others change tables is =
     record {
       office = record {
         whole = whole_after office_schema old new edit count written change shaped;
-        emptied = (after.1.1.1.1.1.1.1.0 ∙ same_rows 12 edit old.now others.0 empty.0, (after.1.1.0 ∙ same_rows 3 edit old.now others.1.0 empty.1.0, tt));
+        emptied = (after.1.1.1.1.1.1.1.0 ∙ same_rows old_hold_tree edit old.now others.0 empty.0, (after.1.1.0 ∙ same_rows old_rule_tree edit old.now others.1.0 empty.1.0, tt));
       };
       are = same_tables new.now (with_edit edit old.now) after ∙ is;
     }
@@ -63,7 +63,7 @@ becomes old new edit count written office others change tables is = becomes_shap
 
 -- what the change leaves of the contents, and of the files
 module _ (old new : State) (edit : Edit) (count : ℕ) (written : List Row) (change : Changes office_schema old new edit count written) where
-  pub file_rows_after : new.now.trees 10 ≡ (with_edit edit old.now).trees 10
+  pub file_rows_after : new.now.trees file_tree ≡ (with_edit edit old.now).trees file_tree
   file_rows_after = (rows_after office_schema old new edit count written change).1.1.1.1.1.1.0
 
   pub contents_after : contents_of new.now ≡ contents_of (with_edit edit old.now)

@@ -8,6 +8,7 @@ use Rattle.sqlite_rules.proofs.ListLemmas.{all_has}
 use Rattle.sqlite_rules.proofs.ProbeLemmas.{has_mapped, mapped_has}
 use Rattle.sql_meaning.specs.Columns.{int_at}
 use Rattle.office_rows.specs.Rows.{FileRow, ContentRow, bytes_under, content_numbered}
+use Rattle.office_tables.specs.Schema.{file_tree}
 use Rattle.office_tables.specs.Tables.{IsOffice, tables_of, contents_of, file_in}
 use Rattle.office_tables.specs.Contents.{KeepsOnce, IsMarked, AreContents, references_of}
 use Rattle.office_tables.proofs.ContentLemmas.{fetched, content_there, used_held}
@@ -34,14 +35,14 @@ are_contents db office kept =
       marked = kept.marked;
       held = λ x there.
           let f = has_mapped content_of (tables_of db).files x there in
-          let r = has_mapped decode (db.trees 10) f.0 f.1 in
+          let r = has_mapped decode (db.trees file_tree) f.0 f.1 in
           let c = fetched db office r.0 r.1 in
           let same : x ≡ c.0.bytes = f.2 ∙ ap content_of r.2 ∙ under cs (int_at r.0 3) c.0 c.1 in
           subst (Has (map bytes_of cs)) (sym same) (mapped_has bytes_of cs c.0 c.2);
       used = λ x there.
           let c = has_mapped bytes_of cs x there in
-          let r = has_mapped (λ (row : Row). int_at row 3) (db.trees 10) c.0.id (all_has (λ (c : ContentRow). Has (references_of db) c.id) cs c.0 (used_held (references_of db) cs kept.used) c.1) in
+          let r = has_mapped (λ (row : Row). int_at row 3) (db.trees file_tree) c.0.id (all_has (λ (c : ContentRow). Has (references_of db) c.id) cs c.0 (used_held (references_of db) cs kept.used) c.1) in
           let same : content_of (decode r.0) ≡ x = ap (bytes_under cs) (sym r.2) ∙ under cs c.0.id c.0 (content_there db office c.0 c.1) ∙ sym c.2 in
-          subst (Has (map content_of (tables_of db).files)) same (mapped_has content_of (tables_of db).files (decode r.0) (mapped_has decode (db.trees 10) r.0 r.1));
+          subst (Has (map content_of (tables_of db).files)) same (mapped_has content_of (tables_of db).files (decode r.0) (mapped_has decode (db.trees file_tree) r.0 r.1));
       sizes = sizes_are cs kept.marked;
     }

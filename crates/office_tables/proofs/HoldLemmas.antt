@@ -48,7 +48,7 @@ use Rattle.sql_meaning.proofs.Typed.{typed_at, all_both}
 use Rattle.sql_meaning.proofs.Edits.{decoded, cast_null, cast_int}
 use Rattle.sql_meaning.proofs.Whole.{keeps_rule}
 use Rattle.sql_meaning.proofs.Changing.{revises}
-use Rattle.office_tables.specs.Schema.{office_schema, hold_4_table}
+use Rattle.office_tables.specs.Schema.{office_schema, hold_4_table, hold_tree}
 use Rattle.office_rows.specs.Rows.{HoldRow, put_by, is_hold, hold_numbered, last_number, with_hold, with_released, is_live, holds_deposit, holds_collection, holds_class, is_live_on, is_live_within, is_live_of_class, is_live_over, live_holds}
 use Rattle.office_tables.specs.Tables.{IsOffice, Becomes, tables_of, hold_in}
 use Rattle.office_tables.specs.ShownHolds.{shown_hold}
@@ -60,11 +60,11 @@ use Rattle.office_tables.proofs.Columns.{only}
 use Rattle.office_tables.proofs.RowsRead.{reads_numbered}
 
 -- the rows of the holds ascend by number
-shaped_holds : (db : Database) → IsOffice db → IsShaped shape.Table (db.trees 19)
+shaped_holds : (db : Database) → IsOffice db → IsShaped shape.Table (db.trees hold_tree)
 shaped_holds db office = office.whole.shaped.1.1.1.1.1.1.1.1.1.0
 
 -- the tables that stay empty are others
-others : AreOthers 19
+others : AreOthers hold_tree
 others = (refl, (refl, tt))
 
 -- ---- reads
@@ -73,12 +73,12 @@ pub finds_hold : (old new : State) (k : ℤ) (rows : List Row) → IsOffice old.
     → (new.now ≡ old.now) × (hold_numbered k (tables_of old.now).holds ≡ option_map shown_hold (slice_get rows 0))
 finds_hold old new k rows office h =
     let read = reads_numbered old new rows office hold_meanings.asks_hold k (shaped_holds old.now office) h in
-    (read.0, finds_one (old.now.trees 19) rows (has_number k) (shown_of (Int k ∷ []) hold_columns) hold_in shown_hold (is_hold k) (λ r. refl) (λ r. refl) read.1)
+    (read.0, finds_one (old.now.trees hold_tree) rows (has_number k) (shown_of (Int k ∷ []) hold_columns) hold_in shown_hold (is_hold k) (λ r. refl) (λ r. refl) read.1)
 
 pub finds_last : (old new : State) (rows : List Row) → IsOffice old.now → Shown last_text [] old new rows
     → (new.now ≡ old.now) × (last_number (λ (h : HoldRow). h.number) (tables_of old.now).holds ≡ option_map (λ row. int_at row 0) (slice_get rows 0))
 finds_last old new rows office h =
-    reads_last 19 hold_in (λ (h : HoldRow). h.number) (λ r. refl) office_schema last_text hold_meanings.asks_last old new office.whole.schema_is (shaped_holds old.now office).0 rows h
+    reads_last hold_tree hold_in (λ (h : HoldRow). h.number) (λ r. refl) office_schema last_text hold_meanings.asks_last old new office.whole.schema_is (shaped_holds old.now office).0 rows h
 
 -- ---- a new hold
 
@@ -128,15 +128,15 @@ module _ (old new : State) (hold : HoldRow) (live : hold.released ≡ None) (cou
       let number : HoldRow → ℤ = λ g. g.number in
       let is_it : hold_in (row_of hold) ≡ hold = rw (maybe_back hold.deposit [], text_back hold.collection [], text_back hold.class [], live) refl in
       let at_its_place = placed hold_in number (λ r. refl) old new hold_4_table (row_of hold) (stored_of hold) hold.number count (adding hold_4_table (row_of hold) old).news (shaped_holds old.now office) put_cast put_change in
-      becomes old new (adding hold_4_table (row_of hold) old) count (adding hold_4_table (row_of hold) old).news office others put_change _ (ap (λ rows. record (tables_of old.now) { holds = rows }) (at_its_place ∙ ap (λ x. put_by number x (map hold_in (old.now.trees 19))) is_it))
+      becomes old new (adding hold_4_table (row_of hold) old) count (adding hold_4_table (row_of hold) old).news office others put_change _ (ap (λ rows. record (tables_of old.now) { holds = rows }) (at_its_place ∙ ap (λ x. put_by number x (map hold_in (old.now.trees hold_tree))) is_it))
 
   -- so there was no hold of its number
   pub hold_was_new : hold_numbered hold.number (tables_of old.now).holds ≡ None
   hold_was_new =
       let n = hold.number in
-      let stored = old.now.trees 19 in
+      let stored = old.now.trees hold_tree in
       let is_there : has_number n (with_rowid Chosen stored (cast_row hold_4_table (row_of hold))) ≡ true = ap (λ r. has_number n (with_rowid Chosen stored r)) put_cast ∙ int_itself n in
-      let none = none_before office_schema Enforced old.now.trees new.now.trees hold_4_table (row_of hold) put_change.applies (has_number n) is_there (one_numbered (new.now.trees 19) (shaped_holds new.now puts_hold.office) n) in
+      let none = none_before office_schema Enforced old.now.trees new.now.trees hold_4_table (row_of hold) put_change.applies (has_number n) is_there (one_numbered (new.now.trees hold_tree) (shaped_holds new.now puts_hold.office) n) in
       found_by (is_hold n) (has_number n) hold_in stored (all_from _ stored (λ r there. refl)) ∙ ap (λ rs. option_map hold_in (slice_get rs 0)) none
 
 -- ---- the end of a hold
@@ -145,10 +145,10 @@ abbrev pub IsStoredHold : Row → Type 0
 IsStoredHold r = ((column r 2 ≡ Null) ⊎ (column r 2 ≡ Int (int_at r 2))) × ((column r 3 ≡ Null) ⊎ (column r 3 ≡ Text (bytes_at r 3)))
     × ((column r 4 ≡ Null) ⊎ (column r 4 ≡ Text (bytes_at r 4))) × (column r 5 ≡ Text (bytes_at r 5)) × (column r 6 ≡ Int (int_at r 6)) × ((column r 7 ≡ Null) ⊎ (column r 7 ≡ Int (int_at r 7)))
 
-pub hold_rows : (db : Database) → IsOffice db → AllByRecursion IsStoredHold (db.trees 19)
+pub hold_rows : (db : Database) → IsOffice db → AllByRecursion IsStoredHold (db.trees hold_tree)
 hold_rows db office = all_both (λ r typed present.
     let at = typed_at office_schema db.trees hold_4_table r typed present in
-    (at 1 refl, at 2 refl, at 3 refl, at 4 refl, at 5 refl, at 6 refl)) (db.trees 19) (keeps_rule office.whole Datatype).1.1.1.1.1.1.1.1.1.0 (keeps_rule office.whole NotNull).1.1.1.1.1.1.1.1.1.0
+    (at 1 refl, at 2 refl, at 3 refl, at 4 refl, at 5 refl, at 6 refl)) (db.trees hold_tree) (keeps_rule office.whole Datatype).1.1.1.1.1.1.1.1.1.0 (keeps_rule office.whole NotNull).1.1.1.1.1.1.1.1.1.0
 
 keeps_int : (v : Value) → (v ≡ Null) ⊎ (v ≡ Int (id_in v)) → cast kind.Integer v ≡ v
 keeps_int v (inl is) = subst (λ w. cast kind.Integer w ≡ w) (sym is) cast_null
@@ -172,10 +172,10 @@ ends_hold old new k day count office h =
     let db = old.now.trees in
     let shaped = shaped_holds old.now office in
     let done = revises end_text (Int k ∷ Int day ∷ []) old new office_schema office.whole.schema_is 9 hold_4_table refl idle shaped by_number ended_columns
-    (has_number k) (each_numbered k (Int day ∷ []) (db 19) shaped) hold_meanings.end_means (ended day) (few_numbered k (db 19) shaped)
-    (λ r there. (refl, cast_ended day r (all_has IsStoredHold (db 19) r (hold_rows old.now office) there) (all_has _ (db 19) r shaped.1 there), refl)) count h in
+    (has_number k) (each_numbered k (Int day ∷ []) (db hold_tree) shaped) hold_meanings.end_means (ended day) (few_numbered k (db hold_tree) shaped)
+    (λ r there. (refl, cast_ended day r (all_has IsStoredHold (db hold_tree) r (hold_rows old.now office) there) (all_has _ (db hold_tree) r shaped.1 there), refl)) count h in
     let edit = edit_of db hold_4_table (ids_of done.answer) Given 1 done.answer in
-    let ended_is = decoded hold_in (has_number k) (ended day) (is_hold k) (λ h. record h { released = Some day }) (λ r. refl) (λ r. refl) (db 19) in
+    let ended_is = decoded hold_in (has_number k) (ended day) (is_hold k) (λ h. record h { released = Some day }) (λ r. refl) (λ r. refl) (db hold_tree) in
     becomes old new edit count edit.news office others done.change _ (ap (λ rows. record (tables_of old.now) { holds = rows }) (ap (map hold_in) done.made ∙ ended_is))
 
 -- ---- the live holds
@@ -257,20 +257,20 @@ passes_of_class n c k r it =
     ∙ last_of_four (holds_class k (hold_in r)) (not (holds_deposit n (hold_in r))) (not (holds_collection c (hold_in r))) (is_live (hold_in r))
 
 -- the numbers of the holds that pass, in the order of their table
-module _ (old new : State) (text : List ℕ) (test : List Term) (asks : Asks office_schema text 19 test (only 0) rising) (params : Row) (rows : List Row) (office : IsOffice old.now) (h : Shown text params old new rows) where
+module _ (old new : State) (text : List ℕ) (test : List Term) (asks : Asks office_schema text hold_tree test (only 0) rising) (params : Row) (rows : List Row) (office : IsOffice old.now) (h : Shown text params old new rows) where
   lists_those : (p : HoldRow → Bool) → ((r : Row) → IsStoredHold r → passes params test r ≡ p (hold_in r))
       → (new.now ≡ old.now) × (map (λ (h : HoldRow). h.number) (filter p (tables_of old.now).holds) ≡ map (λ row. int_at row 0) rows)
   lists_those p tests =
       let db = old.now.trees in
       let typed = hold_rows old.now office in
       let keep : Row → Bool = λ r. p (hold_in r) in
-      let up = ascending_weaker _ _ (λ a b lower. rw lower refl) (db 19) (shaped_holds old.now office).0 in
-      let each = all_from (λ r. passes params test r ≡ keep r) (db 19) (λ r there. tests r (all_has IsStoredHold (db 19) r typed there)) in
-      let is = reads_rising office_schema text 19 test (only 0) rising asks params old new office.whole.schema_is rows h keep each up in
-      let shows : map (λ row. int_at row 0) (map (shown_of params (only 0)) (filter keep (db 19))) ≡ map (λ r. int_at r 0) (filter keep (db 19)) = map-map (λ row. int_at row 0) (shown_of params (only 0)) (filter keep (db 19)) in
-      let typed_is : map (λ (h : HoldRow). h.number) (filter p (tables_of old.now).holds) ≡ map (λ r. int_at r 0) (filter keep (db 19)) =
-      ap (map (λ (h : HoldRow). h.number)) (filter-map p hold_in (db 19)) ∙ map-map (λ (h : HoldRow). h.number) hold_in (filter keep (db 19)) in (
-        reads_same office_schema text 19 test (only 0) rising asks params old new office.whole.schema_is rows h,
+      let up = ascending_weaker _ _ (λ a b lower. rw lower refl) (db hold_tree) (shaped_holds old.now office).0 in
+      let each = all_from (λ r. passes params test r ≡ keep r) (db hold_tree) (λ r there. tests r (all_has IsStoredHold (db hold_tree) r typed there)) in
+      let is = reads_rising office_schema text hold_tree test (only 0) rising asks params old new office.whole.schema_is rows h keep each up in
+      let shows : map (λ row. int_at row 0) (map (shown_of params (only 0)) (filter keep (db hold_tree))) ≡ map (λ r. int_at r 0) (filter keep (db hold_tree)) = map-map (λ row. int_at row 0) (shown_of params (only 0)) (filter keep (db hold_tree)) in
+      let typed_is : map (λ (h : HoldRow). h.number) (filter p (tables_of old.now).holds) ≡ map (λ r. int_at r 0) (filter keep (db hold_tree)) =
+      ap (map (λ (h : HoldRow). h.number)) (filter-map p hold_in (db hold_tree)) ∙ map-map (λ (h : HoldRow). h.number) hold_in (filter keep (db hold_tree)) in (
+        reads_same office_schema text hold_tree test (only 0) rising asks params old new office.whole.schema_is rows h,
         typed_is ∙ sym shows ∙ ap (map (λ row. int_at row 0)) (sym is),
       )
 
@@ -356,9 +356,9 @@ numbers_rise (r ∷ rows) whole up = (
 pub live_rise : (db : Database) → IsOffice db → (n : ℤ) (c k : List ℕ) → IsAscending (λ a b. int_cmp a b ≡ Less) (live_holds n c k (tables_of db))
 live_rise db office n c k =
     let shaped = shaped_holds db office in
-    let rows = numbers_rise (db.trees 19) shaped.1 shaped.0 in
-    let typed : IsAscending (λ (a b : HoldRow). int_cmp a.number b.number ≡ Less) (map hold_in (db.trees 19)) = ascending-map (λ (a b : HoldRow). int_cmp a.number b.number ≡ Less) hold_in (db.trees 19) rows in
-    ascending-map (λ a b. int_cmp a b ≡ Less) (λ (h : HoldRow). h.number) _ (ascending-filter (λ (a b : HoldRow). int_cmp a.number b.number ≡ Less) (is_live_over n c k) (map hold_in (db.trees 19)) typed)
+    let rows = numbers_rise (db.trees hold_tree) shaped.1 shaped.0 in
+    let typed : IsAscending (λ (a b : HoldRow). int_cmp a.number b.number ≡ Less) (map hold_in (db.trees hold_tree)) = ascending-map (λ (a b : HoldRow). int_cmp a.number b.number ≡ Less) hold_in (db.trees hold_tree) rows in
+    ascending-map (λ a b. int_cmp a b ≡ Less) (λ (h : HoldRow). h.number) _ (ascending-filter (λ (a b : HoldRow). int_cmp a.number b.number ≡ Less) (is_live_over n c k) (map hold_in (db.trees hold_tree)) typed)
 
 pos_cmp : (a b : ℕ) → nat_cmp a b ≡ int_cmp (pos a) (pos b)
 pos_cmp a b = grind (arith, ints)

@@ -15,7 +15,7 @@ use Rattle.sql_meaning.proofs.Reading.{Asks}
 use Rattle.sql_meaning.proofs.Limited.{AsksSome}
 use Rattle.sql_meaning.proofs.RowidKeys.{by_number, rising}
 use Rattle.sql_meaning.proofs.Writing.{Means}
-use Rattle.office_tables.specs.Schema.{office_schema}
+use Rattle.office_tables.specs.Schema.{office_schema, hold_tree}
 use Rattle.office_tables.proofs.LastRow.{AsksLast}
 use Rattle.office_tables.proofs.Columns.{only}
 
@@ -81,16 +81,16 @@ outside_text column = codes "SELECT number FROM hold_4 WHERE " ++ column ++ code
 -- ---- what each means
 
 pub record HoldMeanings : Type 0 where
-  pub asks_hold : Asks office_schema hold_text 19 by_number hold_columns []
-  pub asks_last : AsksLast office_schema last_text 19
+  pub asks_hold : Asks office_schema hold_text hold_tree by_number hold_columns []
+  pub asks_last : AsksLast office_schema last_text hold_tree
   pub put_means : Means office_schema put_text (Insert 9 (Values hold_terms 8))
-  pub end_means : Means office_schema end_text (Update 9 (as_program (scan 19 by_number ended_columns [])))
-  pub asks_on : Asks office_schema on_text 19 on (only 0) rising
-  pub asks_within : Asks office_schema within_text 19 within (only 0) rising
-  pub asks_of_class : Asks office_schema of_class_text 19 of_class (only 0) rising
-  pub asks_outside_on : AsksSome office_schema (outside_text (codes "deposit")) 19 (outside_of 2) (only 0)
-  pub asks_outside_within : AsksSome office_schema (outside_text (codes "collection")) 19 (outside_of 3) (only 0)
-  pub asks_outside_of_class : AsksSome office_schema (outside_text (codes "class")) 19 (outside_of 4) (only 0)
+  pub end_means : Means office_schema end_text (Update 9 (as_program (scan hold_tree by_number ended_columns [])))
+  pub asks_on : Asks office_schema on_text hold_tree on (only 0) rising
+  pub asks_within : Asks office_schema within_text hold_tree within (only 0) rising
+  pub asks_of_class : Asks office_schema of_class_text hold_tree of_class (only 0) rising
+  pub asks_outside_on : AsksSome office_schema (outside_text (codes "deposit")) hold_tree (outside_of 2) (only 0)
+  pub asks_outside_within : AsksSome office_schema (outside_text (codes "collection")) hold_tree (outside_of 3) (only 0)
+  pub asks_outside_of_class : AsksSome office_schema (outside_text (codes "class")) hold_tree (outside_of 4) (only 0)
 
 pub hold_meanings : HoldMeanings
 unfolding understood everything

@@ -27,7 +27,7 @@ use Rattle.sql_meaning.specs.Columns.{int_at, bytes_at}
 use Rattle.sql_meaning.proofs.Scanning.{Scans, scan, passes, shown_of, scanned, answers_rising, shown_same, finds_one}
 use Rattle.sql_meaning.proofs.Typed.{typed_at, all_both}
 use Rattle.sql_meaning.proofs.Whole.{keeps_rule}
-use Rattle.office_tables.specs.Schema.{office_schema, rule_5_table}
+use Rattle.office_tables.specs.Schema.{office_schema, rule_5_table, rule_tree}
 use Rattle.office_tables.specs.Tables.{IsOffice, tables_of, rule_in}
 use Rattle.office_tables.specs.ShownPolicy.{shown_rule}
 use Rattle.office_tables.proofs.PolicyTexts.{rule_columns}
@@ -84,10 +84,10 @@ abbrev IsRuleRow : Row → Type 0
 IsRuleRow r = (column r 3 ≡ Text (bytes_at r 3)) × (column r 4 ≡ Text (bytes_at r 4)) × (column r 5 ≡ Text (bytes_at r 5)) × (column r 6 ≡ Text (bytes_at r 6))
     × (column r 7 ≡ Int (int_at r 7)) × (column r 8 ≡ Int (int_at r 8))
 
-pub rule_rows : (db : Database) → IsOffice db → AllByRecursion IsRuleRow (db.trees 23)
+pub rule_rows : (db : Database) → IsOffice db → AllByRecursion IsRuleRow (db.trees rule_tree)
 rule_rows db office = all_both (λ r t p.
     let at = typed_at office_schema db.trees rule_5_table r t p in
-    (at 2 refl, at 3 refl, at 4 refl, at 5 refl, at 6 refl, at 7 refl)) (db.trees 23) (keeps_rule office.whole Datatype).1.1.1.1.1.1.1.1.1.1.0 (keeps_rule office.whole NotNull).1.1.1.1.1.1.1.1.1.1.0
+    (at 2 refl, at 3 refl, at 4 refl, at 5 refl, at 6 refl, at 7 refl)) (db.trees rule_tree) (keeps_rule office.whole Datatype).1.1.1.1.1.1.1.1.1.1.0 (keeps_rule office.whole NotNull).1.1.1.1.1.1.1.1.1.1.0
 
 and_true : (a : Bool) → (a && true) ≡ a
 and_true true = refl
@@ -112,13 +112,13 @@ pub finds_match : (old new : State) (role action collection class : List ℕ) (d
     → (new.now ≡ old.now) × (matching_rule role action collection class day (tables_of old.now).rules ≡ option_map shown_rule (slice_get rows 0))
 finds_match old new role action collection class day rows office h =
     let params : Row = Text role ∷ Text action ∷ Text collection ∷ Text class ∷ Int day ∷ [] in
-    let stored = old.now.trees 23 in
+    let stored = old.now.trees rule_tree in
     let keep : Row → Bool = λ r. fits_attempt (attempt role action collection class day) (rule_in r) in
     let up = ascending_weaker _ _ (λ a b lower. rw lower refl) stored office.whole.shaped.1.1.1.1.1.1.1.1.1.1.0.0 in
     let each = all_from (λ r. passes params matching r ≡ keep r) stored (λ r there. passes_match role action collection class day r (all_has IsRuleRow stored r (rule_rows old.now office) there)) in
-    let is = reads_first office_schema match_text 23 matching rule_columns match_order asks_match params old new office.whole.schema_is rows h keep each up in
+    let is = reads_first office_schema match_text rule_tree matching rule_columns match_order asks_match params old new office.whole.schema_is rows h keep each up in
     let all = map (shown_of params rule_columns) (filter keep stored) in
     let one = finds_one stored all keep (shown_of params rule_columns) rule_in shown_rule (fits_attempt (attempt role action collection class day)) (λ r. refl) (λ r. refl) refl in (
-      first_same office_schema match_text 23 matching rule_columns match_order asks_match params old new office.whole.schema_is rows h,
+      first_same office_schema match_text rule_tree matching rule_columns match_order asks_match params old new office.whole.schema_is rows h,
       one ∙ ap (option_map shown_rule) (sym (first_taken all) ∙ ap (λ rs. slice_get rs 0) (sym is)),
     )

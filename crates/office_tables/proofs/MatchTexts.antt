@@ -14,7 +14,7 @@ use Rattle.sqlite_sql.specs.declared.ops.BinaryOp.TheVariants.{Compare, Or}
 use Rattle.sqlite_sql.specs.declared.ops.CompareOp.TheVariants.{Eq, Ge, Le}
 use Rattle.sql_meaning.proofs.Scanning.{scan, as_program}
 use Rattle.sql_meaning.proofs.RowidKeys.{rising}
-use Rattle.office_tables.specs.Schema.{office_schema}
+use Rattle.office_tables.specs.Schema.{office_schema, rule_tree}
 use Rattle.office_tables.proofs.PolicyTexts.{rule_columns}
 
 -- SELECT project FROM table WHERE test ORDER BY order LIMIT 1
@@ -47,7 +47,7 @@ matching = star_or 3 0 ∷ star_or 4 1 ∷ star_or 5 2 ∷ star_or 6 3 ∷ day_f
 abbrev pub match_order : List (Term × Key)
 match_order = rising
 
-pub asks_match : AsksFirst office_schema match_text 23 matching rule_columns match_order
+pub asks_match : AsksFirst office_schema match_text rule_tree matching rule_columns match_order
 unfolding understood everything
 asks_match = record {
   names = codes "place" ∷ codes "effect" ∷ codes "role" ∷ codes "action" ∷ codes "collection" ∷ codes "class" ∷ codes "first" ∷ codes "last" ∷ [];

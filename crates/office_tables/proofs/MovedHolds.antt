@@ -24,7 +24,7 @@ use Rattle.sql_meaning.proofs.Typed.{typed_at, all_both}
 use Rattle.sql_meaning.proofs.Edits.{cast_null, cast_int}
 use Rattle.sql_meaning.proofs.Whole.{keeps_rule}
 use Rattle.sql_meaning.proofs.Scanning.{shown_of}
-use Rattle.office_tables.specs.Schema.{hold_table, hold_4_table}
+use Rattle.office_tables.specs.Schema.{hold_table, hold_4_table, old_hold_tree, hold_tree}
 use Rattle.office_tables.specs.Tables.{hold_in}
 use Rattle.office_tables.specs.Moving.{AllRows, moved_hold, BecomesAt, rows_at}
 use Rattle.office_tables.specs.Versions.{schema_at, old_hold_in}
@@ -54,34 +54,34 @@ abbrev IsStored : Row → Type 0
 IsStored r = ((column r 2 ≡ Null) ⊎ (column r 2 ≡ Int (int_at r 2))) × ((column r 3 ≡ Null) ⊎ (column r 3 ≡ Text (bytes_at r 3)))
     × (column r 4 ≡ Text (bytes_at r 4)) × (column r 5 ≡ Int (int_at r 5)) × ((column r 6 ≡ Null) ⊎ (column r 6 ≡ Int (int_at r 6)))
 
-stored_rows : (db : Database) → IsWhole fourth db → AllByRecursion IsStored (db.trees 12)
+stored_rows : (db : Database) → IsWhole fourth db → AllByRecursion IsStored (db.trees old_hold_tree)
 stored_rows db whole = all_both (λ r typed present.
     let at = typed_at fourth db.trees hold_table r typed present in
-    (at 1 refl, at 2 refl, at 3 refl, at 4 refl, at 5 refl)) (db.trees 12) (keeps_rule whole Datatype).1.1.1.1.1.1.1.0 (keeps_rule whole NotNull).1.1.1.1.1.1.1.0
+    (at 1 refl, at 2 refl, at 3 refl, at 4 refl, at 5 refl)) (db.trees old_hold_tree) (keeps_rule whole Datatype).1.1.1.1.1.1.1.0 (keeps_rule whole NotNull).1.1.1.1.1.1.1.0
 
 moves_row : (r : Row) → IsStored r → IsTrue (is_int (rowid r)) → cast_row hold_4_table (shown_of [] copied_hold r) ≡ moved_hold r
 moves_row r it whole =
     let casts : cast kind.Integer (rowid r) ≡ rowid r = keeps_int (rowid r) (inr (int_is (rowid r) whole)) in
     rw (casts, cast_null, keeps_int (column r 2) it.0, keeps_text (column r 3) it.1, keeps_text (column r 4) (inr it.2), keeps_int (column r 5) (inr it.3), keeps_int (column r 6) it.4) refl
 
-pub copies_holds : (old new : State) (count : ℕ) → IsWhole fourth old.now → old.now.trees 19 ≡ [] → Executes copy_holds_text [] old new (Ok count)
-    → Sets fourth 19 (map moved_hold (old.now.trees 12)) old.now new.now
+pub copies_holds : (old new : State) (count : ℕ) → IsWhole fourth old.now → old.now.trees hold_tree ≡ [] → Executes copy_holds_text [] old new (Ok count)
+    → Sets fourth hold_tree (map moved_hold (old.now.trees old_hold_tree)) old.now new.now
 copies_holds = takes_over fourth idle hold_table 7 refl (λ db whole. whole.shaped.1.1.1.1.1.1.1.0) hold_4_table 9 refl refl refl copied_hold eight moved_hold copy_holds_text moving_meanings.copy_holds_means
-    (λ db whole r there. moves_row r (all_has IsStored (db.trees 12) r (stored_rows db whole) there)) (λ r. refl)
+    (λ db whole r there. moves_row r (all_has IsStored (db.trees old_hold_tree) r (stored_rows db whole) there)) (λ r. refl)
 
-pub empties_holds : (old new : State) (count : ℕ) → IsWhole fourth old.now → Executes empty_holds_text [] old new (Ok count) → Sets fourth 12 [] old.now new.now
+pub empties_holds : (old new : State) (count : ℕ) → IsWhole fourth old.now → Executes empty_holds_text [] old new (Ok count) → Sets fourth old_hold_tree [] old.now new.now
 empties_holds = empties fourth idle hold_table 7 refl (λ db whole. whole.shaped.1.1.1.1.1.1.1.0) empty_holds_text moving_meanings.empty_holds_means
 
 -- ---- all of it
 
 -- the holds are copied into the table that was made, and their old table is emptied; each other table has its place here
 module _ (d0 d1 : Database) (grown : Grows (schema_at Third) fourth d0 d1) where
-  pub new_is_empty : d1.trees 19 ≡ []
+  pub new_is_empty : d1.trees hold_tree ≡ []
   new_is_empty = starts_empty (schema_at Third) fourth hold_table hold_4_table refl refl d0 d1 grown (ap (drop 9) grown.tables)
 
-  pub holds_moved : (rows : AllRows) (d2 d3 : Database) → BecomesAt Third d0 rows → Sets fourth 19 (map moved_hold (d1.trees 12)) d1 d2 → Sets fourth 12 [] d2 d3 → BecomesAt Fourth d3 rows
+  pub holds_moved : (rows : AllRows) (d2 d3 : Database) → BecomesAt Third d0 rows → Sets fourth hold_tree (map moved_hold (d1.trees old_hold_tree)) d1 d2 → Sets fourth old_hold_tree [] d2 d3 → BecomesAt Fourth d3 rows
   holds_moved rows d2 d3 was copied emptied =
-      let typed : map hold_in (d3.trees 19) ≡ map old_hold_in (d0.trees 12) =
+      let typed : map hold_in (d3.trees hold_tree) ≡ map old_hold_in (d0.trees old_hold_tree) =
       rows_taken (schema_at Third) fourth hold_table hold_4_table refl refl d0 d1 grown (ap (drop 9) grown.tables) moved_hold d2 d3 copied emptied hold_in grown.kept.1.1.1.1.1.1.1.0 in
       let o = others_kept (schema_at Third) fourth hold_table hold_4_table refl refl d0 d1 grown (ap (drop 9) grown.tables) moved_hold d2 d3 copied emptied in
       let same : rows_at Fourth d3 ≡ rows_at Third d0 = rw (typed, o.0, o.1.0, o.1.1.0, o.1.1.1.0, o.1.1.1.1.0, o.1.1.1.1.1.0, o.1.1.1.1.1.1.0, o.1.1.1.1.1.1.1.1.0) refl in

@@ -21,7 +21,7 @@ use Rattle.sql_meaning.proofs.Typed.{typed_at, all_both}
 use Rattle.sql_meaning.proofs.Edits.{cast_null, cast_int}
 use Rattle.sql_meaning.proofs.Whole.{keeps_rule}
 use Rattle.sql_meaning.proofs.Scanning.{shown_of}
-use Rattle.office_tables.specs.Schema.{rule_table, rule_5_table}
+use Rattle.office_tables.specs.Schema.{rule_table, rule_5_table, old_rule_tree, old_hold_tree, rule_tree}
 use Rattle.office_tables.specs.Tables.{rule_in}
 use Rattle.office_tables.specs.Moving.{AllRows, moved_rule, BecomesAt, rows_at}
 use Rattle.office_tables.specs.Versions.{first_day, last_day, schema_at, old_rule_in}
@@ -37,34 +37,34 @@ fifth = schema_at Fifth
 abbrev IsStored : Row → Type 0
 IsStored r = (column r 2 ≡ Int (int_at r 2)) × (column r 3 ≡ Text (bytes_at r 3)) × (column r 4 ≡ Text (bytes_at r 4)) × (column r 5 ≡ Text (bytes_at r 5)) × (column r 6 ≡ Text (bytes_at r 6))
 
-stored_rows : (db : Database) → IsWhole fifth db → AllByRecursion IsStored (db.trees 3)
+stored_rows : (db : Database) → IsWhole fifth db → AllByRecursion IsStored (db.trees old_rule_tree)
 stored_rows db whole = all_both (λ r typed present.
     let at = typed_at fifth db.trees rule_table r typed present in
-    (at 1 refl, at 2 refl, at 3 refl, at 4 refl, at 5 refl)) (db.trees 3) (keeps_rule whole Datatype).1.1.0 (keeps_rule whole NotNull).1.1.0
+    (at 1 refl, at 2 refl, at 3 refl, at 4 refl, at 5 refl)) (db.trees old_rule_tree) (keeps_rule whole Datatype).1.1.0 (keeps_rule whole NotNull).1.1.0
 
 moves_row : (r : Row) → IsStored r → IsTrue (is_int (rowid r)) → cast_row rule_5_table (shown_of [] copied_rule r) ≡ moved_rule r
 moves_row r it whole =
     let casts : cast kind.Integer (rowid r) ≡ rowid r = keeps_int (rowid r) (inr (int_is (rowid r) whole)) in
     rw (casts, cast_null, keeps_int (column r 2) (inr it.0), keeps_text (column r 3) (inr it.1), keeps_text (column r 4) (inr it.2), keeps_text (column r 5) (inr it.3), keeps_text (column r 6) (inr it.4), cast_int first_day, cast_int last_day) refl
 
-pub copies_rules : (old new : State) (count : ℕ) → IsWhole fifth old.now → old.now.trees 23 ≡ [] → Executes copy_rules_text [] old new (Ok count)
-    → Sets fifth 23 (map moved_rule (old.now.trees 3)) old.now new.now
+pub copies_rules : (old new : State) (count : ℕ) → IsWhole fifth old.now → old.now.trees rule_tree ≡ [] → Executes copy_rules_text [] old new (Ok count)
+    → Sets fifth rule_tree (map moved_rule (old.now.trees old_rule_tree)) old.now new.now
 copies_rules = takes_over fifth idle rule_table 2 refl (λ db whole. whole.shaped.1.1.0) rule_5_table 10 refl refl refl copied_rule (Binary ∷ eight) moved_rule copy_rules_text moving_meanings.copy_rules_means
-    (λ db whole r there. moves_row r (all_has IsStored (db.trees 3) r (stored_rows db whole) there)) (λ r. refl)
+    (λ db whole r there. moves_row r (all_has IsStored (db.trees old_rule_tree) r (stored_rows db whole) there)) (λ r. refl)
 
-pub empties_rules : (old new : State) (count : ℕ) → IsWhole fifth old.now → Executes empty_rules_text [] old new (Ok count) → Sets fifth 3 [] old.now new.now
+pub empties_rules : (old new : State) (count : ℕ) → IsWhole fifth old.now → Executes empty_rules_text [] old new (Ok count) → Sets fifth old_rule_tree [] old.now new.now
 empties_rules = empties fifth idle rule_table 2 refl (λ db whole. whole.shaped.1.1.0) empty_rules_text moving_meanings.empty_rules_means
 
 -- the rules are copied into the table that was made, and their old table is emptied; each other table has its place here
 module _ (d0 d1 : Database) (grown : Grows (schema_at Fourth) fifth d0 d1) where
-  pub new_is_empty : d1.trees 23 ≡ []
+  pub new_is_empty : d1.trees rule_tree ≡ []
   new_is_empty = starts_empty (schema_at Fourth) fifth rule_table rule_5_table refl refl d0 d1 grown (ap (drop 10) grown.tables)
 
-  pub rules_moved : (rows : AllRows) (d2 d3 : Database) → BecomesAt Fourth d0 rows → Sets fifth 23 (map moved_rule (d1.trees 3)) d1 d2 → Sets fifth 3 [] d2 d3 → BecomesAt Fifth d3 rows
+  pub rules_moved : (rows : AllRows) (d2 d3 : Database) → BecomesAt Fourth d0 rows → Sets fifth rule_tree (map moved_rule (d1.trees old_rule_tree)) d1 d2 → Sets fifth old_rule_tree [] d2 d3 → BecomesAt Fifth d3 rows
   rules_moved rows d2 d3 was copied emptied =
-      let typed : map rule_in (d3.trees 23) ≡ map old_rule_in (d0.trees 3) =
+      let typed : map rule_in (d3.trees rule_tree) ≡ map old_rule_in (d0.trees old_rule_tree) =
       rows_taken (schema_at Fourth) fifth rule_table rule_5_table refl refl d0 d1 grown (ap (drop 10) grown.tables) moved_rule d2 d3 copied emptied rule_in grown.kept.1.1.0 in
       let o = others_kept (schema_at Fourth) fifth rule_table rule_5_table refl refl d0 d1 grown (ap (drop 10) grown.tables) moved_rule d2 d3 copied emptied in
       let same : rows_at Fifth d3 ≡ rows_at Fourth d0 = rw (typed, o.0, o.1.0, o.1.1.1.0, o.1.1.1.1.0, o.1.1.1.1.1.0, o.1.1.1.1.1.1.0, o.1.1.1.1.1.1.1.1.0, o.1.1.1.1.1.1.1.1.1.0) refl in
-      let still : d3.trees 12 ≡ [] = o.1.1.1.1.1.1.1.0 ∙ was.office.emptied.0 in
+      let still : d3.trees old_hold_tree ≡ [] = o.1.1.1.1.1.1.1.0 ∙ was.office.emptied.0 in
       record { office = record { whole = emptied.whole; emptied = (still, (o.1.1.0, tt)) }; are = same ∙ was.are }

@@ -11,6 +11,7 @@ use Rattle.sqlite.specs.Collation.{Collation}
 use Rattle.sqlite.specs.Collation.TheVariants.{Binary}
 use Rattle.sql_meaning.proofs.RowidKeys.{by_number, rising}
 use Rattle.sql_meaning.proofs.Writing.{Means}
+use Rattle.office_tables.specs.Schema.{office_tree, old_rule_tree, old_hold_tree}
 use Rattle.office_tables.specs.Versions.{schema_at}
 use Rattle.office_tables.specs.declared.version.TableVersion.TheVariants.{Fourth, Fifth}
 
@@ -46,11 +47,11 @@ versioned = col 1 0 ∷ col 1 0 ∷ lit Null ∷ col 0 1 ∷ col 1 3 ∷ col 1 4
 -- ---- what each means
 
 pub record MovingMeanings : Type 0 where
-  pub copy_holds_means : Means (schema_at Fourth) copy_holds_text (Insert 9 (Query (as_program (noting eight (scan 12 [] copied_hold rising)))))
-  pub empty_holds_means : Means (schema_at Fourth) empty_holds_text (Delete 7 (as_program (scan 12 [] (col 1 0 ∷ []) [])))
-  pub copy_rules_means : Means (schema_at Fifth) copy_rules_text (Insert 10 (Query (as_program (noting (Binary ∷ eight) (scan 3 [] copied_rule rising)))))
-  pub empty_rules_means : Means (schema_at Fifth) empty_rules_text (Delete 2 (as_program (scan 3 [] (col 1 0 ∷ []) [])))
-  pub version_means : Means (schema_at Fifth) version_text (Update 0 (as_program (scan 0 by_number versioned [])))
+  pub copy_holds_means : Means (schema_at Fourth) copy_holds_text (Insert 9 (Query (as_program (noting eight (scan old_hold_tree [] copied_hold rising)))))
+  pub empty_holds_means : Means (schema_at Fourth) empty_holds_text (Delete 7 (as_program (scan old_hold_tree [] (col 1 0 ∷ []) [])))
+  pub copy_rules_means : Means (schema_at Fifth) copy_rules_text (Insert 10 (Query (as_program (noting (Binary ∷ eight) (scan old_rule_tree [] copied_rule rising)))))
+  pub empty_rules_means : Means (schema_at Fifth) empty_rules_text (Delete 2 (as_program (scan old_rule_tree [] (col 1 0 ∷ []) [])))
+  pub version_means : Means (schema_at Fifth) version_text (Update 0 (as_program (scan office_tree by_number versioned [])))
 
 pub moving_meanings : MovingMeanings
 unfolding understood everything

@@ -9,7 +9,7 @@ use Rattle.sqlite_tied.specs.Compute.{everything}
 use Rattle.sql_meaning.proofs.Scanning.{shown_of}
 use Rattle.sql_meaning.proofs.Reading.{Asks, finds_part}
 use Rattle.sql_meaning.proofs.RowidKeys.{by_number, has_number}
-use Rattle.office_tables.specs.Schema.{office_schema}
+use Rattle.office_tables.specs.Schema.{office_schema, office_tree}
 use Rattle.office_rows.specs.Rows.{is_office_row, limits_in, limits_of}
 use Rattle.office_tables.specs.Tables.{IsOffice, tables_of, office_in, shown_limits}
 use Rattle.office_tables.proofs.RowsRead.{reads_numbered}
@@ -20,7 +20,7 @@ limits_text = codes "SELECT max_deposits, max_holds FROM office WHERE id = ?1"
 abbrev limit_columns : List Term
 limit_columns = col 1 3 ∷ col 1 4 ∷ []
 
-asks_limits : Asks office_schema limits_text 0 by_number limit_columns []
+asks_limits : Asks office_schema limits_text office_tree by_number limit_columns []
 unfolding understood everything
 asks_limits = record { names = codes "max_deposits" ∷ codes "max_holds" ∷ []; command = refl; unlisted = refl; plain = (refl, refl) }
 
@@ -28,4 +28,4 @@ pub finds_limits : (old new : State) (rows : List Row) → IsOffice old.now → 
     → (new.now ≡ old.now) × (limits_of (tables_of old.now) ≡ option_map shown_limits (slice_get rows 0))
 finds_limits old new rows office h =
     let read = reads_numbered old new rows office asks_limits (pos 1) office.whole.shaped.0 h in
-    (read.0, finds_part (old.now.trees 0) rows (has_number (pos 1)) (shown_of (Int (pos 1) ∷ []) limit_columns) office_in is_office_row (λ r. refl) read.1 limits_in shown_limits (λ r. refl))
+    (read.0, finds_part (old.now.trees office_tree) rows (has_number (pos 1)) (shown_of (Int (pos 1) ∷ []) limit_columns) office_in is_office_row (λ r. refl) read.1 limits_in shown_limits (λ r. refl))

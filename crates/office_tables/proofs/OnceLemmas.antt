@@ -7,7 +7,7 @@ use Rattle.sql_meaning.proofs.Scanning.{scan, as_program}
 use Rattle.sql_meaning.proofs.RowidKeys.{by_number}
 use Rattle.sql_meaning.proofs.TextKeys.{by_text}
 use Rattle.sql_meaning.proofs.Writing.{inserts, updates, deletes}
-use Rattle.office_tables.specs.Schema.{office_schema, caller_table, rule_5_table, collection_table, deposit_table, hold_4_table}
+use Rattle.office_tables.specs.Schema.{office_schema, caller_table, rule_5_table, collection_table, deposit_table, hold_4_table, caller_tree, deposit_tree, hold_tree, rule_tree}
 use Rattle.office_tables.specs.Tables.{IsOffice}
 use Rattle.office_tables.specs.Contents.{KeepsOnce}
 use Rattle.office_tables.proofs.Frames.{idle, leaves_once}
@@ -21,10 +21,10 @@ use Rattle.office_tables.proofs.DepositTexts.{deposit_with}
 use Rattle.sqlite.specs.declared.types.Value.TheVariants.{Null}
 
 pub drop_callers_once : (params : Row) (old new : State) (count : ℕ) → IsOffice old.now → Executes drop_callers_text params old new (Ok count) → KeepsOnce old.now → KeepsOnce new.now
-drop_callers_once params old new count office h = leaves_once old new _ count _ (deletes drop_callers_text params old new office_schema office.whole.schema_is 1 caller_table refl idle (as_program (scan 1 [] (col 1 0 ∷ []) [])) policy_meanings.drop_callers_means count h).2
+drop_callers_once params old new count office h = leaves_once old new _ count _ (deletes drop_callers_text params old new office_schema office.whole.schema_is 1 caller_table refl idle (as_program (scan caller_tree [] (col 1 0 ∷ []) [])) policy_meanings.drop_callers_means count h).2
 
 pub drop_rules_once : (params : Row) (old new : State) (count : ℕ) → IsOffice old.now → Executes drop_rules_text params old new (Ok count) → KeepsOnce old.now → KeepsOnce new.now
-drop_rules_once params old new count office h = leaves_once old new _ count _ (deletes drop_rules_text params old new office_schema office.whole.schema_is 10 rule_5_table refl idle (as_program (scan 23 [] (col 1 0 ∷ []) [])) policy_meanings.drop_rules_means count h).2
+drop_rules_once params old new count office h = leaves_once old new _ count _ (deletes drop_rules_text params old new office_schema office.whole.schema_is 10 rule_5_table refl idle (as_program (scan rule_tree [] (col 1 0 ∷ []) [])) policy_meanings.drop_rules_means count h).2
 
 pub add_caller_once : (params : Row) (old new : State) (count : ℕ) → IsOffice old.now → Executes add_caller_text params old new (Ok count) → KeepsOnce old.now → KeepsOnce new.now
 add_caller_once params old new count office h = leaves_once old new _ count _ (inserts add_caller_text params old new office_schema office.whole.schema_is 1 caller_table refl idle (all_given 2) 3 policy_meanings.add_caller_means refl refl count h)
@@ -39,25 +39,25 @@ pub add_deposit_once : (params : Row) (old new : State) (count : ℕ) → IsOffi
 add_deposit_once params old new count office h = leaves_once old new _ count _ (inserts deposits.put_text params old new office_schema office.whole.schema_is 5 deposit_table refl idle deposits.put_terms 12 deposits.deposit_meanings.put_means refl refl count h)
 
 pub mark_gone_once : (params : Row) (old new : State) (count : ℕ) → IsOffice old.now → Executes deposits.gone_text params old new (Ok count) → KeepsOnce old.now → KeepsOnce new.now
-mark_gone_once params old new count office h = leaves_once old new _ count _ (updates deposits.gone_text params old new office_schema office.whole.schema_is 5 deposit_table refl idle (as_program (scan 8 by_number (deposit_with 9 (col 0 1)) [])) deposits.deposit_meanings.gone_means count h).2
+mark_gone_once params old new count office h = leaves_once old new _ count _ (updates deposits.gone_text params old new office_schema office.whole.schema_is 5 deposit_table refl idle (as_program (scan deposit_tree by_number (deposit_with 9 (col 0 1)) [])) deposits.deposit_meanings.gone_means count h).2
 
 pub set_day_once : (params : Row) (old new : State) (count : ℕ) → IsOffice old.now → Executes dues.set_due_text params old new (Ok count) → KeepsOnce old.now → KeepsOnce new.now
-set_day_once params old new count office h = leaves_once old new _ count _ (updates dues.set_due_text params old new office_schema office.whole.schema_is 5 deposit_table refl idle (as_program (scan 8 by_number (deposit_with 10 (col 0 1)) [])) dues.due_meanings.set_due_means count h).2
+set_day_once params old new count office h = leaves_once old new _ count _ (updates dues.set_due_text params old new office_schema office.whole.schema_is 5 deposit_table refl idle (as_program (scan deposit_tree by_number (deposit_with 10 (col 0 1)) [])) dues.due_meanings.set_due_means count h).2
 
 pub clear_day_once : (params : Row) (old new : State) (count : ℕ) → IsOffice old.now → Executes dues.clear_due_text params old new (Ok count) → KeepsOnce old.now → KeepsOnce new.now
-clear_day_once params old new count office h = leaves_once old new _ count _ (updates dues.clear_due_text params old new office_schema office.whole.schema_is 5 deposit_table refl idle (as_program (scan 8 by_number (deposit_with 10 (lit Null)) [])) dues.due_meanings.clear_due_means count h).2
+clear_day_once params old new count office h = leaves_once old new _ count _ (updates dues.clear_due_text params old new office_schema office.whole.schema_is 5 deposit_table refl idle (as_program (scan deposit_tree by_number (deposit_with 10 (lit Null)) [])) dues.due_meanings.clear_due_means count h).2
 
 pub set_holds_once : (params : Row) (old new : State) (count : ℕ) → IsOffice old.now → Executes dues.set_holds_text params old new (Ok count) → KeepsOnce old.now → KeepsOnce new.now
-set_holds_once params old new count office h = leaves_once old new _ count _ (updates dues.set_holds_text params old new office_schema office.whole.schema_is 5 deposit_table refl idle (as_program (scan 8 by_number (deposit_with 11 (col 0 1)) [])) dues.due_meanings.set_holds_means count h).2
+set_holds_once params old new count office h = leaves_once old new _ count _ (updates dues.set_holds_text params old new office_schema office.whole.schema_is 5 deposit_table refl idle (as_program (scan deposit_tree by_number (deposit_with 11 (col 0 1)) [])) dues.due_meanings.set_holds_means count h).2
 
 pub add_holds_once : (params : Row) (old new : State) (count : ℕ) → IsOffice old.now → Executes dues.add_holds_text params old new (Ok count) → KeepsOnce old.now → KeepsOnce new.now
-add_holds_once params old new count office h = leaves_once old new _ count _ (updates dues.add_holds_text params old new office_schema office.whole.schema_is 5 deposit_table refl idle (as_program (scan 8 (by_text 3) dues.more_columns [])) dues.due_meanings.add_holds_means count h).2
+add_holds_once params old new count office h = leaves_once old new _ count _ (updates dues.add_holds_text params old new office_schema office.whole.schema_is 5 deposit_table refl idle (as_program (scan deposit_tree (by_text 3) dues.more_columns [])) dues.due_meanings.add_holds_means count h).2
 
 pub add_holds_class_once : (params : Row) (old new : State) (count : ℕ) → IsOffice old.now → Executes dues.add_holds_class_text params old new (Ok count) → KeepsOnce old.now → KeepsOnce new.now
-add_holds_class_once params old new count office h = leaves_once old new _ count _ (updates dues.add_holds_class_text params old new office_schema office.whole.schema_is 5 deposit_table refl idle (as_program (scan 8 (by_text 4) dues.more_columns [])) dues.due_meanings.add_holds_class_means count h).2
+add_holds_class_once params old new count office h = leaves_once old new _ count _ (updates dues.add_holds_class_text params old new office_schema office.whole.schema_is 5 deposit_table refl idle (as_program (scan deposit_tree (by_text 4) dues.more_columns [])) dues.due_meanings.add_holds_class_means count h).2
 
 pub add_hold_once : (params : Row) (old new : State) (count : ℕ) → IsOffice old.now → Executes holds.put_text params old new (Ok count) → KeepsOnce old.now → KeepsOnce new.now
 add_hold_once params old new count office h = leaves_once old new _ count _ (inserts holds.put_text params old new office_schema office.whole.schema_is 9 hold_4_table refl idle holds.hold_terms 8 holds.hold_meanings.put_means refl refl count h)
 
 pub end_hold_once : (params : Row) (old new : State) (count : ℕ) → IsOffice old.now → Executes holds.end_text params old new (Ok count) → KeepsOnce old.now → KeepsOnce new.now
-end_hold_once params old new count office h = leaves_once old new _ count _ (updates holds.end_text params old new office_schema office.whole.schema_is 9 hold_4_table refl idle (as_program (scan 19 by_number holds.ended_columns [])) holds.hold_meanings.end_means count h).2
+end_hold_once params old new count office h = leaves_once old new _ count _ (updates holds.end_text params old new office_schema office.whole.schema_is 9 hold_4_table refl idle (as_program (scan hold_tree by_number holds.ended_columns [])) holds.hold_meanings.end_means count h).2

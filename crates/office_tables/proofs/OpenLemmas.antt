@@ -34,7 +34,7 @@ use Rattle.sql_meaning.proofs.Whole.{keeps_rule}
 use Rattle.sqlite.specs.Table.{Table}
 use Rattle.sqlite_schema.specs.declared.schema.Index.{Index}
 use Rattle.sql_meaning.specs.Whole.{IsWhole}
-use Rattle.office_tables.specs.Schema.{office_table}
+use Rattle.office_tables.specs.Schema.{office_table, office_tree}
 use Rattle.office_rows.specs.Rows.{OfficeRow, is_known, version_of}
 use Rattle.office_tables.specs.Versions.{schema_at, tables_at}
 use Rattle.office_tables.specs.declared.version.TableVersion.{TableVersion}
@@ -51,10 +51,10 @@ IsOfficeRow r = (column r 2 ≡ Int (int_at r 2)) × (column r 3 ≡ Int (int_at
 abbrev with_office : List Table → List Index → Schema
 with_office more indexes = record { tables = office_table ∷ more; indexes = indexes; views = [] }
 
-office_rows : (more : List Table) (indexes : List Index) (db : Database) → IsWhole (with_office more indexes) db → AllByRecursion IsOfficeRow (db.trees 0)
+office_rows : (more : List Table) (indexes : List Index) (db : Database) → IsWhole (with_office more indexes) db → AllByRecursion IsOfficeRow (db.trees office_tree)
 office_rows more indexes db office = all_both (λ r t p.
     let at = typed_at (with_office more indexes) db.trees office_table r t p in
-    (at 1 refl, at 2 refl, at 3 refl)) (db.trees 0) (keeps_rule office Datatype).0 (keeps_rule office NotNull).0
+    (at 1 refl, at 2 refl, at 3 refl)) (db.trees office_tree) (keeps_rule office Datatype).0 (keeps_rule office NotNull).0
 
 -- the schema of each version has the table
 at_once : (version : TableVersion) → has_office (schema_at version) ≡ true
@@ -74,18 +74,18 @@ look_columns = col 1 0 ∷ col 1 2 ∷ col 1 3 ∷ col 1 4 ∷ []
 abbrev by_version : List (Term × Key)
 by_version = (col 1 2, record { collation = Binary; descending = false }) ∷ []
 
-asks_look : (version : TableVersion) → Asks (schema_at version) look_text 0 [] look_columns by_version
+asks_look : (version : TableVersion) → Asks (schema_at version) look_text office_tree [] look_columns by_version
 unfolding understood everything
 asks_look Third = record { names = codes "id" ∷ codes "version" ∷ codes "max_deposits" ∷ codes "max_holds" ∷ []; command = refl; unlisted = refl; plain = (refl, refl) }
 asks_look Fourth = record { names = codes "id" ∷ codes "version" ∷ codes "max_deposits" ∷ codes "max_holds" ∷ []; command = refl; unlisted = refl; plain = (refl, refl) }
 asks_look Fifth = record { names = codes "id" ∷ codes "version" ∷ codes "max_deposits" ∷ codes "max_holds" ∷ []; command = refl; unlisted = refl; plain = (refl, refl) }
 
-look_scans : (schema : Schema) → Asks schema look_text 0 [] look_columns by_version → (db : Database) → db.schema ≡ schema → (rows : List Row) → Looks db rows → Scans db.trees [] 0 [] look_columns by_version rows
+look_scans : (schema : Schema) → Asks schema look_text office_tree [] look_columns by_version → (db : Database) → db.schema ≡ schema → (rows : List Row) → Looks db rows → Scans db.trees [] office_tree [] look_columns by_version rows
 look_scans schema asks db has rows look =
     let known : understood schema look_text ≡ Ok look.0 = ap (λ s. understood s look_text) (sym has) ∙ look.2 in
     let source : look.1 ≡ db = subst (λ b. IsSourceOf b db look.1) (ap (λ s. reads_listing s look_text) has ∙ asks.unlisted) look.3 in
-    let answer : Reads (Select (as_program (scan 0 [] look_columns by_version)) asks.names) db [] rows = subst₂ (λ k d. Reads k d [] rows) (sym (ap command_of known) ∙ asks.command) source look.4 in
-    scanned db.trees [] 0 [] look_columns by_version rows answer.answer
+    let answer : Reads (Select (as_program (scan office_tree [] look_columns by_version)) asks.names) db [] rows = subst₂ (λ k d. Reads k d [] rows) (sym (ap command_of known) ∙ asks.command) source look.4 in
+    scanned db.trees [] office_tree [] look_columns by_version rows answer.answer
 
 -- ---- what is tested of a row is what is tested of the typed one
 
@@ -105,37 +105,37 @@ shows_is : (r : Row) → IsOfficeRow r → IsTrue (is_int (rowid r)) → shows_o
 shows_is r it whole =
     ap₂ ◌&&◌ (ap is_one (int_is (rowid r) whole) ∙ one_is (int_at r 0)) (ap₂ ◌&&◌ (ap is_whole it.0) (ap₂ ◌&&◌ (ap is_limit_told it.1) (ap is_limit_told it.2)))
 
-module _ (more : List Table) (indexes : List Index) (asks : Asks (with_office more indexes) look_text 0 [] look_columns by_version) (db : Database) (office : IsWhole (with_office more indexes) db) where
+module _ (more : List Table) (indexes : List Index) (asks : Asks (with_office more indexes) look_text office_tree [] look_columns by_version) (db : Database) (office : IsWhole (with_office more indexes) db) where
   abbrev known : Row → Bool
   known r = is_known (office_in r)
 
-  told : (r : Row) → Has (db.trees 0) r → shows_office (shown_of [] look_columns r) ≡ known r
-  told r there = shows_is r (all_has IsOfficeRow (db.trees 0) r (office_rows more indexes db office) there) (all_has _ (db.trees 0) r office.shaped.0.1 there)
+  told : (r : Row) → Has (db.trees office_tree) r → shows_office (shown_of [] look_columns r) ≡ known r
+  told r there = shows_is r (all_has IsOfficeRow (db.trees office_tree) r (office_rows more indexes db office) there) (all_has _ (db.trees office_tree) r office.shaped.0.1 there)
 
-  found : find is_known (map office_in (db.trees 0)) ≡ option_map office_in (slice_get (filter known (db.trees 0)) 0)
-  found = found_by is_known known office_in (db.trees 0) (all_from _ (db.trees 0) (λ r there. refl))
+  found : find is_known (map office_in (db.trees office_tree)) ≡ option_map office_in (slice_get (filter known (db.trees office_tree)) 0)
+  found = found_by is_known known office_in (db.trees office_tree) (all_from _ (db.trees office_tree) (λ r there. refl))
 
-  every : AllByRecursion (λ r. passes [] [] r ≡ true) (db.trees 0)
-  every = all_from _ (db.trees 0) (λ r there. refl)
+  every : AllByRecursion (λ r. passes [] [] r ≡ true) (db.trees office_tree)
+  every = all_from _ (db.trees office_tree) (λ r there. refl)
 
-  alike : (x y : Row) → Has (db.trees 0) x → Has (db.trees 0) y → known x ≡ true → known y ≡ true → x ≡ y
-  alike x y hx hy kx ky = one_numbered (db.trees 0) office.shaped.0 (pos 1) x y hx hy (and_parts _ _ kx).0 (and_parts _ _ ky).0
+  alike : (x y : Row) → Has (db.trees office_tree) x → Has (db.trees office_tree) y → known x ≡ true → known y ≡ true → x ≡ y
+  alike x y hx hy kx ky = one_numbered (db.trees office_tree) office.shaped.0 (pos 1) x y hx hy (and_parts _ _ kx).0 (and_parts _ _ ky).0
 
-  shows_first : (told_version : Option ℤ) → ShowsVersion db told_version → option_map (λ (o : OfficeRow). o.version) (find is_known (map office_in (db.trees 0))) ≡ told_version
+  shows_first : (told_version : Option ℤ) → ShowsVersion db told_version → option_map (λ (o : OfficeRow). o.version) (find is_known (map office_in (db.trees office_tree))) ≡ told_version
   shows_first None shown =
       let scans = look_scans (with_office more indexes) asks db office.schema_is shown.0 shown.1 in
       let each = all_passed_over shown.0 shown.2 in
-      let none : filter known (db.trees 0) ≡ [] = none_pass known (db.trees 0) (λ r there.
-      sym (told r there) ∙ all_has (λ row. shows_office row ≡ false) shown.0 (shown_of [] look_columns r) each (answer_complete db.trees [] 0 [] look_columns by_version shown.0 (λ r. true) scans every r there refl)) in
+      let none : filter known (db.trees office_tree) ≡ [] = none_pass known (db.trees office_tree) (λ r there.
+      sym (told r there) ∙ all_has (λ row. shows_office row ≡ false) shown.0 (shown_of [] look_columns r) each (answer_complete db.trees [] office_tree [] look_columns by_version shown.0 (λ r. true) scans every r there refl)) in
       ap (option_map (λ (o : OfficeRow). o.version)) (found ∙ ap (λ rs. option_map office_in (slice_get rs 0)) none)
   shows_first (Some version) shown =
       let scans = look_scans (with_office more indexes) asks db office.schema_is shown.0 shown.2 in
       let first = known_there shown.0 shown.1 shown.3 in
-      let it = answer_sound db.trees [] 0 [] look_columns by_version shown.0 (λ r. true) scans every shown.1 first.0 in
+      let it = answer_sound db.trees [] office_tree [] look_columns by_version shown.0 (λ r. true) scans every shown.1 first.0 in
       let is : known it.0 ≡ true = sym (told it.0 it.1) ∙ ap shows_office (sym it.3) ∙ first.1 in
-      let typed = all_has IsOfficeRow (db.trees 0) it.0 (office_rows more indexes db office) it.1 in
-      let one : filter known (db.trees 0) ≡ it.0 ∷ [] = elim (lone known (db.trees 0) (db.trees 0) office.shaped.0.0 (λ r there. there) alike) [
-        | inl none ↦ absurd (let within = subst (λ rs. Has rs it.0) none (has_kept known (db.trees 0) it.0 it.1 is) in within)
+      let typed = all_has IsOfficeRow (db.trees office_tree) it.0 (office_rows more indexes db office) it.1 in
+      let one : filter known (db.trees office_tree) ≡ it.0 ∷ [] = elim (lone known (db.trees office_tree) (db.trees office_tree) office.shaped.0.0 (λ r there. there) alike) [
+        | inl none ↦ absurd (let within = subst (λ rs. Has rs it.0) none (has_kept known (db.trees office_tree) it.0 it.1 is) in within)
         | inr single ↦ single.3 ∙ ap (λ r. r ∷ []) (alike single.0 it.0 single.1 it.1 single.2 is)
       ] in
       let told_is : Int (int_at it.0 2) ≡ Int version = sym typed.0 ∙ ap (λ row. column row 1) (sym it.3) ∙ shown.4 in

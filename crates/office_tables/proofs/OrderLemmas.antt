@@ -14,6 +14,7 @@ use Rattle.sqlite_rules.specs.Lists.{Has}
 use Rattle.sqlite_rules.proofs.ListLemmas.{all_has}
 use Rattle.sql_meaning.specs.Columns.{int_at}
 use Rattle.office_rows.specs.Rows.{NumbersRise, AreInOrder, live_holds}
+use Rattle.office_tables.specs.Schema.{deposit_tree, hold_tree, rule_tree}
 use Rattle.office_tables.specs.Tables.{IsOffice, tables_of, deposit_in, hold_in, rule_in}
 use Rattle.office_tables.proofs.InOrder.{IsNumbered, same_order}
 use Rattle.office_tables.proofs.HoldLemmas.{live_rise}
@@ -31,9 +32,9 @@ module _ {Y : Type 0} (decode : Row → Y) (number : Y → ℤ) (numbers : (r : 
 
 pub in_order : (db : Database) → IsOffice db → AreInOrder (tables_of db)
 in_order db office = record {
-  deposits = rises deposit_in (λ d. d.number) (λ r. refl) (db.trees 8) office.whole.shaped.1.1.1.1.1.0;
-  holds = rises hold_in (λ h. h.number) (λ r. refl) (db.trees 19) office.whole.shaped.1.1.1.1.1.1.1.1.1.0;
-  rules = rises rule_in (λ r. r.place) (λ r. refl) (db.trees 23) office.whole.shaped.1.1.1.1.1.1.1.1.1.1.0;
+  deposits = rises deposit_in (λ d. d.number) (λ r. refl) (db.trees deposit_tree) office.whole.shaped.1.1.1.1.1.0;
+  holds = rises hold_in (λ h. h.number) (λ r. refl) (db.trees hold_tree) office.whole.shaped.1.1.1.1.1.1.1.1.1.0;
+  rules = rises rule_in (λ r. r.place) (λ r. refl) (db.trees rule_tree) office.whole.shaped.1.1.1.1.1.1.1.1.1.1.0;
 }
 
 ascending_numbers : (ns : List ℤ) → IsAscending (λ a b. int_cmp a b ≡ Less) ns → NumbersRise (λ n. n) ns

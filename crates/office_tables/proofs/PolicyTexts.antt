@@ -11,7 +11,7 @@ use Rattle.sql_meaning.proofs.Reading.{Asks}
 use Rattle.sql_meaning.proofs.RowidKeys.{rising}
 use Rattle.sql_meaning.proofs.TextKeys.{by_text}
 use Rattle.sql_meaning.proofs.Writing.{Means}
-use Rattle.office_tables.specs.Schema.{office_schema}
+use Rattle.office_tables.specs.Schema.{office_schema, caller_tree, rule_tree}
 use Rattle.office_tables.proofs.Columns.{only, all_given}
 
 abbrev pub role_text : List ℕ
@@ -41,10 +41,10 @@ rule_terms = col 0 0 ∷ lit Null ∷ col 0 1 ∷ col 0 2 ∷ col 0 3 ∷ col 0 
 -- ---- what each means
 
 pub record PolicyMeanings : Type 0 where
-  pub asks_role : Asks office_schema role_text 1 (by_text 1) (only 2) []
-  pub asks_rules : Asks office_schema rules_text 23 [] rule_columns rising
-  pub drop_callers_means : Means office_schema drop_callers_text (Delete 1 (as_program (scan 1 [] (col 1 0 ∷ []) [])))
-  pub drop_rules_means : Means office_schema drop_rules_text (Delete 10 (as_program (scan 23 [] (col 1 0 ∷ []) [])))
+  pub asks_role : Asks office_schema role_text caller_tree (by_text 1) (only 2) []
+  pub asks_rules : Asks office_schema rules_text rule_tree [] rule_columns rising
+  pub drop_callers_means : Means office_schema drop_callers_text (Delete 1 (as_program (scan caller_tree [] (col 1 0 ∷ []) [])))
+  pub drop_rules_means : Means office_schema drop_rules_text (Delete 10 (as_program (scan rule_tree [] (col 1 0 ∷ []) [])))
   pub add_caller_means : Means office_schema add_caller_text (Insert 1 (Values (all_given 2) 3))
   pub add_rule_means : Means office_schema add_rule_text (Insert 10 (Values rule_terms 9))
 

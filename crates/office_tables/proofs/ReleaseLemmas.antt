@@ -21,7 +21,7 @@ use Rattle.sql_meaning.proofs.Limited.{AsksSome, reads_some}
 use Rattle.sql_meaning.proofs.Scanning.{passes}
 use Rattle.office_rows.specs.Rows.{HoldRow, holds_class, holds_collection, holds_deposit}
 use Rattle.office_tables.specs.Releases.{is_outside, is_outside_of, is_over}
-use Rattle.office_tables.specs.Schema.{office_schema}
+use Rattle.office_tables.specs.Schema.{office_schema, hold_tree}
 use Rattle.office_tables.specs.Tables.{IsOffice, tables_of, hold_in}
 use Rattle.office_tables.proofs.HoldLemmas.{IsStoredHold, deposit_is, hold_rows, text_is}
 use Rattle.office_tables.proofs.HoldTexts.{outside_of, outside_text, hold_meanings}
@@ -60,18 +60,18 @@ passes_outside : (place : ℕ) (v : Value) (named : Bool) (first last : ℤ) (r 
 passes_outside place v named first last r it is = ap₂ (λ a b. a && (b && true)) is (outside_is (column r 7) first last it.5) ∙ and_end _ _
 
 -- whether one passes, of the holds that are on this
-module _ (old new : State) (text : List ℕ) (place : ℕ) (asks : AsksSome office_schema text 19 (outside_of place) (only 0)) (v : Value) (first last : ℤ) (rows : List Row)
+module _ (old new : State) (text : List ℕ) (place : ℕ) (asks : AsksSome office_schema text hold_tree (outside_of place) (only 0)) (v : Value) (first last : ℤ) (rows : List Row)
     (office : IsOffice old.now) (h : Shown text (v ∷ Int first ∷ Int last ∷ []) old new rows) where
   tells_outside : (those : HoldRow → Bool) → ((r : Row) → IsStoredHold r → is_true (binary (Compare Eq Binary) (column r place) v) ≡ those (hold_in r))
       → (new.now ≡ old.now) × (list_any (is_outside_of those first last) (tables_of old.now).holds ≡ list_any (λ r. true) rows)
   tells_outside those names =
-      let stored = old.now.trees 19 in
+      let stored = old.now.trees hold_tree in
       let params : Row = v ∷ Int first ∷ Int last ∷ [] in
       let p : HoldRow → Bool = is_outside_of those first last in
       let each = all_from (λ r. passes params (outside_of place) r ≡ p (hold_in r)) stored (λ r there.
       let it = all_has IsStoredHold stored r (hold_rows old.now office) there in
       passes_outside place v (those (hold_in r)) first last r it (names r it)) in
-      let some = reads_some office_schema text 19 (outside_of place) (only 0) asks params old new office.whole.schema_is rows h (λ r. p (hold_in r)) each in
+      let some = reads_some office_schema text hold_tree (outside_of place) (only 0) asks params old new office.whole.schema_is rows h (λ r. p (hold_in r)) each in
       (some.0, any_mapped hold_in (λ r. p (hold_in r)) p (λ r. refl) stored ∙ some.1)
 
 pub tells_outside_on : (old new : State) (n first last : ℤ) (rows : List Row) → IsOffice old.now → Shown (outside_text (codes "deposit")) (Int n ∷ Int first ∷ Int last ∷ []) old new rows

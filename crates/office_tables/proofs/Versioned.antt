@@ -24,7 +24,7 @@ use Rattle.sql_meaning.proofs.Whole.{keeps_rule, sets}
 use Rattle.sql_meaning.proofs.Changing.{revises}
 use Rattle.sql_meaning.proofs.RowidKeys.{by_number, has_number, each_numbered, few_numbered}
 use Rattle.office_rows.specs.Rows.{OfficeRow, is_office_row}
-use Rattle.office_tables.specs.Schema.{office_table}
+use Rattle.office_tables.specs.Schema.{office_table, office_tree}
 use Rattle.office_tables.specs.Tables.{office_in}
 use Rattle.office_tables.specs.Moving.{AllRows, all_in_version, in_version, BecomesAt, rows_at}
 use Rattle.office_tables.specs.Versions.{schema_at}
@@ -39,10 +39,10 @@ fifth = schema_at Fifth
 abbrev IsStored : Row → Type 0
 IsStored r = (column r 2 ≡ Int (int_at r 2)) × (column r 3 ≡ Int (int_at r 3)) × (column r 4 ≡ Int (int_at r 4))
 
-stored_rows : (db : Database) → IsWhole fifth db → AllByRecursion IsStored (db.trees 0)
+stored_rows : (db : Database) → IsWhole fifth db → AllByRecursion IsStored (db.trees office_tree)
 stored_rows db whole = all_both (λ r t p.
     let at = typed_at fifth db.trees office_table r t p in
-    (at 1 refl, at 2 refl, at 3 refl)) (db.trees 0) (keeps_rule whole Datatype).0 (keeps_rule whole NotNull).0
+    (at 1 refl, at 2 refl, at 3 refl)) (db.trees office_tree) (keeps_rule whole Datatype).0 (keeps_rule whole NotNull).0
 
 abbrev set_to : ℤ → Row → Row
 set_to version r = rowid r ∷ Null ∷ Int version ∷ column r 3 ∷ column r 4 ∷ []
@@ -59,12 +59,12 @@ sets_version old new version rows count was h =
     let whole = was.office.whole in
     let shaped = whole.shaped.0 in
     let done = revises version_text (Int (pos 1) ∷ Int version ∷ []) old new fifth whole.schema_is 0 office_table refl idle shaped by_number versioned
-    (has_number (pos 1)) (each_numbered (pos 1) (Int version ∷ []) (db 0) shaped) moving_meanings.version_means (set_to version) (few_numbered (pos 1) (db 0) shaped)
-    (λ r there. (refl, cast_set version r (all_has IsStored (db 0) r (stored_rows old.now whole) there) (all_has _ (db 0) r shaped.1 there), refl)) count h in
-    let changed : Sets fifth 0 (map (λ r. if has_number (pos 1) r then set_to version r else r) (db 0)) old.now new.now = sets fifth old new (edit_of db office_table (ids_of done.answer) Given 1 done.answer) count _ done.change _ whole done.made in
+    (has_number (pos 1)) (each_numbered (pos 1) (Int version ∷ []) (db office_tree) shaped) moving_meanings.version_means (set_to version) (few_numbered (pos 1) (db office_tree) shaped)
+    (λ r there. (refl, cast_set version r (all_has IsStored (db office_tree) r (stored_rows old.now whole) there) (all_has _ (db office_tree) r shaped.1 there), refl)) count h in
+    let changed : Sets fifth office_tree (map (λ r. if has_number (pos 1) r then set_to version r else r) (db office_tree)) old.now new.now = sets fifth old new (edit_of db office_table (ids_of done.answer) Given 1 done.answer) count _ done.change _ whole done.made in
     let e = changed.given_rows in
-    let typed : map office_in (new.now.trees 0) ≡ map (in_version version) (map office_in (db 0)) =
-    ap (map office_in) e.0 ∙ decoded office_in (has_number (pos 1)) (set_to version) is_office_row (λ (o : OfficeRow). record o { version = version }) (λ r. refl) (λ r. refl) (db 0) in
+    let typed : map office_in (new.now.trees office_tree) ≡ map (in_version version) (map office_in (db office_tree)) =
+    ap (map office_in) e.0 ∙ decoded office_in (has_number (pos 1)) (set_to version) is_office_row (λ (o : OfficeRow). record o { version = version }) (λ r. refl) (λ r. refl) (db office_tree) in
     let same : rows_at Fifth new.now ≡ all_in_version version (rows_at Fifth old.now) = rw (
       typed,
       e.1.0,

@@ -11,11 +11,12 @@ use Rattle.sqlite.specs.Effect.{Database}
 use Rattle.sqlite_rules.specs.Lists.{Has}
 use Rattle.sql_meaning.specs.Columns.{int_at}
 use Rattle.office_rows.specs.Rows.{ContentRow, FileRow, content_numbered, bytes_under, next_id, with_content, is_alike, file_at, with_file, without_files}
+use Rattle.office_tables.specs.Schema.{file_tree}
 use Rattle.office_tables.specs.Tables.{IsOffice, Becomes, tables_of, contents_of}
 
 -- the number of the content of each file
 abbrev pub references_of : Database → List ℤ
-references_of db = map (λ row. int_at row 3) (db.trees 10)
+references_of db = map (λ row. int_at row 3) (db.trees file_tree)
 
 -- ---- kept once
 
@@ -106,7 +107,7 @@ pub record IsFileAdded (n : ℤ) (path : List ℕ) (id : ℤ) (old new : Databas
 pub record AreFilesDropped (n : ℤ) (old new : Database) : Type 0 where
   pub becomes : Becomes new (without_files n (tables_of old))
   pub contents : contents_of new ≡ contents_of old
-  pub references : (id : ℤ) → Has (references_of old) id → Has (references_of new) id ⊎ ((row : Row) × Has (old.trees 10) row × (int_eq (int_at row 1) n ≡ true) × (int_at row 3 ≡ id))
+  pub references : (id : ℤ) → Has (references_of old) id → Has (references_of new) id ⊎ ((row : Row) × Has (old.trees file_tree) row × (int_eq (int_at row 1) n ≡ true) × (int_at row 3 ≡ id))
 
 -- this file came at the end; its content was there under that mark, or came at the end too
 pub record IsMarkedPut (f : FileRow) (mark : List ℕ) (old new : Database) : Type 0 where

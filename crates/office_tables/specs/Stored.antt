@@ -4,6 +4,7 @@ use Rattle.sqlite.specs.Order.{Row}
 use Rattle.sqlite.specs.Effect.{Database}
 use Rattle.sql_meaning.specs.Columns.{int_at, bytes_at, maybe_int_at, maybe_bytes_at}
 use Rattle.office_rows.specs.Rows.{OfficeRow, CallerRow, RuleRow, ClassRow, DepositRow, DueRow, FileRow, HoldRow, ContentRow, bytes_under}
+use Rattle.office_tables.specs.Schema.{content_tree}
 
 -- A stored row: its first value is the rowid, which is the key of a table whose key is a whole number.
 -- There the column of the key, which comes next, is empty. So the other columns stand one place later than in a row that a query
@@ -78,4 +79,4 @@ hold_in row = hold_at 1 row
 
 -- the contents that are kept, ascending by number
 abbrev pub contents_of : Database → List ContentRow
-contents_of db = map content_in (db.trees 13)
+contents_of db = map content_in (db.trees content_tree)

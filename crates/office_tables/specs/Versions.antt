@@ -8,7 +8,7 @@ use Rattle.sqlite.specs.Schema.{Schema}
 use Rattle.sql_meaning.specs.Columns.{int_at, bytes_at, maybe_int_at, maybe_bytes_at}
 use Rattle.sql_meaning.specs.Whole.{IsWhole}
 use Rattle.office_rows.specs.Rows.{RuleRow, HoldRow, Tables}
-use Rattle.office_tables.specs.Schema.{stage, office_schema, emptied_trees}
+use Rattle.office_tables.specs.Schema.{stage, office_schema, emptied_trees, office_tree, caller_tree, old_rule_tree, class_tree, collection_tree, deposit_tree, file_tree, old_hold_tree, hold_tree, rule_tree}
 use Rattle.office_tables.specs.Stored.{office_in, caller_in, class_in, collection_in, deposit_in, due_in, file_in, rule_in, hold_in, contents_of}
 use Rattle.office_tables.specs.declared.version.TableVersion.{TableVersion}
 use Rattle.office_tables.specs.declared.version.TableVersion.TheVariants.{Third, Fourth, Fifth}
@@ -51,33 +51,33 @@ old_hold_in row = record {
 -- ---- the picture
 
 abbrev pub rules_at : TableVersion → Database → List RuleRow
-rules_at Third db = map old_rule_in (db.trees 3)
-rules_at Fourth db = map old_rule_in (db.trees 3)
-rules_at Fifth db = map rule_in (db.trees 23)
+rules_at Third db = map old_rule_in (db.trees old_rule_tree)
+rules_at Fourth db = map old_rule_in (db.trees old_rule_tree)
+rules_at Fifth db = map rule_in (db.trees rule_tree)
 
 abbrev pub holds_at : TableVersion → Database → List HoldRow
-holds_at Third db = map old_hold_in (db.trees 12)
-holds_at Fourth db = map hold_in (db.trees 19)
-holds_at Fifth db = map hold_in (db.trees 19)
+holds_at Third db = map old_hold_in (db.trees old_hold_tree)
+holds_at Fourth db = map hold_in (db.trees hold_tree)
+holds_at Fifth db = map hold_in (db.trees hold_tree)
 
 -- versions differ in the rules and in the holds alone
 abbrev pub tables_at : TableVersion → Database → Tables
 tables_at version db = record {
-  office = map office_in (db.trees 0);
-  callers = map caller_in (db.trees 1);
+  office = map office_in (db.trees office_tree);
+  callers = map caller_in (db.trees caller_tree);
   rules = rules_at version db;
-  classes = map class_in (db.trees 4);
-  collections = map collection_in (db.trees 6);
-  deposits = map deposit_in (db.trees 8);
-  dues = map due_in (db.trees 8);
-  files = map (file_in (contents_of db)) (db.trees 10);
+  classes = map class_in (db.trees class_tree);
+  collections = map collection_in (db.trees collection_tree);
+  deposits = map deposit_in (db.trees deposit_tree);
+  dues = map due_in (db.trees deposit_tree);
+  files = map (file_in (contents_of db)) (db.trees file_tree);
   holds = holds_at version db;
 }
 
 -- the tables that the version has no more, which stay empty
 abbrev pub emptied_at : TableVersion → List ℕ
 emptied_at Third = []
-emptied_at Fourth = 12 ∷ []
+emptied_at Fourth = old_hold_tree ∷ []
 emptied_at Fifth = emptied_trees
 
 -- the database has the tables of this version, each of their rules holds, and what an older version had instead is

@@ -6,6 +6,7 @@ ghost use Rattle.std.specs.Ordering.{int_eq};
 ghost use Rattle.sqlite_rules.specs.Lists.{Has};
 ghost use Rattle.sql_meaning.specs.Columns.{int_at, bytes_at};
 ghost use Rattle.office_rows.specs.Rows.{content_numbered, is_content, is_alike, last_number};
+ghost use Rattle.office_tables.specs.Schema.{file_tree};
 ghost use Rattle.office_tables.specs.Faults.{IsFailure};
 ghost use Rattle.office_tables.specs.Tables.{contents_of};
 ghost use Rattle.office_tables.specs.Calls.{GoesOnInTurn, GoesOnInside};
@@ -76,7 +77,7 @@ fn rows_of_users<S: Alter>(tx: &mut Transaction<'_, S>, id: i64) -> Result<Vec<R
     ensures inside { GoesOnInside S.Store tx.old.conn tx.new.conn result }
     ensures found { Does S.Store tx.old.conn.now tx.new.conn.now result (λ old new rows.
         (new ≡ old)
-        × (list_any (λ r. int_eq (int_at r 3) id) (old.trees 10)
+        × (list_any (λ r. int_eq (int_at r 3) id) (old.trees file_tree)
         ≡ list_any (λ r. true) rows.items)) }
 {
     ask(
@@ -182,7 +183,7 @@ pub(crate) fn keep_content<S: Alter>(
 fn is_used<S: Alter>(tx: &mut Transaction<'_, S>, id: i64) -> Result<bool>
     ensures inside { GoesOnInside S.Store tx.old.conn tx.new.conn result }
     ensures found { Does S.Store tx.old.conn.now tx.new.conn.now result (λ old new used.
-        (new ≡ old) × (list_any (λ r. int_eq (int_at r 3) id) (old.trees 10) ≡ used)) }
+        (new ≡ old) × (list_any (λ r. int_eq (int_at r 3) id) (old.trees file_tree) ≡ used)) }
 {
     let rows = rows_of_users(tx, id)?;
     Ok(!rows.is_empty())
