@@ -1,7 +1,6 @@
 -- What the statements on deposits do to the rows of an office.
-use Rattle.std.proofs.Common.{IsTrue, Bool, false, inl, inr, ap₂, if◌then◌else◌, ◌≡◌, ◌⊎◌, ℕ, ℤ, List, [], ◌∷◌, map, filter, drop, slice_get, option_map, true, Some, Ok, refl, sym, ap, subst, ◌∙◌}
+use Rattle.std.proofs.Common.{IsTrue, Bool, false, ap₂, if◌then◌else◌, ◌≡◌, ◌⊎◌, ℕ, ℤ, List, [], ◌∷◌, map, filter, drop, slice_get, option_map, true, Some, Ok, refl, sym, ap, subst, ◌∙◌}
 use Rattle.std.specs.List.{AllByRecursion}
-use Rattle.sqlite.specs.declared.types.Value.{Value}
 use Rattle.sqlite.specs.declared.types.Value.TheVariants.{Null, Int, Text}
 use Rattle.sqlite.specs.Order.{Row, column}
 use Rattle.sqlite.specs.Edit.{id_in, edit_of, edited}
@@ -31,6 +30,7 @@ use Rattle.office_tables.specs.Tables.{IsOffice, Becomes, tables_of, deposit_in,
 use Rattle.office_tables.specs.Deposits.{shown_deposit}
 use Rattle.office_tables.proofs.Frames.{idle, becomes}
 use Rattle.office_tables.proofs.LastRow.{reads_last}
+use Rattle.office_tables.proofs.MaybeEmpty.{keeps_int}
 use Rattle.office_tables.proofs.DepositTexts.{deposit_with, deposit_text, accession_text, deposits_text, last_text, deposit_columns, gone_text, deposit_meanings}
 use Rattle.sqlite.specs.Term.{col}
 use Rattle.office_tables.proofs.RowsRead.{reads_named, reads_numbered, lists_all}
@@ -97,10 +97,6 @@ kept_alike decode keep set same (r ∷ rows) = ap₂ (λ y ys. y ∷ ys) (one (k
 
 abbrev set_gone : ℤ → Row → Row
 set_gone day r = rowid r ∷ Null ∷ Text (bytes_at r 2) ∷ Text (bytes_at r 3) ∷ Text (bytes_at r 4) ∷ Int (int_at r 5) ∷ Int (int_at r 6) ∷ Int (int_at r 7) ∷ Int (int_at r 8) ∷ Int day ∷ column r 10 ∷ Int (int_at r 11) ∷ []
-
-pub keeps_int : (v : Value) → (v ≡ Null) ⊎ (v ≡ Int (id_in v)) → cast kind.Integer v ≡ v
-keeps_int v (inl is) = subst (λ w. cast kind.Integer w ≡ w) (sym is) cast_null
-keeps_int v (inr is) = subst (λ w. cast kind.Integer w ≡ w) (sym is) (cast_int (id_in v))
 
 cast_gone : (n day : ℤ) (r : Row) → IsDepositRow r → IsTrue (is_int (rowid r)) → cast_row deposit_table (drop 1 (shown_of (Int n ∷ Int day ∷ []) (deposit_with 9 (col 0 1)) r)) ≡ set_gone day r
 cast_gone n day r it whole =

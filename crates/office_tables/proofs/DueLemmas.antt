@@ -1,5 +1,5 @@
 -- What the statements on due days and on counts of holds do to the rows of an office.
-use Rattle.std.proofs.Common.{IsTrue, ◌≡◌, ◌⊎◌, ◌&&◌, not, is_some, ℕ, ℤ, pos, ◌+ℤ◌, List, [], ◌∷◌, map, filter, slice_get, option_map, Bool, true, false, Some, None, Ok, Greater, refl, sym, ap, ap₂, subst, ◌∙◌, inl, inr, if◌then◌else◌}
+use Rattle.std.proofs.Common.{IsTrue, ◌≡◌, ◌⊎◌, ◌&&◌, ℕ, ℤ, pos, ◌+ℤ◌, List, [], ◌∷◌, map, filter, slice_get, option_map, Bool, true, false, Some, None, Ok, refl, sym, ap, ap₂, subst, ◌∙◌, inl, inr, if◌then◌else◌}
 use Rattle.std.specs.List.{AllByRecursion}
 use Rattle.std.specs.Ordering.{int_cmp, is_le, is_ge}
 use Rattle.sqlite.specs.declared.types.Value.{Value}
@@ -13,10 +13,10 @@ use Rattle.sqlite.specs.Tree.{rowid}
 use Rattle.sqlite.specs.Collation.TheVariants.{Binary}
 use Rattle.sqlite.specs.Ops.{binary, is_true, fits_i64, from_truth}
 use Rattle.sqlite.specs.State.{State, Shown, Executes}
-use Rattle.sqlite_sql.specs.declared.ops.BinaryOp.TheVariants.{Compare, Is, Arith}
+use Rattle.sqlite_sql.specs.declared.ops.BinaryOp.TheVariants.{Compare, Arith}
 use Rattle.sqlite_sql.specs.declared.ops.CompareOp.TheVariants.{Eq, Ge, Le}
 use Rattle.sqlite_sql.specs.declared.ops.ArithOp.TheVariants.{Add}
-use Rattle.sqlite_value.proofs.OrderLemmas.{value_cmp-Int, value_cmp-Null, value_cmp-apart}
+use Rattle.sqlite_value.proofs.OrderLemmas.{value_cmp-Int}
 use Rattle.sqlite_trees.specs.View.{is_int}
 use Rattle.sqlite_rules.specs.Calls.{ids_of}
 use Rattle.sqlite_rules.proofs.ListLemmas.{all_has, all_from}
@@ -39,7 +39,8 @@ use Rattle.office_rows.specs.Told.{place_row, closing_of, due_places, class_clos
 use Rattle.office_tables.specs.Dues.{shown_due, shown_beside, shown_place, shown_closing, FitMore}
 use Rattle.office_tables.specs.Tables.{IsOffice, Becomes, tables_of, deposit_in, due_in}
 use Rattle.office_tables.proofs.Frames.{idle, becomes}
-use Rattle.office_tables.proofs.DepositLemmas.{IsDepositRow, deposit_rows, kept_alike, keeps_int}
+use Rattle.office_tables.proofs.DepositLemmas.{IsDepositRow, deposit_rows, kept_alike}
+use Rattle.office_tables.proofs.MaybeEmpty.{keeps_int, null_is}
 use Rattle.office_tables.proofs.DueTexts.{class_rows_text, class_rows_columns, due_of_text, due_of_columns, set_due_text, clear_due_text, set_holds_text, add_holds_text, more_columns, add_holds_class_text, due_rows_text, is_due, due_rows_columns, beside_text, due_meanings}
 use Rattle.office_tables.proofs.DepositTexts.{deposit_with}
 use Rattle.sqlite.specs.Term.{lit, col}
@@ -178,11 +179,6 @@ pub adds_holds_class : (old new : State) (class : List ℕ) (by : ℤ) (count : 
 adds_holds_class old new class = adds_to add_holds_class_text 4 due_meanings.add_holds_class_means (λ r it. it.2) (is_of_class class) class (λ r. refl) old new
 
 -- ---- what may be destroyed
-
-null_is : (v : Value) → (v ≡ Null) ⊎ (v ≡ Int (id_in v)) → is_true (binary (Is Binary) v Null) ≡ not (is_some (maybe_int v))
-unfolding binary
-null_is v (inl is) = rw (is, value_cmp-Null Null) refl
-null_is v (inr is) = rw is (let apart : value_cmp (Int (id_in v)) Null ≡ Greater = value_cmp-apart (Int (id_in v)) Null (λ e. cc) in rw apart refl)
 
 pub truth_back : (b : Bool) → is_true (from_truth (Some b)) ≡ b
 truth_back true = refl

@@ -1,5 +1,5 @@
 -- What the statements on holds do to the rows of an office.
-use Rattle.std.proofs.Common.{arith, ◌+◌, slice_index_or, IsTrue, ◌≡◌, ◌⊎◌, ◌&&◌, ◌||◌, not, is_some, unwrap_or, bytes_eq, ℕ, ℤ, pos, Bor, Bool, true, false, List, [], ◌∷◌, ◌++◌, map, filter, slice_get, option_map, Option, Some, None, Ok, Less, Greater, refl, ap, ap₂, subst, subst₂, sym, ◌∙◌, inl, inr}
+use Rattle.std.proofs.Common.{arith, ◌+◌, slice_index_or, IsTrue, ◌≡◌, ◌⊎◌, ◌&&◌, ◌||◌, not, unwrap_or, bytes_eq, ℕ, ℤ, pos, Bor, Bool, true, false, List, [], ◌∷◌, ◌++◌, map, filter, slice_get, option_map, Option, Some, None, Ok, Less, refl, ap, ap₂, subst, subst₂, sym, ◌∙◌, inl, inr}
 use Rattle.std.specs.List.{AllByRecursion}
 use Rattle.std.specs.Ordering.{int_eq, int_cmp, nat_cmp, is_eq, is_lt}
 use Rattle.std.proofs.lemmas.Int.{ints}
@@ -22,7 +22,7 @@ use Rattle.sqlite.specs.Kind.TheVariants as kind
 use Rattle.sqlite.specs.Cast.{cast, cast_row}
 use Rattle.sqlite.specs.State.{State, Shown, Executes}
 use Rattle.sqlite_schema.specs.declared.schema.Constraint.TheVariants.{Datatype, NotNull}
-use Rattle.sqlite_value.proofs.OrderLemmas.{value_cmp-Int, value_cmp-Null, value_cmp-Text, value_cmp-apart}
+use Rattle.sqlite_value.proofs.OrderLemmas.{value_cmp-Int, value_cmp-Text, value_cmp-apart}
 use Rattle.sqlite.specs.Collation.TheVariants.{Binary}
 use Rattle.sqlite.specs.Ops.{binary, unary, is_true, truth, from_truth, not3}
 use Rattle.sqlite_sql.specs.declared.ops.BinaryOp.TheVariants.{Compare, Is}
@@ -55,6 +55,7 @@ use Rattle.office_tables.specs.ShownHolds.{shown_hold}
 use Rattle.office_tables.proofs.Frames.{idle, becomes, AreOthers, adding}
 use Rattle.office_tables.proofs.InOrder.{placed}
 use Rattle.office_tables.proofs.LastRow.{reads_last}
+use Rattle.office_tables.proofs.MaybeEmpty.{keeps_int, keeps_text, null_is}
 use Rattle.office_tables.proofs.HoldTexts.{hold_text, hold_columns, last_text, put_text, hold_terms, end_text, ended_columns, on_text, on, within_text, within, of_class_text, of_class, hold_meanings}
 use Rattle.office_tables.proofs.Columns.{only}
 use Rattle.office_tables.proofs.RowsRead.{reads_numbered}
@@ -150,14 +151,6 @@ hold_rows db office = all_both (λ r typed present.
     let at = typed_at office_schema db.trees hold_4_table r typed present in
     (at 1 refl, at 2 refl, at 3 refl, at 4 refl, at 5 refl, at 6 refl)) (db.trees hold_tree) (keeps_rule office.whole Datatype).1.1.1.1.1.1.1.1.1.0 (keeps_rule office.whole NotNull).1.1.1.1.1.1.1.1.1.0
 
-keeps_int : (v : Value) → (v ≡ Null) ⊎ (v ≡ Int (id_in v)) → cast kind.Integer v ≡ v
-keeps_int v (inl is) = subst (λ w. cast kind.Integer w ≡ w) (sym is) cast_null
-keeps_int v (inr is) = subst (λ w. cast kind.Integer w ≡ w) (sym is) (cast_int (id_in v))
-
-keeps_text : (v : Value) → (v ≡ Null) ⊎ (v ≡ Text (bytes v)) → cast kind.Text v ≡ v
-keeps_text v (inl is) = subst (λ w. cast kind.Text w ≡ w) (sym is) refl
-keeps_text v (inr is) = subst (λ w. cast kind.Text w ≡ w) (sym is) refl
-
 abbrev ended : ℤ → Row → Row
 ended day r = rowid r ∷ Null ∷ column r 2 ∷ column r 3 ∷ column r 4 ∷ column r 5 ∷ column r 6 ∷ Int day ∷ []
 
@@ -183,11 +176,6 @@ ends_hold old new k day count office h =
 equals_null : (w : Value) → is_true (binary (Compare Eq Binary) Null w) ≡ false
 unfolding binary
 equals_null w = refl
-
-null_is : (v : Value) → (v ≡ Null) ⊎ (v ≡ Int (id_in v)) → is_true (binary (Is Binary) v Null) ≡ not (is_some (maybe_int v))
-unfolding binary
-null_is v (inl is) = rw (is, value_cmp-Null Null) refl
-null_is v (inr is) = rw is (let apart : value_cmp (Int (id_in v)) Null ≡ Greater = value_cmp-apart (Int (id_in v)) Null (λ e. cc) in rw apart refl)
 
 -- whether the column has the number
 abbrev pub numbers : ℤ → Value → Bool

@@ -2,6 +2,7 @@ pub mod Frames
 pub mod InOrder
 pub mod InTurn
 pub mod Columns
+pub mod MaybeEmpty
 pub mod RowsRead
 pub mod ClassTexts
 pub mod ClassLemmas

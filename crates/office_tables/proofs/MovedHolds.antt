@@ -1,13 +1,11 @@
 -- The holds, taken over into the table whose holds may name a class.
-use Rattle.std.proofs.Common.{◌≡◌, ◌⊎◌, ◌==◌, ℕ, [], map, drop, length, Ok, IsTrue, refl, sym, ap, subst, ◌∙◌, inl, inr}
+use Rattle.std.proofs.Common.{◌≡◌, ◌⊎◌, ◌==◌, ℕ, [], map, drop, length, Ok, IsTrue, refl, ap, ◌∙◌, inl, inr}
 use Rattle.std.specs.List.{AllByRecursion}
 use Rattle.std.proofs.lemmas.Bool.{cases_Bool}
-use Rattle.sqlite.specs.declared.types.Value.{Value}
 use Rattle.sqlite.specs.declared.types.Value.TheVariants.{Null, Int, Text}
-use Rattle.sqlite.specs.Order.{Row, column, bytes}
+use Rattle.sqlite.specs.Order.{Row, column}
 use Rattle.sqlite.specs.Cast.{cast, cast_row}
 use Rattle.sqlite.specs.Kind.TheVariants as kind
-use Rattle.sqlite.specs.Edit.{id_in}
 use Rattle.sqlite.specs.Schema.{Schema}
 use Rattle.sqlite.specs.Tree.{rowid}
 use Rattle.sqlite.specs.Effect.{Database}
@@ -21,7 +19,7 @@ use Rattle.sql_meaning.specs.Whole.{IsWhole, Sets}
 use Rattle.sql_meaning.specs.Growing.{Grows}
 use Rattle.sql_meaning.proofs.Writing.{IsIdle}
 use Rattle.sql_meaning.proofs.Typed.{typed_at, all_both}
-use Rattle.sql_meaning.proofs.Edits.{cast_null, cast_int}
+use Rattle.sql_meaning.proofs.Edits.{cast_null}
 use Rattle.sql_meaning.proofs.Whole.{keeps_rule}
 use Rattle.sql_meaning.proofs.Scanning.{shown_of}
 use Rattle.office_tables.specs.Schema.{hold_table, hold_4_table, old_hold_tree, hold_tree}
@@ -30,17 +28,8 @@ use Rattle.office_tables.specs.Moving.{AllRows, moved_hold, BecomesAt, rows_at}
 use Rattle.office_tables.specs.Versions.{schema_at, old_hold_in}
 use Rattle.office_tables.specs.declared.version.TableVersion.TheVariants.{Third, Fourth}
 use Rattle.office_tables.proofs.MovingTexts.{copy_holds_text, copied_hold, empty_holds_text, eight, moving_meanings}
+use Rattle.office_tables.proofs.MaybeEmpty.{keeps_int, keeps_text}
 use Rattle.office_tables.proofs.TakenOver.{takes_over, empties, starts_empty, rows_taken, others_kept}
-
--- ---- for any schema
-
-pub keeps_int : (v : Value) → (v ≡ Null) ⊎ (v ≡ Int (id_in v)) → cast kind.Integer v ≡ v
-keeps_int v (inl is) = subst (λ w. cast kind.Integer w ≡ w) (sym is) cast_null
-keeps_int v (inr is) = subst (λ w. cast kind.Integer w ≡ w) (sym is) (cast_int (id_in v))
-
-pub keeps_text : (v : Value) → (v ≡ Null) ⊎ (v ≡ Text (bytes v)) → cast kind.Text v ≡ v
-keeps_text v (inl is) = subst (λ w. cast kind.Text w ≡ w) (sym is) refl
-keeps_text v (inr is) = subst (λ w. cast kind.Text w ≡ w) (sym is) refl
 
 -- ---- the two statements
 

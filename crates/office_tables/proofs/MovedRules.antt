@@ -29,7 +29,7 @@ use Rattle.office_tables.specs.declared.version.TableVersion.TheVariants.{Fourth
 use Rattle.office_tables.proofs.MovingTexts.{copy_rules_text, copied_rule, empty_rules_text, eight, moving_meanings}
 use Rattle.office_tables.proofs.TakenOver.{takes_over, empties, starts_empty, rows_taken, others_kept}
 use Rattle.office_tables.proofs.Frames.{idle}
-use Rattle.office_tables.proofs.MovedHolds.{keeps_int, keeps_text}
+use Rattle.office_tables.proofs.MaybeEmpty.{keeps_int, keeps_text}
 
 abbrev fifth : Schema
 fifth = schema_at Fifth

@@ -30,7 +30,7 @@ use Rattle.office_tables.specs.Moving.{AllRows, all_in_version, in_version, Beco
 use Rattle.office_tables.specs.Versions.{schema_at}
 use Rattle.office_tables.specs.declared.version.TableVersion.TheVariants.{Fifth}
 use Rattle.office_tables.proofs.MovingTexts.{version_text, versioned, moving_meanings}
-use Rattle.office_tables.proofs.MovedHolds.{keeps_int}
+use Rattle.office_tables.proofs.MaybeEmpty.{keeps_int}
 use Rattle.office_tables.proofs.Frames.{idle}
 
 abbrev fifth : Schema

@@ -1,0 +1,27 @@
+-- A column that may be empty: a cast to its kind keeps what stands in it, and `IS NULL` asks whether something does.
+use Rattle.std.proofs.Common.{◌≡◌, ◌⊎◌, not, is_some, Greater, refl, sym, subst, inl, inr}
+use Rattle.sqlite.specs.declared.types.Value.{Value}
+use Rattle.sqlite.specs.declared.types.Value.TheVariants.{Null, Int, Text}
+use Rattle.sqlite.specs.Order.{bytes, value_cmp}
+use Rattle.sqlite.specs.Edit.{id_in}
+use Rattle.sqlite.specs.Cast.{cast}
+use Rattle.sqlite.specs.Kind.TheVariants as kind
+use Rattle.sqlite.specs.Collation.TheVariants.{Binary}
+use Rattle.sqlite.specs.Ops.{binary, is_true}
+use Rattle.sqlite_sql.specs.declared.ops.BinaryOp.TheVariants.{Is}
+use Rattle.sqlite_value.proofs.OrderLemmas.{value_cmp-Null, value_cmp-apart}
+use Rattle.sql_meaning.specs.Columns.{maybe_int}
+use Rattle.sql_meaning.proofs.Edits.{cast_null, cast_int}
+
+pub keeps_int : (v : Value) → (v ≡ Null) ⊎ (v ≡ Int (id_in v)) → cast kind.Integer v ≡ v
+keeps_int v (inl is) = subst (λ w. cast kind.Integer w ≡ w) (sym is) cast_null
+keeps_int v (inr is) = subst (λ w. cast kind.Integer w ≡ w) (sym is) (cast_int (id_in v))
+
+pub keeps_text : (v : Value) → (v ≡ Null) ⊎ (v ≡ Text (bytes v)) → cast kind.Text v ≡ v
+keeps_text v (inl is) = subst (λ w. cast kind.Text w ≡ w) (sym is) refl
+keeps_text v (inr is) = subst (λ w. cast kind.Text w ≡ w) (sym is) refl
+
+pub null_is : (v : Value) → (v ≡ Null) ⊎ (v ≡ Int (id_in v)) → is_true (binary (Is Binary) v Null) ≡ not (is_some (maybe_int v))
+unfolding binary
+null_is v (inl is) = rw (is, value_cmp-Null Null) refl
+null_is v (inr is) = rw is (let apart : value_cmp (Int (id_in v)) Null ≡ Greater = value_cmp-apart (Int (id_in v)) Null (λ e. cc) in rw apart refl)
