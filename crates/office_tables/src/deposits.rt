@@ -220,45 +220,6 @@ pub fn deposit_rows<S: Alter>(alloc: Global, tx: &mut Transaction<'_, S>) -> Res
     read_all(alloc, &rows)
 }
 
-/// Adds a deposit that isn't destroyed.
-fn add_deposit<S: Alter>(
-    tx: &mut Transaction<'_, S>,
-    number: u32,
-    accession: &str,
-    collection: &str,
-    class: &str,
-    closed: i64,
-    deposited: i64,
-    files: i64,
-    bytes: i64,
-) -> Result<usize>
-    ensures inside { GoesOnInside S.Store tx.old.conn tx.new.conn result }
-    ensures added { HasCleanDisk (state S.Store tx.new.conn.now)
-        → IsOffice (state S.Store tx.old.conn.now).now
-        → OnOk result
-        (IsAdded
-        (record {
-          number = pos number;
-          accession = accession.now;
-          collection = collection.now;
-          class = class.now;
-          closed = closed;
-          deposited = deposited;
-          files = files;
-          bytes = bytes;
-          gone = None;
-        }) (state S.Store tx.old.conn.now).now (state S.Store tx.new.conn.now).now) }
-    ensures once { LeavesOnce S.Store tx.old.conn.now tx.new.conn.now result }
-{
-    change(
-        tx,
-        "INSERT INTO deposit (number, accession, collection, class, closed, deposited, files, bytes, holds) VALUES (?1, ?2, ?3, ?4, ?5, ?6, ?7, ?8, 0)",
-        params![
-            number, accession, collection, class, closed, deposited, files, bytes
-        ],
-    )
-}
-
 /// A deposit that is to be added. Days are day numbers, 0 for 1970-01-01.
 #[derive(Clone, Copy, Debug)]
 pub struct NewDeposit<'a> {
@@ -274,6 +235,31 @@ pub struct NewDeposit<'a> {
     pub files: i64,
     /// How many bytes those files have.
     pub bytes: i64,
+}
+
+/// Adds a deposit that isn't destroyed.
+fn add_deposit<S: Alter>(tx: &mut Transaction<'_, S>, deposit: NewDeposit<'_>) -> Result<usize>
+    ensures inside { GoesOnInside S.Store tx.old.conn tx.new.conn result }
+    ensures added { HasCleanDisk (state S.Store tx.new.conn.now)
+        → IsOffice (state S.Store tx.old.conn.now).now
+        → OnOk result
+        (IsAdded (added_row deposit.entry) (state S.Store tx.old.conn.now).now (state S.Store tx.new.conn.now).now) }
+    ensures once { LeavesOnce S.Store tx.old.conn.now tx.new.conn.now result }
+{
+    change(
+        tx,
+        "INSERT INTO deposit (number, accession, collection, class, closed, deposited, files, bytes, holds) VALUES (?1, ?2, ?3, ?4, ?5, ?6, ?7, ?8, 0)",
+        params![
+            deposit.number,
+            deposit.accession,
+            deposit.collection,
+            deposit.class,
+            deposit.closed,
+            deposit.deposited,
+            deposit.files,
+            deposit.bytes
+        ],
+    )
 }
 
 /// Adds a deposit, which isn't destroyed, in its place by number.
@@ -294,17 +280,7 @@ pub fn put_deposit<S: Alter>(tx: &mut Transaction<'_, S>, deposit: NewDeposit<'_
         IsTrue (has_class deposit.entry.class.now tables)) }
     ensures once { LeavesOnce S.Store tx.old.conn.now tx.new.conn.now result }
 {
-    add_deposit(
-        tx,
-        deposit.number,
-        deposit.accession,
-        deposit.collection,
-        deposit.class,
-        deposit.closed,
-        deposit.deposited,
-        deposit.files,
-        deposit.bytes,
-    )?;
+    add_deposit(tx, deposit)?;
     Ok(())
 }
 

@@ -223,36 +223,28 @@ fn add_caller<S: Alter>(tx: &mut Transaction<'_, S>, name: &str, role: &str) -> 
 }
 
 /// Adds a rule at its place.
-fn add_rule<S: Alter>(
-    tx: &mut Transaction<'_, S>,
-    place: i64,
-    effect: i64,
-    role: &str,
-    action: &str,
-    collection: &str,
-    class: &str,
-    first: i64,
-    last: i64,
-) -> Result<usize>
+fn add_rule<S: Alter>(tx: &mut Transaction<'_, S>, rule: &RuleRow) -> Result<usize>
     ensures inside { GoesOnInside S.Store tx.old.conn tx.new.conn result }
-    ensures becomes { Writes S.Store tx.old.conn.now tx.new.conn.now result
-        (with_rule
-        (record {
-          place = place;
-          effect = effect;
-          role = role.now;
-          action = action.now;
-          collection = collection.now;
-          class = class.now;
-          first = first;
-          last = last;
-        })) }
+    ensures becomes { Writes S.Store tx.old.conn.now tx.new.conn.now result (with_rule rule.now) }
     ensures once { LeavesOnce S.Store tx.old.conn.now tx.new.conn.now result }
 {
+    let role: &str = &rule.role;
+    let action: &str = &rule.action;
+    let collection: &str = &rule.collection;
+    let class: &str = &rule.class;
     change(
         tx,
         "INSERT INTO rule_5 (place, effect, role, action, collection, class, first, last) VALUES (?1, ?2, ?3, ?4, ?5, ?6, ?7, ?8)",
-        params![place, effect, role, action, collection, class, first, last],
+        params![
+            rule.place,
+            rule.effect,
+            role,
+            action,
+            collection,
+            class,
+            rule.first,
+            rule.last
+        ],
     )
 }
 
@@ -276,17 +268,7 @@ fn add_rules<S: Alter>(tx: &mut Transaction<'_, S>, rules: &[RuleRow]) -> Result
     ensures once { LeavesOnce S.Store tx.old.conn.now tx.new.conn.now result }
 {
     for rule in rules {
-        add_rule(
-            tx,
-            rule.place,
-            rule.effect,
-            &rule.role,
-            &rule.action,
-            &rule.collection,
-            &rule.class,
-            rule.first,
-            rule.last,
-        )?;
+        add_rule(tx, rule)?;
     }
     Ok(())
 }

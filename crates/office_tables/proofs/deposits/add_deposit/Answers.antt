@@ -1,19 +1,20 @@
-use Rattle.std.proofs.Common.{refl, w64}
+use Rattle.std.proofs.Common.{rules, refl, w64}
 use Rattle.std.proofs.lemmas.Int.{to_z-of_z}
 use Rattle.sql_meaning.proofs.Results.{on_ok}
+use Rattle.office_tables.specs.Deposits.{added_row}
 use Rattle.office_tables.proofs.DepositAdded.{is_added}
 use Rattle.office_tables.proofs.OnceLemmas.{add_deposit_once}
 use Rattle.office_tables.proofs.deposits.add_deposit.Goals as goal
 
 pub returns-clause-added : goal.returns-clause-added
 returns-clause-added g c clean office =
-    let a = c.args in
-    let closed = to_z-of_z w64 a.closed c.ranges.closed in
-    let deposited = to_z-of_z w64 a.deposited c.ranges.deposited in
-    let files = to_z-of_z w64 a.files c.ranges.files in
-    let bytes = to_z-of_z w64 a.bytes c.ranges.bytes in
+    let d = c.args.deposit in
+    let closed = to_z-of_z w64 d.closed (search rules) in
+    let deposited = to_z-of_z w64 d.deposited (search rules) in
+    let files = to_z-of_z w64 d.files (search rules) in
+    let bytes = to_z-of_z w64 d.bytes (search rules) in
     let ran = rw (c.params-to_sql.ensures, c.params-to_sql-2.ensures, c.params-to_sql-3.ensures, c.params-to_sql-4.ensures, c.params-to_sql-5.ensures, c.params-to_sql-6.ensures, c.params-to_sql-7.ensures, c.params-to_sql-8.ensures, closed, deposited, files, bytes) at (c.change.ensures.ran clean) in
-    on_ok c.change.result (λ count h. is_added _ _ _ refl count office h) ran
+    on_ok c.change.result (λ count h. is_added _ _ (added_row d) refl count office h) ran
 
 pub returns-clause-once : goal.returns-clause-once
 returns-clause-once g c clean office kept = on_ok c.change.result (λ count h. add_deposit_once _ _ _ count office h kept) (c.change.ensures.ran clean)

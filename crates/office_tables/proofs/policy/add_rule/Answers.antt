@@ -1,21 +1,29 @@
-use Rattle.std.proofs.Common.{w64}
+use Rattle.std.proofs.Common.{◌≡◌, rules, w64, string_bytes}
+use mir.Val.{SFits}
 use Rattle.std.proofs.lemmas.Int.{to_z-of_z}
 use Rattle.sql_meaning.proofs.Results.{on_ok}
-use Rattle.office_rows.specs.Rows.{RuleRow}
 use Rattle.office_tables.proofs.PolicyLemmas.{adds_rule}
 use Rattle.office_tables.proofs.OnceLemmas.{add_rule_once}
 use Rattle.office_tables.proofs.policy.add_rule.Goals as goal
 
 pub returns-clause-becomes : goal.returns-clause-becomes
 returns-clause-becomes g c clean office =
-    let a = c.args in
-    let rule : RuleRow = record { place = a.place; effect = a.effect; role = a.role.now; action = a.action.now; collection = a.collection.now; class = a.class.now; first = a.first; last = a.last } in
-    let place = to_z-of_z w64 a.place c.ranges.place in
-    let effect = to_z-of_z w64 a.effect c.ranges.effect in
-    let first = to_z-of_z w64 a.first c.ranges.first in
-    let last = to_z-of_z w64 a.last c.ranges.last in
-    let ran = rw (c.params-to_sql.ensures, c.params-to_sql-2.ensures, c.params-to_sql-3.ensures, c.params-to_sql-4.ensures, c.params-to_sql-5.ensures, c.params-to_sql-6.ensures, c.params-to_sql-7.ensures, c.params-to_sql-8.ensures, place, effect, first, last) at (c.change.ensures.ran clean) in
-    on_ok c.change.result (λ count h. adds_rule _ _ rule count office h) ran
+    let row = c.args.rule.now in
+    let inside = c.rule.inside in
+    let place : inside.place ≡ row.place = search rules in
+    let effect : inside.effect ≡ row.effect = search rules in
+    let role : string_bytes inside.role ≡ row.role = search rules in
+    let action : string_bytes inside.action ≡ row.action = search rules in
+    let collection : string_bytes inside.collection ≡ row.collection = search rules in
+    let class : string_bytes inside.class ≡ row.class = search rules in
+    let first : inside.first ≡ row.first = search rules in
+    let last : inside.last ≡ row.last = search rules in
+    let place_fits : SFits w64 inside.place = search rules in
+    let effect_fits : SFits w64 inside.effect = search rules in
+    let first_fits : SFits w64 inside.first = search rules in
+    let last_fits : SFits w64 inside.last = search rules in
+    let ran = rw (c.params-to_sql.ensures, c.params-to_sql-2.ensures, c.params-to_sql-3.ensures, c.params-to_sql-4.ensures, c.params-to_sql-5.ensures, c.params-to_sql-6.ensures, c.params-to_sql-7.ensures, c.params-to_sql-8.ensures, c.deref-role.ensures, c.deref-action.ensures, c.deref-collection.ensures, c.deref-class.ensures, to_z-of_z w64 inside.place place_fits, to_z-of_z w64 inside.effect effect_fits, to_z-of_z w64 inside.first first_fits, to_z-of_z w64 inside.last last_fits, place, effect, role, action, collection, class, first, last) at (c.change.ensures.ran clean) in
+    on_ok c.change.result (λ count h. adds_rule _ _ row count office h) ran
 
 pub returns-clause-once : goal.returns-clause-once
 returns-clause-once g c clean office kept = on_ok c.change.result (λ count h. add_rule_once _ _ _ count office h kept) (c.change.ensures.ran clean)
