@@ -30,6 +30,7 @@ use Rattle.office_tables.specs.Schema.{office_schema, class_table, class_tree}
 use Rattle.office_rows.specs.Rows.{Tables, ClassRow, is_class, class_named, with_years, with_new_class, with_class}
 use Rattle.office_tables.specs.Tables.{IsOffice, Becomes, tables_of, class_in}
 use Rattle.office_tables.specs.Contents.{KeepsOnce}
+use Rattle.office_tables.proofs.TablePlaces.{of_classes}
 use Rattle.office_tables.proofs.Frames.{idle, becomes, leaves_once}
 use Rattle.office_tables.proofs.ClassTexts.{years_text, revise_text, revised_columns, add_class_text, class_meanings}
 use Rattle.office_tables.proofs.Columns.{all_given}
@@ -42,7 +43,7 @@ IsClassRow r = (column r 1 ≡ Text (bytes_at r 1)) × (column r 2 ≡ Int (int_
 pub class_rows : (db : Database) → IsOffice db → AllByRecursion IsClassRow (db.trees class_tree)
 class_rows db office = all_both (λ r typed present.
     let at = typed_at office_schema db.trees class_table r typed present in
-    (at 0 refl, at 1 refl)) (db.trees class_tree) (keeps_rule office.whole Datatype).1.1.1.0 (keeps_rule office.whole NotNull).1.1.1.0
+    (at 0 refl, at 1 refl)) (db.trees class_tree) (of_classes (keeps_rule office.whole Datatype)) (of_classes (keeps_rule office.whole NotNull))
 
 -- what is known of the table: each name is a text, and at most one class has it
 module _ (db : Database) (office : IsOffice db) (name : List ℕ) where
@@ -50,7 +51,7 @@ module _ (db : Database) (office : IsOffice db) (name : List ℕ) where
   named = all_from _ (db.trees class_tree) (λ r there. (all_has IsClassRow (db.trees class_tree) r (class_rows db office) there).0)
 
   few : (filter (has_text 1 name) (db.trees class_tree) ≡ []) ⊎ ((r : Row) × Has (db.trees class_tree) r × (has_text 1 name r ≡ true) × (filter (has_text 1 name) (db.trees class_tree) ≡ r ∷ []))
-  few = few_named 1 (db.trees class_tree) office.whole.shaped.1.1.1.0 named (keeps_rule office.whole Unique).1.1.1.0 name
+  few = few_named 1 (db.trees class_tree) (of_classes office.whole.shaped) named (of_classes (keeps_rule office.whole Unique)) name
 
 -- ---- the years of a class
 
@@ -70,7 +71,7 @@ adds_class old new name years count office h =
     let edit = edit_of db class_table [] Chosen 0 (source ∷ []) in
     let done = inserts add_class_text params old new office_schema office.whole.schema_is 3 class_table refl idle (all_given 2) 3 class_meanings.add_class_means refl refl count h in
     let cast_is : cast_row class_table source ≡ Null ∷ Text name ∷ Int years ∷ [] = rw (cast_null, cast_int years) refl in
-    let end = appended db class_table source (Text name ∷ Int years ∷ []) office.whole.shaped.1.1.1.0 cast_is in
+    let end = appended db class_table source (Text name ∷ Int years ∷ []) (of_classes office.whole.shaped) cast_is in
     becomes old new edit count edit.news office (refl, (refl, tt)) done _ (ap (λ rows. record (tables_of old.now) { classes = rows }) (ap (map class_in) end ∙ map-append class_in (db class_tree) _))
 
 pub adds_class_once : (old new : State) (name : List ℕ) (years : ℤ) (count : ℕ) → IsOffice old.now → Executes add_class_text (Text name ∷ Int years ∷ []) old new (Ok count) → KeepsOnce old.now → KeepsOnce new.now
@@ -89,7 +90,7 @@ pub revises_class : (old new : State) (name : List ℕ) (years : ℤ) (count : �
     → Becomes new.now (with_years name years (tables_of old.now)) × (count ≡ (if list_any (is_class name) (tables_of old.now).classes then 1 else 0))
 revises_class old new name years count office h =
     let db = old.now.trees in
-    let shaped = office.whole.shaped.1.1.1.0 in
+    let shaped = of_classes office.whole.shaped in
     let keep = has_text 1 name in
     let set : Row → Row = λ r. rowid r ∷ Text (bytes_at r 1) ∷ Int years ∷ [] in
     let done = revises revise_text (Text name ∷ Int years ∷ []) old new office_schema office.whole.schema_is 3 class_table refl idle shaped (by_text 1) revised_columns

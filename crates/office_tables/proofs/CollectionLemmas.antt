@@ -24,6 +24,7 @@ use Rattle.sql_meaning.proofs.Whole.{keeps_rule}
 use Rattle.office_tables.specs.Schema.{office_schema, collection_table, collection_tree}
 use Rattle.office_rows.specs.Rows.{has_collection, is_collection, with_new_collection}
 use Rattle.office_tables.specs.Tables.{IsOffice, Becomes, tables_of, collection_in}
+use Rattle.office_tables.proofs.TablePlaces.{of_collections}
 use Rattle.office_tables.proofs.Frames.{idle, becomes}
 use Rattle.office_tables.proofs.ClassTexts.{find_text, add_collection_text, class_meanings}
 use Rattle.office_tables.proofs.Columns.{only, all_given}
@@ -31,11 +32,11 @@ use Rattle.office_tables.proofs.RowsRead.{reads_named}
 
 pub collection_rows : (db : Database) → IsOffice db → AllByRecursion (λ r. column r 1 ≡ Text (bytes_at r 1)) (db.trees collection_tree)
 collection_rows db office = all_both (λ r typed present. typed_at office_schema db.trees collection_table r typed present 0 refl)
-    (db.trees collection_tree) (keeps_rule office.whole Datatype).1.1.1.1.0 (keeps_rule office.whole NotNull).1.1.1.1.0
+    (db.trees collection_tree) (of_collections (keeps_rule office.whole Datatype)) (of_collections (keeps_rule office.whole NotNull))
 
 module _ (db : Database) (office : IsOffice db) (name : List ℕ) where
   few : (filter (has_text 1 name) (db.trees collection_tree) ≡ []) ⊎ ((r : Row) × Has (db.trees collection_tree) r × (has_text 1 name r ≡ true) × (filter (has_text 1 name) (db.trees collection_tree) ≡ r ∷ []))
-  few = few_named 1 (db.trees collection_tree) office.whole.shaped.1.1.1.1.0 (collection_rows db office) (keeps_rule office.whole Unique).1.1.1.1.0 name
+  few = few_named 1 (db.trees collection_tree) (of_collections office.whole.shaped) (collection_rows db office) (of_collections (keeps_rule office.whole Unique)) name
 
 some_there : {X : Type 0} (xs : List X) → list_any (λ x. true) xs ≡ not (length xs == 0)
 some_there [] = refl
@@ -59,5 +60,5 @@ adds_collection old new name count office h =
     let edit = edit_of db collection_table [] Chosen 0 (source ∷ []) in
     let done = inserts add_collection_text params old new office_schema office.whole.schema_is 4 collection_table refl idle (all_given 1) 2 class_meanings.add_collection_means refl refl count h in
     let cast_is : cast_row collection_table source ≡ Null ∷ Text name ∷ [] = rw cast_null refl in
-    let end = appended db collection_table source (Text name ∷ []) office.whole.shaped.1.1.1.1.0 cast_is in
+    let end = appended db collection_table source (Text name ∷ []) (of_collections office.whole.shaped) cast_is in
     becomes old new edit count edit.news office (refl, (refl, tt)) done _ (ap (λ rows. record (tables_of old.now) { collections = rows }) (ap (map collection_in) end ∙ map-append collection_in (db collection_tree) _))

@@ -50,6 +50,7 @@ use Rattle.office_tables.specs.Schema.{office_schema, content_table, file_table,
 use Rattle.office_rows.specs.Rows.{FileRow, ContentRow, is_content, content_numbered, bytes_under, is_alike, next_id, last_number, with_content, with_file, file_at, Tables}
 use Rattle.office_tables.specs.Tables.{IsOffice, tables_of, contents_of, content_in, file_in}
 use Rattle.office_tables.specs.Contents.{references_of, StandOnce, IsMarked, AreUsed, KeepsOnce, KeepsFiles, content_after, IsContentAdded, IsContentThere, IsNewContent, IsContentKept, IsFileAdded, IsMarkedPut, AreFilesDropped, AreUsedOr, IsTidied}
+use Rattle.office_tables.proofs.TablePlaces.{of_files, of_contents}
 use Rattle.office_tables.proofs.Frames.{idle, becomes, with_edit, contents_after, references_after, file_rows_after}
 use Rattle.office_tables.proofs.LastRow.{reads_last}
 use Rattle.office_tables.proofs.ContentTexts.{bytes_text, by_likeness, alike_text, last_text, contents_text, size_columns, by_content, users_text, add_text, add_terms, remove_text, content_meanings}
@@ -63,12 +64,12 @@ IsContentRow r = (column r 2 ≡ Blob (bytes_at r 2)) × (column r 3 ≡ Int (in
 content_rows : (db : Database) → IsOffice db → AllByRecursion IsContentRow (db.trees content_tree)
 content_rows db office = all_both (λ r t p.
     let at = typed_at office_schema db.trees content_table r t p in
-    (at 1 refl, at 2 refl, at 3 refl)) (db.trees content_tree) (keeps_rule office.whole Datatype).1.1.1.1.1.1.1.1.0 (keeps_rule office.whole NotNull).1.1.1.1.1.1.1.1.0
+    (at 1 refl, at 2 refl, at 3 refl)) (db.trees content_tree) (of_contents (keeps_rule office.whole Datatype)) (of_contents (keeps_rule office.whole NotNull))
 
 -- the reference of a stored file
 pub file_references : (db : Database) → IsOffice db → AllByRecursion (λ r. column r 3 ≡ Int (int_at r 3)) (db.trees file_tree)
 file_references db office = all_both (λ r t p. typed_at office_schema db.trees file_table r t p 2 refl)
-    (db.trees file_tree) (keeps_rule office.whole Datatype).1.1.1.1.1.1.0 (keeps_rule office.whole NotNull).1.1.1.1.1.1.0
+    (db.trees file_tree) (of_files (keeps_rule office.whole Datatype)) (of_files (keeps_rule office.whole NotNull))
 
 -- ---- the content of a number
 
@@ -77,7 +78,7 @@ module _ (db : Database) (office : IsOffice db) where
   stored = db.trees content_tree
 
   shaped : IsShaped shape.Table stored
-  shaped = office.whole.shaped.1.1.1.1.1.1.1.1.0
+  shaped = of_contents office.whole.shaped
 
   -- the content that has a number is the one of that number
   pub row_numbered : (n : ℤ) (r : Row) → Has stored r → has_number n r ≡ true → content_numbered n (contents_of db) ≡ Some (content_in r)
@@ -101,7 +102,7 @@ module _ (db : Database) (office : IsOffice db) where
   held : (row : Row) → Has (db.trees file_tree) row → parents row ≡ true
   unfolding joined same_name
   held row there =
-      let each = all_has _ (db.trees file_tree) row (keeps_rule office.whole ForeignKey).1.1.1.1.1.1.0 there in
+      let each = all_has _ (db.trees file_tree) row (of_files (keeps_rule office.whole ForeignKey)) there in
       let typed : column row 3 ≡ Int (int_at row 3) = all_has _ (db.trees file_tree) row (file_references db office) there in
       let one : (has_null (3 ∷ []) row || parents row) && true ≡ true = each in
       let either : has_null (3 ∷ []) row || parents row ≡ true = (and_parts _ _ one).0 in
@@ -153,7 +154,7 @@ same_files cs ds rows alike = map_alike (file_in cs) (file_in ds) rows (λ r the
 pub finds_bytes : (old new : State) (id : ℤ) (rows : List Row) → IsOffice old.now → Shown bytes_text (Int id ∷ []) old new rows
     → (new.now ≡ old.now) × (option_map (λ (c : ContentRow). c.bytes) (content_numbered id (contents_of old.now)) ≡ option_map (λ row. bytes_at row 0) (slice_get rows 0))
 finds_bytes old new id rows office h =
-    let read = reads_numbered old new rows office content_meanings.asks_bytes id office.whole.shaped.1.1.1.1.1.1.1.1.0 h in
+    let read = reads_numbered old new rows office content_meanings.asks_bytes id (of_contents office.whole.shaped) h in
     (read.0, finds_part (old.now.trees content_tree) rows (has_number id) (shown_of (Int id ∷ []) (only 4)) content_in (is_content id) (λ r. refl) read.1 (λ (c : ContentRow). c.bytes) (λ row. bytes_at row 0) (λ r. refl))
 
 abbrev is_like : List ℕ → List ℕ → Row → Bool
@@ -197,7 +198,7 @@ finds_alike old new mark bytes rows office h =
 
 pub finds_last : (old new : State) (rows : List Row) → IsOffice old.now → Shown last_text [] old new rows
     → (new.now ≡ old.now) × (last_number (λ (c : ContentRow). c.id) (contents_of old.now) ≡ option_map (λ row. int_at row 0) (slice_get rows 0))
-finds_last old new rows office h = reads_last content_tree content_in (λ (c : ContentRow). c.id) (λ r. refl) office_schema last_text content_meanings.asks_last old new office.whole.schema_is office.whole.shaped.1.1.1.1.1.1.1.1.0.0 rows h
+finds_last old new rows office h = reads_last content_tree content_in (λ (c : ContentRow). c.id) (λ r. refl) office_schema last_text content_meanings.asks_last old new office.whole.schema_is (of_contents office.whole.shaped).0 rows h
 
 abbrev shown_size : Row → ℤ × ℤ
 shown_size row = (int_at row 0, int_at row 1)
@@ -206,7 +207,7 @@ pub lists_contents : (old new : State) (rows : List Row) → IsOffice old.now �
     → (new.now ≡ old.now) × (map (λ (c : ContentRow). (c.id, c.size)) (contents_of old.now) ≡ map shown_size rows)
 lists_contents old new rows office h =
     let stored = old.now.trees content_tree in
-    let up = ascending_weaker _ _ (λ a b lower. rw lower refl) stored office.whole.shaped.1.1.1.1.1.1.1.1.0.0 in
+    let up = ascending_weaker _ _ (λ a b lower. rw lower refl) stored (of_contents office.whole.shaped).0 in
     let is = reads_rising office_schema contents_text content_tree [] size_columns rising content_meanings.asks_contents [] old new office.whole.schema_is rows h (λ r. true) (all_from _ stored (λ r there. refl)) up in
     let whole : rows ≡ map (shown_of [] size_columns) stored = is ∙ ap (map (shown_of [] size_columns)) (filter_all (λ r. true) stored (λ r there. refl)) in
     let shows : map shown_size (map (shown_of [] size_columns) stored) ≡ map (λ r. (int_at r 0, int_at r 3)) stored = map-map shown_size (shown_of [] size_columns) stored in
@@ -256,7 +257,7 @@ module _ (old new : State) (mark bytes : List ℕ) (count : ℕ) (office : IsOff
   -- the contents are one more
   added_at_end : contents_of (with_edit added_edit old.now) ≡ contents_of old.now ++ added_content ∷ []
   added_at_end =
-      ap (map content_in) (appended old.now.trees content_table (Null ∷ added_columns) added_columns office.whole.shaped.1.1.1.1.1.1.1.1.0 added_cast) ∙ map-append content_in (old.now.trees content_tree) _
+      ap (map content_in) (appended old.now.trees content_table (Null ∷ added_columns) added_columns (of_contents office.whole.shaped) added_cast) ∙ map-append content_in (old.now.trees content_tree) _
       ∙ ap (λ n. contents_of old.now ++ record { id = n; mark = mark; size = pos (length bytes); bytes = bytes } ∷ []) (next_is (old.now.trees content_tree) (pos 1))
 
   pub adds_content : IsContentAdded mark bytes old.now new.now
@@ -286,7 +287,7 @@ pub removes_content : (old new : State) (id : ℤ) (count : ℕ) → IsOffice ol
     → KeepsFiles old.now new.now × (contents_of new.now ≡ filter (λ c. not (is_content id c)) (contents_of old.now))
 removes_content old new id count office h =
     let db = old.now.trees in
-    let shaped = office.whole.shaped.1.1.1.1.1.1.1.1.0 in
+    let shaped = of_contents office.whole.shaped in
     let done = drops remove_text (Int id ∷ []) old new office_schema office.whole.schema_is 8 content_table refl idle shaped by_number (only 0)
     (has_number id) (each_numbered id [] (db content_tree) shaped) content_meanings.remove_means (λ r. refl) count h in
     let edit = edit_of db content_table (ids_of done.answer) Given 0 [] in

@@ -26,6 +26,7 @@ use Rattle.office_tables.specs.Schema.{office_schema, deposit_table, class_tree,
 use Rattle.office_rows.specs.Rows.{DepositRow, DueRow, put_by, with_deposit, is_deposit, deposit_numbered, has_accession, deposit_by, is_class, has_class, is_collection, has_collection}
 use Rattle.office_tables.specs.Tables.{IsOffice, Becomes, tables_of, deposit_in, due_in, class_in, collection_in}
 use Rattle.office_tables.specs.Deposits.{IsAdded}
+use Rattle.office_tables.proofs.TablePlaces.{of_deposits}
 use Rattle.office_tables.proofs.Frames.{idle, becomes, adding}
 use Rattle.office_tables.proofs.InOrder.{placed}
 use Rattle.office_tables.proofs.ClassLemmas.{IsClassRow, class_rows}
@@ -53,8 +54,8 @@ module _ (old new : State) (d : DepositRow) (kept : d.gone ≡ None) (count : �
   after =
       let number : DepositRow → ℤ = λ e. e.number in
       let is_d : deposit_in (row_of d) ≡ d = ap (λ g. record d { gone = g }) (sym kept) in
-      let at_its_place = placed deposit_in number (λ r. refl) old new deposit_table (row_of d) (stored_of d) d.number count (adding deposit_table (row_of d) old).news office.whole.shaped.1.1.1.1.1.0 cast_is change in
-      let due_at_its_place = placed due_in (λ (e : DueRow). e.number) (λ r. refl) old new deposit_table (row_of d) (stored_of d) d.number count (adding deposit_table (row_of d) old).news office.whole.shaped.1.1.1.1.1.0 cast_is change in
+      let at_its_place = placed deposit_in number (λ r. refl) old new deposit_table (row_of d) (stored_of d) d.number count (adding deposit_table (row_of d) old).news (of_deposits office.whole.shaped) cast_is change in
+      let due_at_its_place = placed due_in (λ (e : DueRow). e.number) (λ r. refl) old new deposit_table (row_of d) (stored_of d) d.number count (adding deposit_table (row_of d) old).news (of_deposits office.whole.shaped) cast_is change in
       becomes old new (adding deposit_table (row_of d) old) count (adding deposit_table (row_of d) old).news office (refl, (refl, tt)) change _ (ap₂ (λ rows dues. record (tables_of old.now) { deposits = rows; dues = dues })
       (at_its_place ∙ ap (λ x. put_by number x (map deposit_in (old.now.trees deposit_tree))) is_d) due_at_its_place)
 
@@ -67,12 +68,12 @@ module _ (old new : State) (d : DepositRow) (kept : d.gone ≡ None) (count : �
 
   number_was_new : deposit_numbered d.number (tables_of old.now).deposits ≡ None
   number_was_new =
-      let none = none_passes (has_number d.number) (int_itself d.number) (one_numbered (new.now.trees deposit_tree) after.office.whole.shaped.1.1.1.1.1.0 d.number) in
+      let none = none_passes (has_number d.number) (int_itself d.number) (one_numbered (new.now.trees deposit_tree) (of_deposits after.office.whole.shaped) d.number) in
       found_by (is_deposit d.number) (has_number d.number) deposit_in (old.now.trees deposit_tree) (all_from _ (old.now.trees deposit_tree) (λ r there. refl)) ∙ ap (λ rs. option_map deposit_in (slice_get rs 0)) none
 
   accession_was_new : deposit_by d.accession (tables_of old.now).deposits ≡ None
   accession_was_new =
-      let alike = one_named 2 (new.now.trees deposit_tree) after.office.whole.shaped.1.1.1.1.1.0 (accessions new.now after.office) (keeps_rule after.office.whole Unique).1.1.1.1.1.0 d.accession in
+      let alike = one_named 2 (new.now.trees deposit_tree) (of_deposits after.office.whole.shaped) (accessions new.now after.office) (of_deposits (keeps_rule after.office.whole Unique)) d.accession in
       let none = none_passes (has_text 2 d.accession) (bytes_itself d.accession) alike in
       found_by (has_accession d.accession) (has_text 2 d.accession) deposit_in (old.now.trees deposit_tree) (all_from _ (old.now.trees deposit_tree) (λ r there. refl)) ∙ ap (λ rs. option_map deposit_in (slice_get rs 0)) none
 
@@ -83,7 +84,7 @@ module _ (old new : State) (d : DepositRow) (kept : d.gone ≡ None) (count : �
   held : (list_any (λ parent. agree plain (1 ∷ []) parent (3 ∷ []) (row_of d)) (new.now.trees collection_tree) ≡ true) × (list_any (λ parent. agree plain (1 ∷ []) parent (4 ∷ []) (row_of d)) (new.now.trees class_tree) ≡ true)
   unfolding joined same_name
   held =
-      let each = all_has _ (new.now.trees deposit_tree) (row_of d) (keeps_rule after.office.whole ForeignKey).1.1.1.1.1.0 was_there in
+      let each = all_has _ (new.now.trees deposit_tree) (row_of d) (of_deposits (keeps_rule after.office.whole ForeignKey)) was_there in
       let two = and_parts _ _ each in
       (two.0, (and_parts _ _ two.1).0)
 

@@ -28,6 +28,7 @@ use Rattle.office_tables.specs.Schema.{office_schema, deposit_table, deposit_tre
 use Rattle.office_rows.specs.Rows.{DepositRow, is_deposit, deposit_numbered, has_accession, deposit_by, last_number, with_gone}
 use Rattle.office_tables.specs.Tables.{IsOffice, Becomes, tables_of, deposit_in, due_in}
 use Rattle.office_tables.specs.Deposits.{shown_deposit}
+use Rattle.office_tables.proofs.TablePlaces.{of_deposits}
 use Rattle.office_tables.proofs.Frames.{idle, becomes}
 use Rattle.office_tables.proofs.LastRow.{reads_last}
 use Rattle.office_tables.proofs.MaybeEmpty.{keeps_int}
@@ -45,14 +46,14 @@ IsDepositRow r = (column r 2 ≡ Text (bytes_at r 2)) × (column r 3 ≡ Text (b
 pub deposit_rows : (db : Database) → IsOffice db → AllByRecursion IsDepositRow (db.trees deposit_tree)
 deposit_rows db office = all_both (λ r t p.
     let at = typed_at office_schema db.trees deposit_table r t p in
-    (at 1 refl, at 2 refl, at 3 refl, at 4 refl, at 5 refl, at 6 refl, at 7 refl, at 9 refl, at 10 refl, at 8 refl)) (db.trees deposit_tree) (keeps_rule office.whole Datatype).1.1.1.1.1.0 (keeps_rule office.whole NotNull).1.1.1.1.1.0
+    (at 1 refl, at 2 refl, at 3 refl, at 4 refl, at 5 refl, at 6 refl, at 7 refl, at 9 refl, at 10 refl, at 8 refl)) (db.trees deposit_tree) (of_deposits (keeps_rule office.whole Datatype)) (of_deposits (keeps_rule office.whole NotNull))
 
 -- ---- one deposit
 
 pub finds_deposit : (old new : State) (n : ℤ) (rows : List Row) → IsOffice old.now → Shown deposit_text (Int n ∷ []) old new rows
     → (new.now ≡ old.now) × (deposit_numbered n (tables_of old.now).deposits ≡ option_map shown_deposit (slice_get rows 0))
 finds_deposit old new n rows office h =
-    let read = reads_numbered old new rows office deposit_meanings.asks_deposit n office.whole.shaped.1.1.1.1.1.0 h in
+    let read = reads_numbered old new rows office deposit_meanings.asks_deposit n (of_deposits office.whole.shaped) h in
     (read.0, finds_one (old.now.trees deposit_tree) rows (has_number n) (shown_of (Int n ∷ []) deposit_columns) deposit_in shown_deposit (is_deposit n) (λ r. refl) (λ r. refl) read.1)
 
 -- at most one deposit has the accession
@@ -61,7 +62,7 @@ accessions db office = all_from _ (db.trees deposit_tree) (λ r there. (all_has 
 
 pub few_accessions : (db : Database) → IsOffice db → (accession : List ℕ)
     → (filter (has_text 2 accession) (db.trees deposit_tree) ≡ []) ⊎ ((r : Row) × Has (db.trees deposit_tree) r × (has_text 2 accession r ≡ true) × (filter (has_text 2 accession) (db.trees deposit_tree) ≡ r ∷ []))
-few_accessions db office accession = few_named 2 (db.trees deposit_tree) office.whole.shaped.1.1.1.1.1.0 (accessions db office) (keeps_rule office.whole Unique).1.1.1.1.1.0 accession
+few_accessions db office accession = few_named 2 (db.trees deposit_tree) (of_deposits office.whole.shaped) (accessions db office) (of_deposits (keeps_rule office.whole Unique)) accession
 
 pub finds_accession : (old new : State) (accession : List ℕ) (rows : List Row) → IsOffice old.now → Shown accession_text (Text accession ∷ []) old new rows
     → (new.now ≡ old.now) × (deposit_by accession (tables_of old.now).deposits ≡ option_map shown_deposit (slice_get rows 0))
@@ -74,14 +75,14 @@ finds_accession old new accession rows office h =
 pub lists_deposits : (old new : State) (rows : List Row) → IsOffice old.now → Shown deposits_text [] old new rows
     → (new.now ≡ old.now) × ((tables_of old.now).deposits ≡ map shown_deposit rows)
 lists_deposits old new rows office h =
-    lists_all old new rows office deposit_meanings.asks_deposits office.whole.shaped.1.1.1.1.1.0 deposit_in shown_deposit (λ r. refl) h
+    lists_all old new rows office deposit_meanings.asks_deposits (of_deposits office.whole.shaped) deposit_in shown_deposit (λ r. refl) h
 
 -- ---- the last number
 
 pub finds_last : (old new : State) (rows : List Row) → IsOffice old.now → Shown last_text [] old new rows
     → (new.now ≡ old.now) × (last_number (λ d. d.number) (tables_of old.now).deposits ≡ option_map (λ row. int_at row 0) (slice_get rows 0))
 finds_last old new rows office h =
-    reads_last deposit_tree deposit_in (λ (d : DepositRow). d.number) (λ r. refl) office_schema last_text deposit_meanings.asks_last old new office.whole.schema_is office.whole.shaped.1.1.1.1.1.0.0 rows h
+    reads_last deposit_tree deposit_in (λ (d : DepositRow). d.number) (λ r. refl) office_schema last_text deposit_meanings.asks_last old new office.whole.schema_is (of_deposits office.whole.shaped).0 rows h
 
 -- ---- the day when it was destroyed
 
@@ -108,7 +109,7 @@ pub marks_gone : (old new : State) (n day : ℤ) (count : ℕ) → IsOffice old.
     → Becomes new.now (with_gone n day (tables_of old.now))
 marks_gone old new n day count office h =
     let db = old.now.trees in
-    let shaped = office.whole.shaped.1.1.1.1.1.0 in
+    let shaped = of_deposits office.whole.shaped in
     let done = revises gone_text (Int n ∷ Int day ∷ []) old new office_schema office.whole.schema_is 5 deposit_table refl idle shaped by_number (deposit_with 9 (col 0 1))
     (has_number n) (each_numbered n (Int day ∷ []) (db deposit_tree) shaped) deposit_meanings.gone_means (set_gone day) (few_numbered n (db deposit_tree) shaped)
     (λ r there. (refl, cast_gone n day r (all_has IsDepositRow (db deposit_tree) r (deposit_rows old.now office) there) (all_has _ (db deposit_tree) r shaped.1 there), refl)) count h in

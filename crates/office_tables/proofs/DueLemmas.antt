@@ -38,6 +38,7 @@ use Rattle.office_rows.specs.Rows.{DepositRow, DueRow, is_due_of, due_numbered, 
 use Rattle.office_rows.specs.Told.{place_row, closing_of, due_places, class_closings}
 use Rattle.office_tables.specs.Dues.{shown_due, shown_beside, shown_place, shown_closing, FitMore}
 use Rattle.office_tables.specs.Tables.{IsOffice, Becomes, tables_of, deposit_in, due_in}
+use Rattle.office_tables.proofs.TablePlaces.{of_deposits}
 use Rattle.office_tables.proofs.Frames.{idle, becomes}
 use Rattle.office_tables.proofs.DepositLemmas.{IsDepositRow, deposit_rows, kept_alike}
 use Rattle.office_tables.proofs.MaybeEmpty.{keeps_int, null_is}
@@ -63,14 +64,14 @@ cast_last gone due holds r it whole is_gone is_due is_holds =
 pub finds_due : (old new : State) (n : ℤ) (rows : List Row) → IsOffice old.now → Shown due_of_text (Int n ∷ []) old new rows
     → (new.now ≡ old.now) × (due_numbered n (tables_of old.now).dues ≡ option_map shown_due (slice_get rows 0))
 finds_due old new n rows office h =
-    let read = reads_numbered old new rows office due_meanings.asks_due_of n office.whole.shaped.1.1.1.1.1.0 h in
+    let read = reads_numbered old new rows office due_meanings.asks_due_of n (of_deposits office.whole.shaped) h in
     (read.0, finds_one (old.now.trees deposit_tree) rows (has_number n) (shown_of (Int n ∷ []) due_of_columns) due_in shown_due (is_due_of n) (λ r. refl) (λ r. refl) read.1)
 
 pub sets_due : (old new : State) (n day : ℤ) (count : ℕ) → IsOffice old.now → Executes set_due_text (Int n ∷ Int day ∷ []) old new (Ok count)
     → Becomes new.now (with_due n (Some day) (tables_of old.now))
 sets_due old new n day count office h =
     let db = old.now.trees in
-    let shaped = office.whole.shaped.1.1.1.1.1.0 in
+    let shaped = of_deposits office.whole.shaped in
     let set : Row → Row = λ r. with_last (column r 9) (Int day) (Int (int_at r 11)) r in
     let done = revises set_due_text (Int n ∷ Int day ∷ []) old new office_schema office.whole.schema_is 5 deposit_table refl idle shaped by_number (deposit_with 10 (col 0 1))
     (has_number n) (each_numbered n (Int day ∷ []) (db deposit_tree) shaped) due_meanings.set_due_means set (few_numbered n (db deposit_tree) shaped)
@@ -90,7 +91,7 @@ pub clears_due : (old new : State) (n : ℤ) (count : ℕ) → IsOffice old.now 
     → Becomes new.now (with_due n (None) (tables_of old.now))
 clears_due old new n count office h =
     let db = old.now.trees in
-    let shaped = office.whole.shaped.1.1.1.1.1.0 in
+    let shaped = of_deposits office.whole.shaped in
     let set : Row → Row = λ r. with_last (column r 9) (Null) (Int (int_at r 11)) r in
     let done = revises clear_due_text (Int n ∷ []) old new office_schema office.whole.schema_is 5 deposit_table refl idle shaped by_number (deposit_with 10 (lit Null))
     (has_number n) (each_numbered n [] (db deposit_tree) shaped) due_meanings.clear_due_means set (few_numbered n (db deposit_tree) shaped)
@@ -110,7 +111,7 @@ pub sets_holds : (old new : State) (n holds : ℤ) (count : ℕ) → IsOffice ol
     → Becomes new.now (with_holds n holds (tables_of old.now))
 sets_holds old new n holds count office h =
     let db = old.now.trees in
-    let shaped = office.whole.shaped.1.1.1.1.1.0 in
+    let shaped = of_deposits office.whole.shaped in
     let set : Row → Row = λ r. with_last (column r 9) (column r 10) (Int holds) r in
     let done = revises set_holds_text (Int n ∷ Int holds ∷ []) old new office_schema office.whole.schema_is 5 deposit_table refl idle shaped by_number (deposit_with 11 (col 0 1))
     (has_number n) (each_numbered n (Int holds ∷ []) (db deposit_tree) shaped) due_meanings.set_holds_means set (few_numbered n (db deposit_tree) shaped)
@@ -152,7 +153,7 @@ module _ (text : List ℕ) (place : ℕ) (means : Means office_schema text (Upda
       → Becomes new.now (record (tables_of old.now) { dues = more_holds those by (tables_of old.now).deposits (tables_of old.now).dues })
   adds_to old new by count office fit h =
       let db = old.now.trees in
-      let shaped = office.whole.shaped.1.1.1.1.1.0 in
+      let shaped = of_deposits office.whole.shaped in
       let keep : Row → Bool = has_text place name in
       let rows_are = deposit_rows old.now office in
       let texts = all_from (IsText place) (db deposit_tree) (λ r there. typed r (all_has IsDepositRow (db deposit_tree) r rows_are there)) in
@@ -222,7 +223,7 @@ beside_is (r ∷ rows) = ap (λ more. (deposit_in r, due_in r) ∷ more) (beside
 pub lists_beside : (old new : State) (rows : List Row) → IsOffice old.now → Shown beside_text [] old new rows
     → (new.now ≡ old.now) × (beside (tables_of old.now).deposits (tables_of old.now).dues ≡ map shown_beside rows)
 lists_beside old new rows office h =
-    let read = lists_all old new rows office due_meanings.asks_beside office.whole.shaped.1.1.1.1.1.0 (λ r. (deposit_in r, due_in r)) shown_beside (λ r. refl) h in
+    let read = lists_all old new rows office due_meanings.asks_beside (of_deposits office.whole.shaped) (λ r. (deposit_in r, due_in r)) shown_beside (λ r. refl) h in
     (read.0, beside_is (old.now.trees deposit_tree) ∙ read.1)
 
 pub lists_due : (old new : State) (day : ℤ) (rows : List Row) → IsOffice old.now → Shown due_rows_text (Int day ∷ Int least_number ∷ []) old new rows
@@ -233,7 +234,7 @@ lists_due old new day rows office h =
     let typed = deposit_rows old.now office in
     let pair : Row → DepositRow × DueRow = λ r. (deposit_in r, due_in r) in
     let keep : Row → Bool = λ r. is_disposable day (pair r) in
-    let up = ascending_weaker _ _ (λ a b lower. rw lower refl) (db deposit_tree) office.whole.shaped.1.1.1.1.1.0.0 in
+    let up = ascending_weaker _ _ (λ a b lower. rw lower refl) (db deposit_tree) (of_deposits office.whole.shaped).0 in
     let each = all_from (λ r. passes params is_due r ≡ keep r) (db deposit_tree) (λ r there. passes_due day r (all_has IsDepositRow (db deposit_tree) r typed there)) in
     let is = reads_rising office_schema due_rows_text deposit_tree is_due due_rows_columns rising due_meanings.asks_due_rows params old new office.whole.schema_is rows h keep each up in
     let shows : map shown_place (map (shown_of params due_rows_columns) (filter keep (db deposit_tree))) ≡ map (λ r. place_row (pair r)) (filter keep (db deposit_tree)) = map-map shown_place (shown_of params due_rows_columns) (filter keep (db deposit_tree)) in
@@ -252,7 +253,7 @@ lists_class old new class rows office h =
     let params : Row = Text class ∷ [] in
     let typed = deposit_rows old.now office in
     let keep : Row → Bool = has_text 4 class in
-    let up = ascending_weaker _ _ (λ a b lower. rw lower refl) (db deposit_tree) office.whole.shaped.1.1.1.1.1.0.0 in
+    let up = ascending_weaker _ _ (λ a b lower. rw lower refl) (db deposit_tree) (of_deposits office.whole.shaped).0 in
     let texts = all_from (λ r. column r 4 ≡ Text (bytes_at r 4)) (db deposit_tree) (λ r there. (all_has IsDepositRow (db deposit_tree) r typed there).2) in
     let is = reads_rising office_schema class_rows_text deposit_tree (by_text 4) class_rows_columns rising due_meanings.asks_class_rows params old new office.whole.schema_is rows h keep (each_passes 4 class [] (db deposit_tree) texts) up in
     let shows : map shown_closing (map (shown_of params class_rows_columns) (filter keep (db deposit_tree))) ≡ map (λ r. closing_of (deposit_in r)) (filter keep (db deposit_tree)) = map-map shown_closing (shown_of params class_rows_columns) (filter keep (db deposit_tree)) in

@@ -60,6 +60,7 @@ use Rattle.office_rows.specs.Rows.{FileRow, ContentRow, bytes_under, is_file_of,
 use Rattle.office_tables.specs.Tables.{IsOffice, Becomes, tables_of, contents_of, file_in}
 use Rattle.office_tables.specs.Contents.{references_of, IsFileAdded, AreFilesDropped}
 use Rattle.office_tables.specs.Deposits.{shown_path, path_cmp, files_by_path}
+use Rattle.office_tables.proofs.TablePlaces.{of_files}
 use Rattle.office_tables.proofs.Frames.{idle, becomes, with_edit, file_rows_after, contents_after, references_after}
 use Rattle.office_tables.proofs.FileTexts.{by_deposit, by_place, by_path, content_text, paths_text, ids_text, put_text, drop_text, file_meanings}
 use Rattle.office_tables.proofs.Columns.{only, all_given}
@@ -71,7 +72,7 @@ IsFileRow r = (column r 1 ≡ Int (int_at r 1)) × (column r 2 ≡ Text (bytes_a
 file_rows : (db : Database) → IsOffice db → AllByRecursion IsFileRow (db.trees file_tree)
 file_rows db office = all_both (λ r t p.
     let at = typed_at office_schema db.trees file_table r t p in
-    (at 0 refl, at 1 refl)) (db.trees file_tree) (keeps_rule office.whole Datatype).1.1.1.1.1.1.0 (keeps_rule office.whole NotNull).1.1.1.1.1.1.0
+    (at 0 refl, at 1 refl)) (db.trees file_tree) (of_files (keeps_rule office.whole Datatype)) (of_files (keeps_rule office.whole NotNull))
 
 -- ---- the tests by the deposit, and by the deposit and the path
 
@@ -103,7 +104,7 @@ module _ (db : Database) (office : IsOffice db) (n : ℤ) where
       let rows = file_rows db office in
       let tx = all_has IsFileRow (db.trees file_tree) x rows hx in
       let ty = all_has IsFileRow (db.trees file_tree) y rows hy in
-      let apart = all_has _ (db.trees file_tree) y (keeps_rule office.whole Unique).1.1.1.1.1.1.0 hy in
+      let apart = all_has _ (db.trees file_tree) y (of_files (keeps_rule office.whole Unique)) hy in
       let key : Row = Int n ∷ Text path ∷ [] in
       let eqx : equal Binary (column x 1) (Int n) ≡ true = ap (λ v. equal Binary v (Int n)) tx.0 ∙ same_int (int_at x 1) n ∙ (and_parts _ _ px).0 in
       let eqy : equal Binary (column y 1) (Int n) ≡ true = ap (λ v. equal Binary v (Int n)) ty.0 ∙ same_int (int_at y 1) n ∙ (and_parts _ _ py).0 in
@@ -112,10 +113,10 @@ module _ (db : Database) (office : IsOffice db) (n : ℤ) where
       let kx : agree plain (1 ∷ 2 ∷ []) x (0 ∷ 1 ∷ []) key ≡ true = rw (eqx, pathx) refl in
       let ky : agree plain (1 ∷ 2 ∷ []) y (0 ∷ 1 ∷ []) key ≡ true = rw (eqy, pathy) refl in
       let agrees = agree_chain plain (1 ∷ 2 ∷ []) (0 ∷ 1 ∷ []) (1 ∷ 2 ∷ []) x key y kx (agree_back plain (1 ∷ 2 ∷ []) (0 ∷ 1 ∷ []) y key ky) in
-      same_key plain (1 ∷ 2 ∷ []) (db.trees file_tree) office.whole.shaped.1.1.1.1.1.1.0 x y hx hy (unclashed _ apart) agrees
+      same_key plain (1 ∷ 2 ∷ []) (db.trees file_tree) (of_files office.whole.shaped) x y hx hy (unclashed _ apart) agrees
 
   pub few_files : (path : List ℕ) → (filter (has_place n path) (db.trees file_tree) ≡ []) ⊎ ((r : Row) × Has (db.trees file_tree) r × (has_place n path r ≡ true) × (filter (has_place n path) (db.trees file_tree) ≡ r ∷ []))
-  few_files path = lone (has_place n path) (db.trees file_tree) (db.trees file_tree) office.whole.shaped.1.1.1.1.1.1.0.0 (λ r there. there) (one_file path)
+  few_files path = lone (has_place n path) (db.trees file_tree) (db.trees file_tree) (of_files office.whole.shaped).0 (λ r there. there) (one_file path)
 
 -- ---- one file
 
@@ -162,7 +163,7 @@ module _ (old new : State) (n : ℤ) (path : List ℕ) (id : ℤ) (count : ℕ) 
   put_cast = rw (cast_null, cast_int n, cast_int id) refl
 
   put_end : (with_edit put_edit old.now).trees file_tree ≡ old.now.trees file_tree ++ (Int (next_rowid (old.now.trees file_tree)) ∷ put_columns) ∷ []
-  put_end = appended old.now.trees file_table (Null ∷ put_columns) put_columns office.whole.shaped.1.1.1.1.1.1.0 put_cast
+  put_end = appended old.now.trees file_table (Null ∷ put_columns) put_columns (of_files office.whole.shaped) put_cast
 
   puts_file : Becomes new.now (with_file (record { deposit = n; path = path; content = bytes_under (contents_of old.now) id }) (tables_of old.now))
   puts_file =
@@ -191,7 +192,7 @@ module _ (old new : State) (n : ℤ) (path : List ℕ) (id : ℤ) (count : ℕ) 
 pub drops_files : (old new : State) (n : ℤ) (count : ℕ) → IsOffice old.now → Executes drop_text (Int n ∷ []) old new (Ok count) → AreFilesDropped n old.now new.now
 drops_files old new n count office h =
     let db = old.now.trees in
-    let done = drops drop_text (Int n ∷ []) old new office_schema office.whole.schema_is 6 file_table refl idle office.whole.shaped.1.1.1.1.1.1.0 by_deposit (only 0)
+    let done = drops drop_text (Int n ∷ []) old new office_schema office.whole.schema_is 6 file_table refl idle (of_files office.whole.shaped) by_deposit (only 0)
     (has_deposit n) (each_of old.now office n) file_meanings.drop_means (λ r. refl) count h in
     let edit = edit_of db file_table (ids_of done.answer) Given 0 [] in
     let decode = file_in (contents_of old.now) in
@@ -280,7 +281,7 @@ lists_paths old new n rows office h =
     let moved : IsPermutation (map path_in kept) (map shown_by found.ordered) = subst (λ xs. IsPermutation xs (map shown_by found.ordered)) as_paths (IsPermutation-map shown_by (map out kept) found.ordered same) in
     let apart : IsAscending (λ a b. is_eq (text_cmp (path_in a) (path_in b)) ≡ false) kept = ascending_has (λ a b. value_cmp (rowid a) (rowid b) ≡ Less) (λ a b. is_eq (text_cmp (path_in a) (path_in b)) ≡ false) kept
     (λ a b ha hb below. untied old.now office n a b (has_filtered keep (db file_tree) a ha) (has_filtered keep (db file_tree) b hb) below)
-    (ascending-filter (λ a b. value_cmp (rowid a) (rowid b) ≡ Less) keep (db file_tree) office.whole.shaped.1.1.1.1.1.1.0.0) in
+    (ascending-filter (λ a b. value_cmp (rowid a) (rowid b) ≡ Less) keep (db file_tree) (of_files office.whole.shaped).0) in
     let distinct = ascending-map (λ s t. is_eq (text_cmp s t) ≡ false) path_in kept apart in
     let sorted_is : map shown_by found.ordered ≡ sort_by text_cmp (map path_in kept) = sorted_is-sort_by text_cmp text_total (map path_in kept) (map shown_by found.ordered) distinct moved up in
     let decode = file_in (contents_of old.now) in

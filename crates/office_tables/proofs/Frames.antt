@@ -17,6 +17,7 @@ use Rattle.office_rows.specs.Rows.{Tables}
 use Rattle.sql_meaning.specs.Columns.{int_at}
 use Rattle.office_tables.specs.Tables.{IsOffice, Becomes, tables_of, contents_of, content_in}
 use Rattle.office_tables.specs.Contents.{references_of, AreKeptOnce, KeepsOnce}
+use Rattle.office_tables.proofs.TablePlaces.{of_office, of_callers, of_old_rules, of_classes, of_collections, of_deposits, of_files, of_old_holds, of_contents, of_holds, of_rules}
 
 -- no reference of the schema acts
 pub idle : IsIdle office_schema
@@ -25,7 +26,7 @@ idle tree olds news = elim (cases_Bool (length news == 0)) [ inl is ↦ rw is re
 -- databases whose tables have the same rows show the same; each table has its place here
 same_tables : (a b : Database) → AllByRecursion (λ t. a.trees t.tree ≡ b.trees t.tree) all_tables → tables_of a ≡ tables_of b
 same_tables a b is =
-    rw (is.0, is.1.0, is.1.1.1.0, is.1.1.1.1.0, is.1.1.1.1.1.0, is.1.1.1.1.1.1.0, is.1.1.1.1.1.1.1.1.0, is.1.1.1.1.1.1.1.1.1.0, is.1.1.1.1.1.1.1.1.1.1.0) refl
+    rw (of_office is, of_callers is, of_classes is, of_collections is, of_deposits is, of_files is, of_contents is, of_holds is, of_rules is) refl
 
 -- the edit that adds the row to the table
 abbrev pub adding : Table → Row → State → Edit
@@ -52,7 +53,7 @@ becomes_shaped old new edit count written shaped empty others change tables is =
     record {
       office = record {
         whole = whole_after office_schema old new edit count written change shaped;
-        emptied = (after.1.1.1.1.1.1.1.0 ∙ same_rows old_hold_tree edit old.now others.0 empty.0, (after.1.1.0 ∙ same_rows old_rule_tree edit old.now others.1.0 empty.1.0, tt));
+        emptied = (of_old_holds after ∙ same_rows old_hold_tree edit old.now others.0 empty.0, (of_old_rules after ∙ same_rows old_rule_tree edit old.now others.1.0 empty.1.0, tt));
       };
       are = same_tables new.now (with_edit edit old.now) after ∙ is;
     }
@@ -64,10 +65,10 @@ becomes old new edit count written office others change tables is = becomes_shap
 -- what the change leaves of the contents, and of the files
 module _ (old new : State) (edit : Edit) (count : ℕ) (written : List Row) (change : Changes office_schema old new edit count written) where
   pub file_rows_after : new.now.trees file_tree ≡ (with_edit edit old.now).trees file_tree
-  file_rows_after = (rows_after office_schema old new edit count written change).1.1.1.1.1.1.0
+  file_rows_after = of_files (rows_after office_schema old new edit count written change)
 
   pub contents_after : contents_of new.now ≡ contents_of (with_edit edit old.now)
-  contents_after = ap (map content_in) (rows_after office_schema old new edit count written change).1.1.1.1.1.1.1.1.0
+  contents_after = ap (map content_in) (of_contents (rows_after office_schema old new edit count written change))
 
   pub references_after : references_of new.now ≡ references_of (with_edit edit old.now)
   references_after = ap (map (λ (row : Row). int_at row 3)) file_rows_after

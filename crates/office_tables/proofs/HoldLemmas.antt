@@ -52,6 +52,7 @@ use Rattle.office_tables.specs.Schema.{office_schema, hold_4_table, hold_tree}
 use Rattle.office_rows.specs.Rows.{HoldRow, put_by, is_hold, hold_numbered, last_number, with_hold, with_released, is_live, holds_deposit, holds_collection, holds_class, is_live_on, is_live_within, is_live_of_class, is_live_over, live_holds}
 use Rattle.office_tables.specs.Tables.{IsOffice, Becomes, tables_of, hold_in}
 use Rattle.office_tables.specs.ShownHolds.{shown_hold}
+use Rattle.office_tables.proofs.TablePlaces.{of_holds}
 use Rattle.office_tables.proofs.Frames.{idle, becomes, AreOthers, adding}
 use Rattle.office_tables.proofs.InOrder.{placed}
 use Rattle.office_tables.proofs.LastRow.{reads_last}
@@ -62,7 +63,7 @@ use Rattle.office_tables.proofs.RowsRead.{reads_numbered}
 
 -- the rows of the holds ascend by number
 shaped_holds : (db : Database) → IsOffice db → IsShaped shape.Table (db.trees hold_tree)
-shaped_holds db office = office.whole.shaped.1.1.1.1.1.1.1.1.1.0
+shaped_holds db office = of_holds office.whole.shaped
 
 -- the tables that stay empty are others
 others : AreOthers hold_tree
@@ -149,7 +150,7 @@ IsStoredHold r = ((column r 2 ≡ Null) ⊎ (column r 2 ≡ Int (int_at r 2))) �
 pub hold_rows : (db : Database) → IsOffice db → AllByRecursion IsStoredHold (db.trees hold_tree)
 hold_rows db office = all_both (λ r typed present.
     let at = typed_at office_schema db.trees hold_4_table r typed present in
-    (at 1 refl, at 2 refl, at 3 refl, at 4 refl, at 5 refl, at 6 refl)) (db.trees hold_tree) (keeps_rule office.whole Datatype).1.1.1.1.1.1.1.1.1.0 (keeps_rule office.whole NotNull).1.1.1.1.1.1.1.1.1.0
+    (at 1 refl, at 2 refl, at 3 refl, at 4 refl, at 5 refl, at 6 refl)) (db.trees hold_tree) (of_holds (keeps_rule office.whole Datatype)) (of_holds (keeps_rule office.whole NotNull))
 
 abbrev ended : ℤ → Row → Row
 ended day r = rowid r ∷ Null ∷ column r 2 ∷ column r 3 ∷ column r 4 ∷ column r 5 ∷ column r 6 ∷ Int day ∷ []

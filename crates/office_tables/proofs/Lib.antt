@@ -1,3 +1,4 @@
+pub mod TablePlaces
 pub mod Frames
 pub mod InOrder
 pub mod InTurn

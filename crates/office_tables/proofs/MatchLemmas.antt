@@ -30,6 +30,7 @@ use Rattle.sql_meaning.proofs.Whole.{keeps_rule}
 use Rattle.office_tables.specs.Schema.{office_schema, rule_5_table, rule_tree}
 use Rattle.office_tables.specs.Tables.{IsOffice, tables_of, rule_in}
 use Rattle.office_tables.specs.ShownPolicy.{shown_rule}
+use Rattle.office_tables.proofs.TablePlaces.{of_rules}
 use Rattle.office_tables.proofs.PolicyTexts.{rule_columns}
 use Rattle.office_tables.proofs.DueLemmas.{truth_back, by_day}
 use Rattle.office_tables.proofs.MatchTexts.{AsksFirst, match_text, matching, match_order, asks_match}
@@ -87,7 +88,7 @@ IsRuleRow r = (column r 3 ≡ Text (bytes_at r 3)) × (column r 4 ≡ Text (byte
 pub rule_rows : (db : Database) → IsOffice db → AllByRecursion IsRuleRow (db.trees rule_tree)
 rule_rows db office = all_both (λ r t p.
     let at = typed_at office_schema db.trees rule_5_table r t p in
-    (at 2 refl, at 3 refl, at 4 refl, at 5 refl, at 6 refl, at 7 refl)) (db.trees rule_tree) (keeps_rule office.whole Datatype).1.1.1.1.1.1.1.1.1.1.0 (keeps_rule office.whole NotNull).1.1.1.1.1.1.1.1.1.1.0
+    (at 2 refl, at 3 refl, at 4 refl, at 5 refl, at 6 refl, at 7 refl)) (db.trees rule_tree) (of_rules (keeps_rule office.whole Datatype)) (of_rules (keeps_rule office.whole NotNull))
 
 and_true : (a : Bool) → (a && true) ≡ a
 and_true true = refl
@@ -114,7 +115,7 @@ finds_match old new role action collection class day rows office h =
     let params : Row = Text role ∷ Text action ∷ Text collection ∷ Text class ∷ Int day ∷ [] in
     let stored = old.now.trees rule_tree in
     let keep : Row → Bool = λ r. fits_attempt (attempt role action collection class day) (rule_in r) in
-    let up = ascending_weaker _ _ (λ a b lower. rw lower refl) stored office.whole.shaped.1.1.1.1.1.1.1.1.1.1.0.0 in
+    let up = ascending_weaker _ _ (λ a b lower. rw lower refl) stored (of_rules office.whole.shaped).0 in
     let each = all_from (λ r. passes params matching r ≡ keep r) stored (λ r there. passes_match role action collection class day r (all_has IsRuleRow stored r (rule_rows old.now office) there)) in
     let is = reads_first office_schema match_text rule_tree matching rule_columns match_order asks_match params old new office.whole.schema_is rows h keep each up in
     let all = map (shown_of params rule_columns) (filter keep stored) in

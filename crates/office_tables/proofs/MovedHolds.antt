@@ -27,6 +27,7 @@ use Rattle.office_tables.specs.Tables.{hold_in}
 use Rattle.office_tables.specs.Moving.{AllRows, moved_hold, BecomesAt, rows_at}
 use Rattle.office_tables.specs.Versions.{schema_at, old_hold_in}
 use Rattle.office_tables.specs.declared.version.TableVersion.TheVariants.{Third, Fourth}
+use Rattle.office_tables.proofs.TablePlaces.{of_office, of_callers, of_old_rules, of_classes, of_collections, of_deposits, of_files, of_old_holds, of_contents}
 use Rattle.office_tables.proofs.MovingTexts.{copy_holds_text, copied_hold, empty_holds_text, eight, moving_meanings}
 use Rattle.office_tables.proofs.MaybeEmpty.{keeps_int, keeps_text}
 use Rattle.office_tables.proofs.TakenOver.{takes_over, empties, starts_empty, rows_taken, others_kept}
@@ -46,7 +47,7 @@ IsStored r = ((column r 2 ≡ Null) ⊎ (column r 2 ≡ Int (int_at r 2))) × ((
 stored_rows : (db : Database) → IsWhole fourth db → AllByRecursion IsStored (db.trees old_hold_tree)
 stored_rows db whole = all_both (λ r typed present.
     let at = typed_at fourth db.trees hold_table r typed present in
-    (at 1 refl, at 2 refl, at 3 refl, at 4 refl, at 5 refl)) (db.trees old_hold_tree) (keeps_rule whole Datatype).1.1.1.1.1.1.1.0 (keeps_rule whole NotNull).1.1.1.1.1.1.1.0
+    (at 1 refl, at 2 refl, at 3 refl, at 4 refl, at 5 refl)) (db.trees old_hold_tree) (of_old_holds (keeps_rule whole Datatype)) (of_old_holds (keeps_rule whole NotNull))
 
 moves_row : (r : Row) → IsStored r → IsTrue (is_int (rowid r)) → cast_row hold_4_table (shown_of [] copied_hold r) ≡ moved_hold r
 moves_row r it whole =
@@ -55,11 +56,11 @@ moves_row r it whole =
 
 pub copies_holds : (old new : State) (count : ℕ) → IsWhole fourth old.now → old.now.trees hold_tree ≡ [] → Executes copy_holds_text [] old new (Ok count)
     → Sets fourth hold_tree (map moved_hold (old.now.trees old_hold_tree)) old.now new.now
-copies_holds = takes_over fourth idle hold_table 7 refl (λ db whole. whole.shaped.1.1.1.1.1.1.1.0) hold_4_table 9 refl refl refl copied_hold eight moved_hold copy_holds_text moving_meanings.copy_holds_means
+copies_holds = takes_over fourth idle hold_table 7 refl (λ db whole. of_old_holds whole.shaped) hold_4_table 9 refl refl refl copied_hold eight moved_hold copy_holds_text moving_meanings.copy_holds_means
     (λ db whole r there. moves_row r (all_has IsStored (db.trees old_hold_tree) r (stored_rows db whole) there)) (λ r. refl)
 
 pub empties_holds : (old new : State) (count : ℕ) → IsWhole fourth old.now → Executes empty_holds_text [] old new (Ok count) → Sets fourth old_hold_tree [] old.now new.now
-empties_holds = empties fourth idle hold_table 7 refl (λ db whole. whole.shaped.1.1.1.1.1.1.1.0) empty_holds_text moving_meanings.empty_holds_means
+empties_holds = empties fourth idle hold_table 7 refl (λ db whole. of_old_holds whole.shaped) empty_holds_text moving_meanings.empty_holds_means
 
 -- ---- all of it
 
@@ -71,7 +72,7 @@ module _ (d0 d1 : Database) (grown : Grows (schema_at Third) fourth d0 d1) where
   pub holds_moved : (rows : AllRows) (d2 d3 : Database) → BecomesAt Third d0 rows → Sets fourth hold_tree (map moved_hold (d1.trees old_hold_tree)) d1 d2 → Sets fourth old_hold_tree [] d2 d3 → BecomesAt Fourth d3 rows
   holds_moved rows d2 d3 was copied emptied =
       let typed : map hold_in (d3.trees hold_tree) ≡ map old_hold_in (d0.trees old_hold_tree) =
-      rows_taken (schema_at Third) fourth hold_table hold_4_table refl refl d0 d1 grown (ap (drop 9) grown.tables) moved_hold d2 d3 copied emptied hold_in grown.kept.1.1.1.1.1.1.1.0 in
+      rows_taken (schema_at Third) fourth hold_table hold_4_table refl refl d0 d1 grown (ap (drop 9) grown.tables) moved_hold d2 d3 copied emptied hold_in (of_old_holds grown.kept) in
       let o = others_kept (schema_at Third) fourth hold_table hold_4_table refl refl d0 d1 grown (ap (drop 9) grown.tables) moved_hold d2 d3 copied emptied in
-      let same : rows_at Fourth d3 ≡ rows_at Third d0 = rw (typed, o.0, o.1.0, o.1.1.0, o.1.1.1.0, o.1.1.1.1.0, o.1.1.1.1.1.0, o.1.1.1.1.1.1.0, o.1.1.1.1.1.1.1.1.0) refl in
-      record { office = record { whole = emptied.whole; emptied = (o.1.1.1.1.1.1.1.0, tt) }; are = same ∙ was.are }
+      let same : rows_at Fourth d3 ≡ rows_at Third d0 = rw (typed, of_office o, of_callers o, of_old_rules o, of_classes o, of_collections o, of_deposits o, of_files o, of_contents o) refl in
+      record { office = record { whole = emptied.whole; emptied = (of_old_holds o, tt) }; are = same ∙ was.are }

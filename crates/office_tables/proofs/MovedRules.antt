@@ -26,6 +26,7 @@ use Rattle.office_tables.specs.Tables.{rule_in}
 use Rattle.office_tables.specs.Moving.{AllRows, moved_rule, BecomesAt, rows_at}
 use Rattle.office_tables.specs.Versions.{first_day, last_day, schema_at, old_rule_in}
 use Rattle.office_tables.specs.declared.version.TableVersion.TheVariants.{Fourth, Fifth}
+use Rattle.office_tables.proofs.TablePlaces.{of_office, of_callers, of_old_rules, of_classes, of_collections, of_deposits, of_files, of_old_holds, of_contents, of_holds}
 use Rattle.office_tables.proofs.MovingTexts.{copy_rules_text, copied_rule, empty_rules_text, eight, moving_meanings}
 use Rattle.office_tables.proofs.TakenOver.{takes_over, empties, starts_empty, rows_taken, others_kept}
 use Rattle.office_tables.proofs.Frames.{idle}
@@ -40,7 +41,7 @@ IsStored r = (column r 2 ≡ Int (int_at r 2)) × (column r 3 ≡ Text (bytes_at
 stored_rows : (db : Database) → IsWhole fifth db → AllByRecursion IsStored (db.trees old_rule_tree)
 stored_rows db whole = all_both (λ r typed present.
     let at = typed_at fifth db.trees rule_table r typed present in
-    (at 1 refl, at 2 refl, at 3 refl, at 4 refl, at 5 refl)) (db.trees old_rule_tree) (keeps_rule whole Datatype).1.1.0 (keeps_rule whole NotNull).1.1.0
+    (at 1 refl, at 2 refl, at 3 refl, at 4 refl, at 5 refl)) (db.trees old_rule_tree) (of_old_rules (keeps_rule whole Datatype)) (of_old_rules (keeps_rule whole NotNull))
 
 moves_row : (r : Row) → IsStored r → IsTrue (is_int (rowid r)) → cast_row rule_5_table (shown_of [] copied_rule r) ≡ moved_rule r
 moves_row r it whole =
@@ -49,11 +50,11 @@ moves_row r it whole =
 
 pub copies_rules : (old new : State) (count : ℕ) → IsWhole fifth old.now → old.now.trees rule_tree ≡ [] → Executes copy_rules_text [] old new (Ok count)
     → Sets fifth rule_tree (map moved_rule (old.now.trees old_rule_tree)) old.now new.now
-copies_rules = takes_over fifth idle rule_table 2 refl (λ db whole. whole.shaped.1.1.0) rule_5_table 10 refl refl refl copied_rule (Binary ∷ eight) moved_rule copy_rules_text moving_meanings.copy_rules_means
+copies_rules = takes_over fifth idle rule_table 2 refl (λ db whole. of_old_rules whole.shaped) rule_5_table 10 refl refl refl copied_rule (Binary ∷ eight) moved_rule copy_rules_text moving_meanings.copy_rules_means
     (λ db whole r there. moves_row r (all_has IsStored (db.trees old_rule_tree) r (stored_rows db whole) there)) (λ r. refl)
 
 pub empties_rules : (old new : State) (count : ℕ) → IsWhole fifth old.now → Executes empty_rules_text [] old new (Ok count) → Sets fifth old_rule_tree [] old.now new.now
-empties_rules = empties fifth idle rule_table 2 refl (λ db whole. whole.shaped.1.1.0) empty_rules_text moving_meanings.empty_rules_means
+empties_rules = empties fifth idle rule_table 2 refl (λ db whole. of_old_rules whole.shaped) empty_rules_text moving_meanings.empty_rules_means
 
 -- the rules are copied into the table that was made, and their old table is emptied; each other table has its place here
 module _ (d0 d1 : Database) (grown : Grows (schema_at Fourth) fifth d0 d1) where
@@ -63,8 +64,8 @@ module _ (d0 d1 : Database) (grown : Grows (schema_at Fourth) fifth d0 d1) where
   pub rules_moved : (rows : AllRows) (d2 d3 : Database) → BecomesAt Fourth d0 rows → Sets fifth rule_tree (map moved_rule (d1.trees old_rule_tree)) d1 d2 → Sets fifth old_rule_tree [] d2 d3 → BecomesAt Fifth d3 rows
   rules_moved rows d2 d3 was copied emptied =
       let typed : map rule_in (d3.trees rule_tree) ≡ map old_rule_in (d0.trees old_rule_tree) =
-      rows_taken (schema_at Fourth) fifth rule_table rule_5_table refl refl d0 d1 grown (ap (drop 10) grown.tables) moved_rule d2 d3 copied emptied rule_in grown.kept.1.1.0 in
+      rows_taken (schema_at Fourth) fifth rule_table rule_5_table refl refl d0 d1 grown (ap (drop 10) grown.tables) moved_rule d2 d3 copied emptied rule_in (of_old_rules grown.kept) in
       let o = others_kept (schema_at Fourth) fifth rule_table rule_5_table refl refl d0 d1 grown (ap (drop 10) grown.tables) moved_rule d2 d3 copied emptied in
-      let same : rows_at Fifth d3 ≡ rows_at Fourth d0 = rw (typed, o.0, o.1.0, o.1.1.1.0, o.1.1.1.1.0, o.1.1.1.1.1.0, o.1.1.1.1.1.1.0, o.1.1.1.1.1.1.1.1.0, o.1.1.1.1.1.1.1.1.1.0) refl in
-      let still : d3.trees old_hold_tree ≡ [] = o.1.1.1.1.1.1.1.0 ∙ was.office.emptied.0 in
-      record { office = record { whole = emptied.whole; emptied = (still, (o.1.1.0, tt)) }; are = same ∙ was.are }
+      let same : rows_at Fifth d3 ≡ rows_at Fourth d0 = rw (typed, of_office o, of_callers o, of_classes o, of_collections o, of_deposits o, of_files o, of_contents o, of_holds o) refl in
+      let still : d3.trees old_hold_tree ≡ [] = of_old_holds o ∙ was.office.emptied.0 in
+      record { office = record { whole = emptied.whole; emptied = (still, (of_old_rules o, tt)) }; are = same ∙ was.are }

@@ -12,6 +12,7 @@ use Rattle.sql_meaning.proofs.RowidKeys.{by_number, has_number}
 use Rattle.office_tables.specs.Schema.{office_schema, office_tree}
 use Rattle.office_rows.specs.Rows.{is_office_row, limits_in, limits_of}
 use Rattle.office_tables.specs.Tables.{IsOffice, tables_of, office_in, shown_limits}
+use Rattle.office_tables.proofs.TablePlaces.{of_office}
 use Rattle.office_tables.proofs.RowsRead.{reads_numbered}
 
 abbrev pub limits_text : List ℕ
@@ -27,5 +28,5 @@ asks_limits = record { names = codes "max_deposits" ∷ codes "max_holds" ∷ []
 pub finds_limits : (old new : State) (rows : List Row) → IsOffice old.now → Shown limits_text (Int (pos 1) ∷ []) old new rows
     → (new.now ≡ old.now) × (limits_of (tables_of old.now) ≡ option_map shown_limits (slice_get rows 0))
 finds_limits old new rows office h =
-    let read = reads_numbered old new rows office asks_limits (pos 1) office.whole.shaped.0 h in
+    let read = reads_numbered old new rows office asks_limits (pos 1) (of_office office.whole.shaped) h in
     (read.0, finds_part (old.now.trees office_tree) rows (has_number (pos 1)) (shown_of (Int (pos 1) ∷ []) limit_columns) office_in is_office_row (λ r. refl) read.1 limits_in shown_limits (λ r. refl))

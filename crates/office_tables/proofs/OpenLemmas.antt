@@ -40,6 +40,7 @@ use Rattle.office_tables.specs.Versions.{schema_at, tables_at}
 use Rattle.office_tables.specs.declared.version.TableVersion.{TableVersion}
 use Rattle.office_tables.specs.declared.version.TableVersion.TheVariants.{Third, Fourth, Fifth}
 use Rattle.office_tables.specs.Tables.{office_in}
+use Rattle.office_tables.proofs.TablePlaces.{of_office}
 use Rattle.office_tables.proofs.Looking.{all_passed_over, known_there}
 use Rattle.office_tables.specs.Opening.{has_office, look_text, Looks, ShowsVersion, shows_office, is_one, is_limit_told, is_int as is_whole}
 
@@ -54,7 +55,7 @@ with_office more indexes = record { tables = office_table ∷ more; indexes = in
 office_rows : (more : List Table) (indexes : List Index) (db : Database) → IsWhole (with_office more indexes) db → AllByRecursion IsOfficeRow (db.trees office_tree)
 office_rows more indexes db office = all_both (λ r t p.
     let at = typed_at (with_office more indexes) db.trees office_table r t p in
-    (at 1 refl, at 2 refl, at 3 refl)) (db.trees office_tree) (keeps_rule office Datatype).0 (keeps_rule office NotNull).0
+    (at 1 refl, at 2 refl, at 3 refl)) (db.trees office_tree) (of_office (keeps_rule office Datatype)) (of_office (keeps_rule office NotNull))
 
 -- the schema of each version has the table
 at_once : (version : TableVersion) → has_office (schema_at version) ≡ true
@@ -110,7 +111,7 @@ module _ (more : List Table) (indexes : List Index) (asks : Asks (with_office mo
   known r = is_known (office_in r)
 
   told : (r : Row) → Has (db.trees office_tree) r → shows_office (shown_of [] look_columns r) ≡ known r
-  told r there = shows_is r (all_has IsOfficeRow (db.trees office_tree) r (office_rows more indexes db office) there) (all_has _ (db.trees office_tree) r office.shaped.0.1 there)
+  told r there = shows_is r (all_has IsOfficeRow (db.trees office_tree) r (office_rows more indexes db office) there) (all_has _ (db.trees office_tree) r (of_office office.shaped).1 there)
 
   found : find is_known (map office_in (db.trees office_tree)) ≡ option_map office_in (slice_get (filter known (db.trees office_tree)) 0)
   found = found_by is_known known office_in (db.trees office_tree) (all_from _ (db.trees office_tree) (λ r there. refl))
@@ -119,7 +120,7 @@ module _ (more : List Table) (indexes : List Index) (asks : Asks (with_office mo
   every = all_from _ (db.trees office_tree) (λ r there. refl)
 
   alike : (x y : Row) → Has (db.trees office_tree) x → Has (db.trees office_tree) y → known x ≡ true → known y ≡ true → x ≡ y
-  alike x y hx hy kx ky = one_numbered (db.trees office_tree) office.shaped.0 (pos 1) x y hx hy (and_parts _ _ kx).0 (and_parts _ _ ky).0
+  alike x y hx hy kx ky = one_numbered (db.trees office_tree) (of_office office.shaped) (pos 1) x y hx hy (and_parts _ _ kx).0 (and_parts _ _ ky).0
 
   shows_first : (told_version : Option ℤ) → ShowsVersion db told_version → option_map (λ (o : OfficeRow). o.version) (find is_known (map office_in (db.trees office_tree))) ≡ told_version
   shows_first None shown =
@@ -134,7 +135,7 @@ module _ (more : List Table) (indexes : List Index) (asks : Asks (with_office mo
       let it = answer_sound db.trees [] office_tree [] look_columns by_version shown.0 (λ r. true) scans every shown.1 first.0 in
       let is : known it.0 ≡ true = sym (told it.0 it.1) ∙ ap shows_office (sym it.3) ∙ first.1 in
       let typed = all_has IsOfficeRow (db.trees office_tree) it.0 (office_rows more indexes db office) it.1 in
-      let one : filter known (db.trees office_tree) ≡ it.0 ∷ [] = elim (lone known (db.trees office_tree) (db.trees office_tree) office.shaped.0.0 (λ r there. there) alike) [
+      let one : filter known (db.trees office_tree) ≡ it.0 ∷ [] = elim (lone known (db.trees office_tree) (db.trees office_tree) (of_office office.shaped).0 (λ r there. there) alike) [
         | inl none ↦ absurd (let within = subst (λ rs. Has rs it.0) none (has_kept known (db.trees office_tree) it.0 it.1 is) in within)
         | inr single ↦ single.3 ∙ ap (λ r. r ∷ []) (alike single.0 it.0 single.1 it.1 single.2 is)
       ] in

@@ -16,6 +16,7 @@ use Rattle.sql_meaning.specs.Columns.{int_at}
 use Rattle.office_rows.specs.Rows.{NumbersRise, AreInOrder, live_holds}
 use Rattle.office_tables.specs.Schema.{deposit_tree, hold_tree, rule_tree}
 use Rattle.office_tables.specs.Tables.{IsOffice, tables_of, deposit_in, hold_in, rule_in}
+use Rattle.office_tables.proofs.TablePlaces.{of_deposits, of_holds, of_rules}
 use Rattle.office_tables.proofs.InOrder.{IsNumbered, same_order}
 use Rattle.office_tables.proofs.HoldLemmas.{live_rise}
 
@@ -32,9 +33,9 @@ module _ {Y : Type 0} (decode : Row → Y) (number : Y → ℤ) (numbers : (r : 
 
 pub in_order : (db : Database) → IsOffice db → AreInOrder (tables_of db)
 in_order db office = record {
-  deposits = rises deposit_in (λ d. d.number) (λ r. refl) (db.trees deposit_tree) office.whole.shaped.1.1.1.1.1.0;
-  holds = rises hold_in (λ h. h.number) (λ r. refl) (db.trees hold_tree) office.whole.shaped.1.1.1.1.1.1.1.1.1.0;
-  rules = rises rule_in (λ r. r.place) (λ r. refl) (db.trees rule_tree) office.whole.shaped.1.1.1.1.1.1.1.1.1.1.0;
+  deposits = rises deposit_in (λ d. d.number) (λ r. refl) (db.trees deposit_tree) (of_deposits office.whole.shaped);
+  holds = rises hold_in (λ h. h.number) (λ r. refl) (db.trees hold_tree) (of_holds office.whole.shaped);
+  rules = rises rule_in (λ r. r.place) (λ r. refl) (db.trees rule_tree) (of_rules office.whole.shaped);
 }
 
 ascending_numbers : (ns : List ℤ) → IsAscending (λ a b. int_cmp a b ≡ Less) ns → NumbersRise (λ n. n) ns

@@ -25,6 +25,7 @@ use Rattle.office_tables.specs.Schema.{office_schema, caller_table, rule_5_table
 use Rattle.office_rows.specs.Rows.{Tables, CallerRow, RuleRow, is_caller, caller_named, with_caller, with_rule, with_callers, with_rules, without_callers, without_rules, with_policy}
 use Rattle.office_tables.specs.Tables.{IsOffice, Becomes, tables_of, caller_in, rule_in}
 use Rattle.office_tables.specs.ShownPolicy.{shown_rule}
+use Rattle.office_tables.proofs.TablePlaces.{of_callers, of_rules}
 use Rattle.office_tables.proofs.Frames.{idle, becomes}
 use Rattle.office_tables.proofs.InOrder.{placed}
 use Rattle.office_tables.proofs.PolicyTexts.{role_text, rules_text, drop_callers_text, drop_rules_text, add_caller_text, add_rule_text, rule_terms, policy_meanings}
@@ -34,7 +35,7 @@ use Rattle.office_tables.proofs.RowsRead.{finds_named, lists_all}
 -- each name of a caller is a text
 names : (db : Database) → IsOffice db → AllByRecursion (λ r. column r 1 ≡ Text (bytes_at r 1)) (db.trees caller_tree)
 names db office = all_both (λ r typed present. typed_at office_schema db.trees caller_table r typed present 0 refl)
-    (db.trees caller_tree) (keeps_rule office.whole Datatype).1.0 (keeps_rule office.whole NotNull).1.0
+    (db.trees caller_tree) (of_callers (keeps_rule office.whole Datatype)) (of_callers (keeps_rule office.whole NotNull))
 
 -- ---- reads
 
@@ -42,26 +43,26 @@ pub finds_role : (old new : State) (name : List ℕ) (rows : List Row) → IsOff
     → (new.now ≡ old.now) × (option_map (λ (c : CallerRow). c.role) (caller_named name (tables_of old.now).callers) ≡ option_map (λ row. bytes_at row 0) (slice_get rows 0))
 finds_role old new name rows office h =
     let named = names old.now office in
-    let few = few_named 1 (old.now.trees caller_tree) office.whole.shaped.1.0 named (keeps_rule office.whole Unique).1.0 name in
+    let few = few_named 1 (old.now.trees caller_tree) (of_callers office.whole.shaped) named (of_callers (keeps_rule office.whole Unique)) name in
     finds_named old new rows office 1 policy_meanings.asks_role name named few caller_in (is_caller name) (λ r. refl) (λ (c : CallerRow). c.role) (λ row. bytes_at row 0) (λ r. refl) h
 
 pub lists_rules : (old new : State) (rows : List Row) → IsOffice old.now → Shown rules_text [] old new rows
     → (new.now ≡ old.now) × ((tables_of old.now).rules ≡ map shown_rule rows)
 lists_rules old new rows office h =
-    lists_all old new rows office policy_meanings.asks_rules office.whole.shaped.1.1.1.1.1.1.1.1.1.1.0 rule_in shown_rule (λ r. refl) h
+    lists_all old new rows office policy_meanings.asks_rules (of_rules office.whole.shaped) rule_in shown_rule (λ r. refl) h
 
 -- ---- none of the old rows
 
 pub drops_callers : (old new : State) (count : ℕ) → IsOffice old.now → Executes drop_callers_text [] old new (Ok count) → Becomes new.now (without_callers (tables_of old.now))
 drops_callers old new count office h =
     let db = old.now.trees in
-    let done = drops drop_callers_text [] old new office_schema office.whole.schema_is 1 caller_table refl idle office.whole.shaped.1.0 [] (col 1 0 ∷ []) (λ r. true) (all_from (λ r. true ≡ true) (db caller_tree) (λ r there. refl)) policy_meanings.drop_callers_means (λ r. refl) count h in
+    let done = drops drop_callers_text [] old new office_schema office.whole.schema_is 1 caller_table refl idle (of_callers office.whole.shaped) [] (col 1 0 ∷ []) (λ r. true) (all_from (λ r. true ≡ true) (db caller_tree) (λ r there. refl)) policy_meanings.drop_callers_means (λ r. refl) count h in
     becomes old new (edit_of db caller_table (ids_of done.answer) Given 0 []) count _ office (refl, (refl, tt)) done.change _ (ap (λ rows. record (tables_of old.now) { callers = rows }) (ap (map caller_in) (done.made ∙ none_pass (λ r. false) (db caller_tree) (λ r there. refl))))
 
 pub drops_rules : (old new : State) (count : ℕ) → IsOffice old.now → Executes drop_rules_text [] old new (Ok count) → Becomes new.now (without_rules (tables_of old.now))
 drops_rules old new count office h =
     let db = old.now.trees in
-    let done = drops drop_rules_text [] old new office_schema office.whole.schema_is 10 rule_5_table refl idle office.whole.shaped.1.1.1.1.1.1.1.1.1.1.0 [] (col 1 0 ∷ []) (λ r. true) (all_from (λ r. true ≡ true) (db rule_tree) (λ r there. refl)) policy_meanings.drop_rules_means (λ r. refl) count h in
+    let done = drops drop_rules_text [] old new office_schema office.whole.schema_is 10 rule_5_table refl idle (of_rules office.whole.shaped) [] (col 1 0 ∷ []) (λ r. true) (all_from (λ r. true ≡ true) (db rule_tree) (λ r there. refl)) policy_meanings.drop_rules_means (λ r. refl) count h in
     becomes old new (edit_of db rule_5_table (ids_of done.answer) Given 0 []) count _ office (refl, (refl, tt)) done.change _ (ap (λ rows. record (tables_of old.now) { rules = rows }) (ap (map rule_in) (done.made ∙ none_pass (λ r. false) (db rule_tree) (λ r there. refl))))
 
 -- ---- the new rows
@@ -74,7 +75,7 @@ adds_caller old new caller count office h =
     let edit = edit_of db caller_table [] Chosen 0 (source ∷ []) in
     let done = inserts add_caller_text (Text caller.name ∷ Text caller.role ∷ []) old new office_schema office.whole.schema_is 1 caller_table refl idle (all_given 2) 3 policy_meanings.add_caller_means refl refl count h in
     let cast_is : cast_row caller_table source ≡ Null ∷ Text caller.name ∷ Text caller.role ∷ [] = rw cast_null refl in
-    let end = appended db caller_table source (Text caller.name ∷ Text caller.role ∷ []) office.whole.shaped.1.0 cast_is in
+    let end = appended db caller_table source (Text caller.name ∷ Text caller.role ∷ []) (of_callers office.whole.shaped) cast_is in
     becomes old new edit count edit.news office (refl, (refl, tt)) done _ (ap (λ rows. record (tables_of old.now) { callers = rows }) (ap (map caller_in) end ∙ map-append caller_in (db caller_tree) _))
 
 abbrev pub params_of : RuleRow → Row
@@ -91,7 +92,7 @@ adds_rule old new rule count office h =
     let done = inserts add_rule_text (params_of rule) old new office_schema office.whole.schema_is 10 rule_5_table refl idle rule_terms 9 policy_meanings.add_rule_means refl refl count h in
     let cast_is : cast_row rule_5_table row ≡ row = rw (cast_null, cast_int rule.place, cast_int rule.effect, cast_int rule.first, cast_int rule.last) refl in
     becomes old new edit count edit.news office (refl, (refl, tt)) done _ (ap (λ rows. record (tables_of old.now) { rules = rows })
-    (placed rule_in (λ (r : RuleRow). r.place) (λ r. refl) old new rule_5_table row (stored_of rule) rule.place count edit.news office.whole.shaped.1.1.1.1.1.1.1.1.1.1.0 cast_is done))
+    (placed rule_in (λ (r : RuleRow). r.place) (λ r. refl) old new rule_5_table row (stored_of rule) rule.place count edit.news (of_rules office.whole.shaped) cast_is done))
 
 -- ---- all the new rows
 

@@ -29,6 +29,7 @@ use Rattle.office_tables.specs.Tables.{office_in}
 use Rattle.office_tables.specs.Moving.{AllRows, all_in_version, in_version, BecomesAt, rows_at}
 use Rattle.office_tables.specs.Versions.{schema_at}
 use Rattle.office_tables.specs.declared.version.TableVersion.TheVariants.{Fifth}
+use Rattle.office_tables.proofs.TablePlaces.{of_office, of_callers, of_old_rules, of_classes, of_collections, of_deposits, of_files, of_old_holds, of_contents, of_holds, of_rules}
 use Rattle.office_tables.proofs.MovingTexts.{version_text, versioned, moving_meanings}
 use Rattle.office_tables.proofs.MaybeEmpty.{keeps_int}
 use Rattle.office_tables.proofs.Frames.{idle}
@@ -42,7 +43,7 @@ IsStored r = (column r 2 ≡ Int (int_at r 2)) × (column r 3 ≡ Int (int_at r 
 stored_rows : (db : Database) → IsWhole fifth db → AllByRecursion IsStored (db.trees office_tree)
 stored_rows db whole = all_both (λ r t p.
     let at = typed_at fifth db.trees office_table r t p in
-    (at 1 refl, at 2 refl, at 3 refl)) (db.trees office_tree) (keeps_rule whole Datatype).0 (keeps_rule whole NotNull).0
+    (at 1 refl, at 2 refl, at 3 refl)) (db.trees office_tree) (of_office (keeps_rule whole Datatype)) (of_office (keeps_rule whole NotNull))
 
 abbrev set_to : ℤ → Row → Row
 set_to version r = rowid r ∷ Null ∷ Int version ∷ column r 3 ∷ column r 4 ∷ []
@@ -57,26 +58,26 @@ pub sets_version : (old new : State) (version : ℤ) (rows : AllRows) (count : �
 sets_version old new version rows count was h =
     let db = old.now.trees in
     let whole = was.office.whole in
-    let shaped = whole.shaped.0 in
+    let shaped = of_office whole.shaped in
     let done = revises version_text (Int (pos 1) ∷ Int version ∷ []) old new fifth whole.schema_is 0 office_table refl idle shaped by_number versioned
     (has_number (pos 1)) (each_numbered (pos 1) (Int version ∷ []) (db office_tree) shaped) moving_meanings.version_means (set_to version) (few_numbered (pos 1) (db office_tree) shaped)
     (λ r there. (refl, cast_set version r (all_has IsStored (db office_tree) r (stored_rows old.now whole) there) (all_has _ (db office_tree) r shaped.1 there), refl)) count h in
     let changed : Sets fifth office_tree (map (λ r. if has_number (pos 1) r then set_to version r else r) (db office_tree)) old.now new.now = sets fifth old new (edit_of db office_table (ids_of done.answer) Given 1 done.answer) count _ done.change _ whole done.made in
     let e = changed.given_rows in
     let typed : map office_in (new.now.trees office_tree) ≡ map (in_version version) (map office_in (db office_tree)) =
-    ap (map office_in) e.0 ∙ decoded office_in (has_number (pos 1)) (set_to version) is_office_row (λ (o : OfficeRow). record o { version = version }) (λ r. refl) (λ r. refl) (db office_tree) in
+    ap (map office_in) (of_office e) ∙ decoded office_in (has_number (pos 1)) (set_to version) is_office_row (λ (o : OfficeRow). record o { version = version }) (λ r. refl) (λ r. refl) (db office_tree) in
     let same : rows_at Fifth new.now ≡ all_in_version version (rows_at Fifth old.now) = rw (
       typed,
-      e.1.0,
-      e.1.1.1.0,
-      e.1.1.1.1.0,
-      e.1.1.1.1.1.0,
-      e.1.1.1.1.1.1.0,
-      e.1.1.1.1.1.1.1.1.0,
-      e.1.1.1.1.1.1.1.1.1.0,
-      e.1.1.1.1.1.1.1.1.1.1.0,
+      of_callers e,
+      of_classes e,
+      of_collections e,
+      of_deposits e,
+      of_files e,
+      of_contents e,
+      of_holds e,
+      of_rules e,
     ) refl in
     record {
-      office = record { whole = changed.whole; emptied = (e.1.1.1.1.1.1.1.0 ∙ was.office.emptied.0, (e.1.1.0 ∙ was.office.emptied.1.0, tt)) };
+      office = record { whole = changed.whole; emptied = (of_old_holds e ∙ was.office.emptied.0, (of_old_rules e ∙ was.office.emptied.1.0, tt)) };
       are = same ∙ ap (all_in_version version) was.are;
     }
