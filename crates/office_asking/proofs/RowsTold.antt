@@ -2,10 +2,13 @@
 use Rattle.std.proofs.Common.{◌≡◌, ℕ, ℤ, pos, Bool, true, false, if◌then◌else◌, List, [], ◌∷◌, map, slice_get, Option, Some, None, IfOk, IfErr, IfSome, Result, Ok, Err, option_map, string_bytes, sym, ap, subst, ◌∙◌, refl}
 use Rattle.std.proofs.lemmas.Option.{same_Some}
 use Rattle.std.proofs.lemmas.Slice.Eq.{bytes_eq-Decides}
+use Rattle.std.specs.Borrow.{MutBor}
 use Rattle.std.specs.Option.{ok_or}
 use Rattle.jiff.specs.Types.{Date}
 use Rattle.jiff.specs.Words.{epoch_day}
 use Rattle.sqlite.specs.Effect.{Database}
+use Rattle.sqlite.specs.Held.{Held}
+use Rattle.sqlite.specs.Store.{Ghosts}
 use Rattle.office_core.proofs.OptionLemmas.{find_some}
 use Rattle.office_core.specs.Actions.{action_text}
 use Rattle.office_core.specs.Names.{IsName}
@@ -18,8 +21,10 @@ use Rattle.office_core.specs.declared.refusal.Subject.TheVariants as subjects
 use Rattle.office_rows.specs.Matching.{matching_rule}
 use Rattle.office_rows.specs.Rows.{CallerRow, DepositRow, RuleRow, Tables, caller_named, deposit_numbered, is_caller}
 use Rattle.office_history.specs.RowRanges.{IsCallerRow}
+use Rattle.office_tables.specs.Calls.{GoesOnInside, Keeps, Tells}
 use Rattle.office_tables.specs.Tables.{IsOffice, tables_of}
 use Rattle.office_tables.specs.declared.fault.TableFault.{TableFault}
+use Rattle.office_tables.proofs.InTurn.{clean_first}
 use Rattle.office_asking.specs.Asking.{IsDecisionOf, Visit, or_empty}
 use Rattle.office_asking.specs.ByRows.{IsAskedIn, IsAskerIn, IsDecisionBy, IsDenialBy, IsFirst, IsRefusalOf, deciding_row, deciding_row_at}
 use Rattle.office_asking.specs.declared.asker.Asker.{Asker}
@@ -31,6 +36,13 @@ module _ {old mid : Database} (same : mid ≡ old) where
 
   pub told_before : (is_so : Tables → Type 0) → is_so (tables_of mid) → is_so (tables_of old)
   told_before is_so = subst (λ (db : Database). is_so (tables_of db)) same
+
+-- where a call changes no row, what the call after it tells is told of the rows before both
+pub tells_then : {S A B : Type 0} {g : Ghosts S} {old mid new : MutBor (Held S)} {x : A} {second : Result B TableFault} → GoesOnInside g old mid (Ok x) → GoesOnInside g mid new second → Keeps {E = TableFault} g old.now mid.now (Ok x)
+    → (is_so : Tables → B → Type 0) → Tells g mid.now new.now second is_so → Tells g old.now new.now second is_so
+tells_then {second = second} before after same is_so tells clean office =
+    let still = same (clean_first after.stays clean) office in
+    told_before still (λ t. IfOk second (is_so t)) (tells clean (office_still still office))
 
 -- what has to be there is what is found
 pub there_is : {T E : Type 0} (found : Option T) (fault : E) (x : T) → Ok x ≡ ok_or found fault → Some x ≡ found

@@ -1,4 +1,3 @@
-pub mod CallsTold
 pub mod HoldCount
 pub mod HoldPlaces
 pub mod CountTold

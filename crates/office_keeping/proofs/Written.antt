@@ -1,14 +1,14 @@
--- What calls inside a transaction write and tell, one after another, and the history that the tables then picture. From the clause
+-- What calls inside a transaction write, one after another, and the history that the tables then picture. From the clause
 -- `inside` of each call, antt knows the connections and the results.
 use Rattle.std.proofs.Common.{◌≡◌, ap, ◌∙◌}
-use Rattle.std.specs.Prelude.{List, Result, Ok, IfOk}
+use Rattle.std.specs.Prelude.{List, Result, Ok}
 use Rattle.std.specs.Borrow.{MutBor}
 use Rattle.std.proofs.lemmas.Result.{on_ok_weaker}
 use Rattle.sqlite.specs.Store.{Ghosts}
 use Rattle.sqlite.specs.State.{HasCleanDisk}
 use Rattle.sqlite.specs.Held.{Held, state}
 use Rattle.office_rows.specs.Rows.{Tables, this_version}
-use Rattle.office_tables.specs.Calls.{GoesOnInside, Keeps, Tells, Writes}
+use Rattle.office_tables.specs.Calls.{GoesOnInside, Writes}
 use Rattle.office_tables.specs.Contents.{LeavesOnce}
 use Rattle.office_tables.specs.declared.fault.TableFault.{TableFault}
 use Rattle.office_tables.proofs.InTurn.{clean_first}
@@ -17,7 +17,6 @@ use Rattle.office_history.specs.Pictures.{picture}
 use Rattle.office_history.specs.Runs.{IsLegal}
 use Rattle.office_asking.specs.Serving.{Accepts}
 use Rattle.office_asking.proofs.InTurn.{on_both}
-use Rattle.office_asking.proofs.RowsTold.{office_still, told_before}
 
 -- ---- two calls
 
@@ -34,12 +33,6 @@ module _ {S A B : Type 0} {g : Ghosts S} {old mid new : MutBor (Held S)} {x : A}
   -- each content is still kept once
   pub once_then : (first : Tables → Tables) → Writes {E = TableFault} g old.now mid.now (Ok x) first → LeavesOnce {E = TableFault} g old.now mid.now (Ok x) → LeavesOnce {E = TableFault} g mid.now new.now second → LeavesOnce {E = TableFault} g old.now new.now second
   once_then first wrote kept keeps clean office once = keeps clean (wrote (early clean) office).office (kept (early clean) office once)
-
-  -- where the first changes no row, what the second tells is told of the rows before both
-  pub tells_then : Keeps {E = TableFault} g old.now mid.now (Ok x) → (is_so : Tables → B → Type 0) → Tells {E = TableFault} g mid.now new.now second is_so → Tells {E = TableFault} g old.now new.now second is_so
-  tells_then same is_so tells clean office =
-      let still = same (early clean) office in
-      told_before still (λ t. IfOk second (is_so t)) (tells clean (office_still still office))
 
 -- ---- the history
 

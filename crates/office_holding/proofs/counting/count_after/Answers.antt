@@ -8,8 +8,7 @@ use Rattle.office_tables.specs.Tables.{tables_of}
 use Rattle.office_tables.specs.declared.fault.TableFault.TheVariants.{Store}
 use Rattle.office_tables.proofs.InTurn.{clean_first, inside_after, inside_failed, same_then, whatever}
 use Rattle.office_asking.proofs.InTurn.{ok_both}
-use Rattle.office_asking.proofs.RowsTold.{there_is}
-use Rattle.office_holding.proofs.CallsTold.{told_then}
+use Rattle.office_asking.proofs.RowsTold.{tells_then, there_is}
 use Rattle.office_holding.proofs.HoldsByRows.{counted_after}
 use Rattle.office_holding.proofs.counting.count_after.Goals as goal
 
@@ -19,7 +18,7 @@ returns-clause-rows g c clean office =
     let old = state g.S.Store a.tx.now.conn.now in
     let early = clean_first c.due_row.ensures.inside.stays clean in
     let row = c.in_ok-row.row in
-    let read = told_then c.in_ok-limits.ensures.inside c.in_ok-found.ensures.inside c.in_ok-limits.ensures.same (λ t found. found ≡ due_numbered (pos a.number) t.dues) c.in_ok-found.ensures.found clean office in
+    let read = tells_then c.in_ok-limits.ensures.inside c.in_ok-found.ensures.inside c.in_ok-limits.ensures.same (λ t found. found ≡ due_numbered (pos a.number) t.dues) c.in_ok-found.ensures.found clean office in
     let there = sym read ∙ sym (there_is c.in_ok-found.found Store row c.in_ok-row.ensures) in
     let fits : SFits w64 c.row.inside.holds = search rules in
     let held : c.row.inside.holds ≡ row.holds = search rules in

@@ -8,10 +8,10 @@ use Rattle.office_history.specs.Histories.{with_changes}
 use Rattle.office_history.specs.Refusals.{full_of_holds}
 use Rattle.office_asking.specs.Asking.{visit_on}
 use Rattle.office_asking.specs.Pictures.{Pictures}
+use Rattle.office_asking.proofs.RowsTold.{tells_then}
 use Rattle.office_asking.proofs.Serving.{allowed_serves, refused_serves}
 use Rattle.office_holding.specs.Holds.{IsNextOrRefused, hold_denials, hold_request, target_of}
 use Rattle.office_holding.specs.ByRows.{IsCountableOn, IsPlaceIn}
-use Rattle.office_holding.proofs.CallsTold.{told_then}
 use Rattle.office_holding.proofs.HoldPlaces.{answered_as, changed_as, refused_as}
 use Rattle.office_holding.proofs.HoldAsked.{same_deposit}
 use Rattle.office_holding.proofs.placing.hold.Goals as goal
@@ -42,7 +42,7 @@ returns-in_ok-place-in-Ok-clause-rows g c clean office =
     let a = c.args in
     let t = tables_of (state g.S.Store a.tx.now.conn.now).now in
     let early = clean_first c.place.ensures.inside.stays clean in
-    let counts = told_then c.in_ok-hold.ensures.inside c.in_ok-place-in-Ok.ensures.inside c.in_ok-hold.ensures.same (λ t _. IsCountableOn t (shown.held_deposit a.target) (pos 1)) c.in_ok-place-in-Ok.ensures.rows clean office in record {
+    let counts = tells_then c.in_ok-hold.ensures.inside c.in_ok-place-in-Ok.ensures.inside c.in_ok-hold.ensures.same (λ t _. IsCountableOn t (shown.held_deposit a.target) (pos 1)) c.in_ok-place-in-Ok.ensures.rows clean office in record {
       place = Ok c.in-Ok.hold;
       is_place = subst (IsPlaceIn t (visit_on a.day a.caller.now) (target_of a.target)) c.in-Ok.is (c.in_ok-hold.ensures.rows early office);
       counts = subst (λ deposit. IsCountableOn t deposit (pos 1)) (same_deposit a.target) counts;

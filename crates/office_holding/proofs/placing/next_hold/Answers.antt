@@ -3,8 +3,8 @@ use Rattle.sqlite.specs.Held.{state}
 use Rattle.office_history.specs.Histories.{holds}
 use Rattle.office_asking.proofs.LimitsTold.{limits_told, number_told}
 use Rattle.office_asking.proofs.Readings.{pictured_still}
+use Rattle.office_asking.proofs.RowsTold.{tells_then}
 use Rattle.office_holding.proofs.HoldCount.{count_told}
-use Rattle.office_holding.proofs.CallsTold.{told_then}
 use Rattle.office_holding.proofs.HoldPlaces.{next_placed}
 use Rattle.office_tables.specs.Tables.{tables_of}
 use Rattle.office_rows.specs.Rows.{HoldRow, last_number}
@@ -31,7 +31,7 @@ returns-clause-rows g c clean office =
     let early = clean_first c.last_hold.ensures.inside.stays clean in
     let most = c.in_ok-limits.limits in
     let last = c.in_ok-last.last in
-    let told = told_then c.in_ok-limits.ensures.inside c.in_ok-last.ensures.inside c.in_ok-limits.ensures.same (λ t found. option_map pos found ≡ last_number (λ (h : HoldRow). h.number) t.holds) c.in_ok-last.ensures.found clean office in
+    let told = tells_then c.in_ok-limits.ensures.inside c.in_ok-last.ensures.inside c.in_ok-limits.ensures.same (λ t found. option_map pos found ≡ last_number (λ (h : HoldRow). h.number) t.holds) c.in_ok-last.ensures.found clean office in
     next_told (tables_of old.now) most.max_deposits most.max_holds (c.in_ok-limits.ensures.found early office) last told c.number_after.result c.number_after.ensures
 
 pub returns-clause-same : goal.returns-clause-same

@@ -5,9 +5,9 @@ use Rattle.office_core.specs.FirstOf.{first_some}
 use Rattle.office_tables.specs.Tables.{tables_of}
 use Rattle.office_tables.proofs.InTurn.{clean_first, same_then}
 use Rattle.office_asking.specs.Asking.{visit_on}
+use Rattle.office_asking.proofs.RowsTold.{tells_then}
 use Rattle.office_holding.specs.Holds.{hold_denials, target_of}
 use Rattle.office_holding.specs.ByRows.{IsHoldDenialIn, IsNextHoldIn}
-use Rattle.office_holding.proofs.CallsTold.{told_then}
 use Rattle.office_holding.proofs.HoldPlaces.{place_after}
 use Rattle.office_holding.proofs.HoldsByRows.{refused, placed}
 use Rattle.office_holding.proofs.placing.place_for.Goals as goal
@@ -39,7 +39,7 @@ returns-clause-rows g c clean office =
     let early = clean_first c.next_hold.ensures.inside.stays clean in
     let none : c.in_ok-why.field-0 ≡ None = search rules in
     let denial = subst (IsHoldDenialIn t (visit_on a.day a.caller.now) (target_of a.target)) none (c.in_ok-why.ensures.rows early office) in
-    IfOk-weaker c.next_hold.result _ _ (placed t (visit_on a.day a.caller.now) (target_of a.target) denial) (told_then c.in_ok-why.ensures.inside c.next_hold.ensures.inside c.in_ok-why.ensures.same IsNextHoldIn c.next_hold.ensures.rows clean office)
+    IfOk-weaker c.next_hold.result _ _ (placed t (visit_on a.day a.caller.now) (target_of a.target) denial) (tells_then c.in_ok-why.ensures.inside c.next_hold.ensures.inside c.in_ok-why.ensures.same IsNextHoldIn c.next_hold.ensures.rows clean office)
 
 pub returns-clause-same : goal.returns-clause-same
 returns-clause-same g c = same_then c.in_ok-why.ensures.inside c.next_hold.ensures.inside c.in_ok-why.ensures.same c.next_hold.ensures.same

@@ -7,7 +7,7 @@ use Rattle.office_history.specs.Pictures.{hold_row}
 use Rattle.office_asking.specs.Asking.{visit_on}
 use Rattle.office_asking.proofs.Readings.{pictured_still}
 use Rattle.office_asking.proofs.HoldTold.{hold_read}
-use Rattle.office_holding.proofs.CallsTold.{told_then}
+use Rattle.office_asking.proofs.RowsTold.{tells_then}
 use Rattle.office_holding.proofs.HoldAsked.{IsNamedIn, no_hold, release_asked}
 use Rattle.office_tables.specs.Tables.{tables_of}
 use Rattle.office_holding.specs.ByRows.{IsReleaseDenialIn}
@@ -52,7 +52,7 @@ returns-clause-rows g c clean office =
     let target = c.in_ok-target.target in
     let denied = c.in_ok-denied.denied in
     let names : IsNamedIn row target = record { deposit = search rules; collection = search rules; class = search rules } in
-    let denial = told_then c.in_ok-hold.ensures.inside c.in_ok-denied.ensures.inside c.in_ok-hold.ensures.same (λ t. IsReleaseDenialIn t (visit_on a.day a.caller.now) (shown.held_deposit target, shown.held_collection target, shown.held_class target)) c.in_ok-denied.ensures.rows clean office in
+    let denial = tells_then c.in_ok-hold.ensures.inside c.in_ok-denied.ensures.inside c.in_ok-hold.ensures.same (λ t. IsReleaseDenialIn t (visit_on a.day a.caller.now) (shown.held_deposit target, shown.held_collection target, shown.held_class target)) c.in_ok-denied.ensures.rows clean office in
     IfOk-weaker c.unless_refused.result _ _ (row_asked (tables_of old.now) (visit_on a.day a.caller.now) a.number row there target denied names denial) c.unless_refused.ensures.rows
 
 pub returns-clause-same : goal.returns-clause-same

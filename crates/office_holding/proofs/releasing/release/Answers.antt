@@ -5,9 +5,9 @@ use Rattle.office_core.specs.declared.request.Request.TheVariants as requests
 use Rattle.office_tables.specs.ShownHolds as shown
 use Rattle.office_history.proofs.Accepted.{releasable}
 use Rattle.office_asking.specs.Asking.{visit_on}
+use Rattle.office_asking.proofs.RowsTold.{tells_then}
 use Rattle.office_asking.proofs.Serving.{refused_serves, allowed_serves}
 use Rattle.office_holding.specs.Holds.{IsReleaseAsked}
-use Rattle.office_holding.proofs.CallsTold.{told_then}
 use Rattle.office_holding.proofs.HoldAsked.{IsNamedIn, live_on}
 use Rattle.office_tables.specs.Tables.{tables_of}
 use Rattle.office_holding.specs.ByRows.{IsReleasableIn, IsCountableOn}
@@ -51,6 +51,6 @@ returns-in_ok-end-in-Ok-clause-rows g c clean office =
     let deposit : shown.held_deposit target ≡ row.deposit = search rules in record {
       asked = Ok row;
       is_asked = subst (IsReleasableIn (tables_of old.now) (visit_on a.day a.caller.now) a.hold) c.in-Ok.is (c.in_ok-row.ensures.rows early office);
-      counts = subst (λ held. IsCountableOn (tables_of old.now) held (negsuc 0)) deposit (told_then c.in_ok-row.ensures.inside c.in_ok-end-in-Ok.ensures.inside c.in_ok-row.ensures.same (λ t _. IsCountableOn t (shown.held_deposit target) (negsuc 0)) c.in_ok-end-in-Ok.ensures.rows clean office);
+      counts = subst (λ held. IsCountableOn (tables_of old.now) held (negsuc 0)) deposit (tells_then c.in_ok-row.ensures.inside c.in_ok-end-in-Ok.ensures.inside c.in_ok-row.ensures.same (λ t _. IsCountableOn t (shown.held_deposit target) (negsuc 0)) c.in_ok-end-in-Ok.ensures.rows clean office);
       is = refl;
     }

@@ -10,10 +10,10 @@ use Rattle.office_core.specs.declared.retention.Due.{Due}
 use Rattle.office_tables.specs.Tables.{tables_of}
 use Rattle.office_asking.specs.ByRows.{AreReleasedOnDays, IsDueIn}
 use Rattle.office_asking.specs.Pictures.{Pictures}
+use Rattle.office_asking.proofs.RowsTold.{tells_then}
 use Rattle.office_asking.proofs.Serving.{refused_serves, allowed_serves}
 use Rattle.office_keeping.specs.ByRows.{IsAskedOfDeposit, values_of}
 use Rattle.office_keeping.specs.Depositing.{IsAskedFor, IsNextBag, number_for}
-use Rattle.office_keeping.proofs.Written.{tells_then}
 use Rattle.office_tables.proofs.InTurn.{clean_first, inside_after, inside_failed}
 use Rattle.office_keeping.proofs.depositing.deposit.Goals as goal
 

@@ -5,11 +5,11 @@ use Rattle.office_core.specs.FirstOf.{first_some}
 use Rattle.office_history.specs.Refusals.{bad_bag, full_of_deposits}
 use Rattle.office_tables.specs.Tables.{tables_of}
 use Rattle.office_asking.specs.Limits.{IsRefusedOr}
+use Rattle.office_asking.proofs.RowsTold.{tells_then}
 use Rattle.office_keeping.specs.ByRows.{IsNextDepositIn, IsRefusalBeforeTheBag, values_of}
 use Rattle.office_keeping.specs.Depositing.{number_for, refusals_before_the_bag}
 use Rattle.office_history.proofs.PlainLemmas.{first_in_front}
 use Rattle.office_keeping.proofs.AskedFor.{asked_later}
-use Rattle.office_keeping.proofs.Written.{tells_then}
 use Rattle.office_tables.proofs.InTurn.{clean_first, inside_then, same_then}
 use Rattle.office_keeping.proofs.depositing.new_bag.Goals as goal
 

@@ -1,8 +1,8 @@
 use Rattle.std.proofs.Common.{◌≡◌, pos, option_map, refl, rules}
 use Rattle.office_asking.proofs.Readings.{pictured_still}
+use Rattle.office_asking.proofs.RowsTold.{tells_then}
 use Rattle.office_keeping.proofs.AccessionTold.{next_told}
 use Rattle.office_rows.specs.Rows.{DepositRow, last_number}
-use Rattle.office_keeping.proofs.Written.{tells_then}
 use Rattle.office_tables.proofs.InTurn.{clean_first, inside_after, inside_failed, same_then}
 use Rattle.office_keeping.proofs.depositing.next_number.Goals as goal
 

@@ -8,8 +8,8 @@ use Rattle.office_keeping.proofs.Placing.{no_collection, no_class, both_there}
 use Rattle.office_rows.specs.Rows.{ClassRow, class_named}
 use Rattle.office_tables.specs.Tables.{tables_of}
 use Rattle.office_asking.specs.Asking.{visit_on}
+use Rattle.office_asking.proofs.RowsTold.{tells_then}
 use Rattle.office_keeping.specs.ByRows.{IsPlaceDenialIn}
-use Rattle.office_keeping.proofs.Written.{tells_then}
 use Rattle.office_keeping.proofs.RowsTold.{collection_missing, class_missing, both_there as both_there_in}
 use Rattle.office_tables.proofs.InTurn.{clean_first, inside_after, inside_failed, inside_then, same_then}
 use Rattle.office_keeping.proofs.depositing.place_refusal.Goals as goal

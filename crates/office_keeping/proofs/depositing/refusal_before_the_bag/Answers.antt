@@ -5,8 +5,8 @@ use Rattle.office_history.specs.Refusals.{place_refusals, taken_refusal, closed_
 use Rattle.office_history.proofs.PlainLemmas.{first_in_front, first_behind, one_only}
 use Rattle.office_tables.specs.Tables.{tables_of}
 use Rattle.office_asking.specs.Asking.{visit_on}
+use Rattle.office_asking.proofs.RowsTold.{tells_then}
 use Rattle.office_keeping.proofs.RowsTold.{of_accession}
-use Rattle.office_keeping.proofs.Written.{tells_then}
 use Rattle.office_keeping.specs.ByRows.{IsPlaceRefusalIn, IsTakenIn, values_of}
 use Rattle.office_tables.proofs.InTurn.{clean_first, inside_after, inside_failed, same_then}
 use Rattle.office_keeping.proofs.depositing.refusal_before_the_bag.Goals as goal

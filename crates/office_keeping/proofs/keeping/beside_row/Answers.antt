@@ -4,7 +4,7 @@ use Rattle.std.proofs.lemmas.Int.{to_z-of_z}
 use Rattle.office_core.specs.Retention.{due_number}
 use Rattle.office_rows.specs.Rows.{Tables, live_holds}
 use Rattle.office_asking.specs.ByRows.{AreReleasedOnDays}
-use Rattle.office_keeping.proofs.Written.{tells_then}
+use Rattle.office_asking.proofs.RowsTold.{tells_then}
 use Rattle.office_tables.proofs.InTurn.{clean_first, inside_after, inside_failed}
 use Rattle.office_keeping.proofs.keeping.beside_row.Goals as goal
 
