@@ -1,14 +1,10 @@
--- What is told of rows, one after another, by the rows of the rules; and three calls that change no row.
+-- What is told of rows, one after another, by the rows of the rules.
 use Rattle.std.proofs.Common.{◌≡◌, ℕ, ℤ, ◌+◌, ◌<◌, List, [], ◌∷◌, ◌++◌, length, take, get_or, Option, Some, None, refl, sym, ap, subst, ◌∙◌, arith}
 use Rattle.std.specs.List.{cons_option}
 use Rattle.std.proofs.lemmas.Bool.Decides.{Decides-int_eq}
 use Rattle.std.proofs.lemmas.List.{take_more, take_all}
-use Rattle.sqlite.specs.State.{State, HasCleanDisk}
-use Rattle.sql_meaning.specs.Inside.{Stays}
 use Rattle.office_core.proofs.OptionLemmas.{find_some}
 use Rattle.office_rows.specs.Rows.{DepositRow, is_deposit, deposit_numbered}
-use Rattle.office_tables.specs.Tables.{IsOffice}
-use Rattle.office_asking.proofs.InTurn.{same_twice}
 use Rattle.office_serving.specs.ListsByRows.{TellsEach}
 
 module _ {A B : Type 0} (tells : A → Option B → Type 0) where
@@ -34,10 +30,3 @@ module _ {A B : Type 0} (tells : A → Option B → Type 0) where
 -- the deposit that is found has the number that was asked for
 pub found_number : (n : ℤ) (rows : List DepositRow) (row : DepositRow) → Some row ≡ deposit_numbered n rows → row.number ≡ n
 found_number n rows row there = (Decides-int_eq row.number n).0 (find_some (is_deposit n) rows row (sym there))
-
--- three calls of which none changes a row
-abbrev SameAfter : State → State → Type 0
-SameAfter a b = HasCleanDisk b → IsOffice a.now → b.now ≡ a.now
-
-pub same_thrice : (a b c d : State) → Stays b c → Stays c d → SameAfter a b → SameAfter b c → SameAfter c d → SameAfter a d
-same_thrice a b c d before last first second third = same_twice a c d last (same_twice a b c before first second) third

@@ -6,7 +6,6 @@ pub mod HoldsTold
 pub mod AuditTold
 pub mod ShownTold
 pub mod PathsTold
-pub mod InTurn
 pub mod DueListLaw
 pub mod SameOnce
 pub mod StockTold

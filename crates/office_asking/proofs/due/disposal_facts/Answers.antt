@@ -15,9 +15,8 @@ use Rattle.std.proofs.Common.{refl, subst}
 use Rattle.office_tables.specs.Tables.{tables_of}
 use Rattle.office_rows.specs.Rows.{due_numbered}
 use Rattle.office_asking.specs.ByRows.{IsCountedIn, IsLeastIn}
-use Rattle.office_asking.proofs.InTurn.{same_twice}
 use Rattle.office_asking.proofs.RowsTold.{office_still, told_before}
-use Rattle.office_tables.proofs.InTurn.{clean_first, failed_before, failed_in_turn, inside_as, inside_failed, inside_then, then_in_turn}
+use Rattle.office_tables.proofs.InTurn.{clean_first, failed_before, failed_in_turn, inside_as, inside_failed, inside_then, same_then, then_in_turn}
 use Rattle.office_asking.proofs.due.disposal_facts.Goals as goal
 
 pub returns-clause-facts : goal.returns-clause-facts
@@ -53,13 +52,11 @@ pub returns-clause-rows : goal.returns-clause-rows
 returns-clause-rows g c clean office visit is n numbered =
     let a = c.args in
     let s0 = state g.S.Store a.tx.now.conn.now in
-    let s1 = state g.S.Store c.decision.new.tx.conn.now in
-    let s2 = state g.S.Store c.kept_of.new.tx.conn.now in
     let before_last = clean_first c.counted_hold.ensures.inside.stays clean in
     let early = clean_first c.kept_of.ensures.inside.stays before_last in
     let same1 = c.in_ok-decision.ensures.same early office in
     let office1 = office_still same1 office in
-    let same2 = same_twice s0 s1 s2 c.kept_of.ensures.inside.stays c.in_ok-decision.ensures.same c.in_ok-kept.ensures.same before_last office in
+    let same2 = same_then c.in_ok-decision.ensures.inside c.in_ok-kept.ensures.inside c.in_ok-decision.ensures.same c.in_ok-kept.ensures.same before_last office in
     let row = a.row.now in
     let number : c.row.inside.number ≡ n = same_count c.row.inside.number n ((search rules) ∙ sym numbered) in
     let collection : c.deref.result.now ≡ row.collection = search rules in
