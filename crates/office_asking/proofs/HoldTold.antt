@@ -47,7 +47,7 @@ numbers_passing tell number is passes test (x ∷ xs) start same =
     by true false e rest = absurd (true≢false e)
     by false true e rest = absurd (true≢false (sym e))
 
-live_same : (o : Option Date) → not (is_some (option_map epoch_day o)) ≡ is_none o
+pub live_same : (o : Option Date) → not (is_some (option_map epoch_day o)) ≡ is_none o
 live_same None = refl
 live_same (Some day) = refl
 

@@ -1,5 +1,5 @@
 -- The due list by the kept due days and counts: the disposable rows that the rules allow are the deposits that a disposal would destroy.
-use Rattle.std.proofs.Common.{◌≡◌, ℕ, suc, ◌+◌, ℤ, pos, Bool, true, false, not, ◌&&◌, List, [], ◌∷◌, length, map, filter, Option, Some, None, option_map, slice_get, is_none, is_some, refl, sym, ap, ap₂, subst, ◌∙◌, arith, cond}
+use Rattle.std.proofs.Common.{◌≡◌, ℕ, suc, ◌+◌, ℤ, pos, Bool, true, false, not, ◌&&◌, List, [], ◌∷◌, length, map, filter, Option, Some, None, slice_get, is_none, refl, sym, ap, ap₂, subst, ◌∙◌, arith, cond}
 use Rattle.std.specs.Prelude.{int_lt}
 use Rattle.std.specs.Ordering.{int_eq, int_cmp, is_le, is_ge}
 use Rattle.std.proofs.lemmas.Int.{ints}
@@ -27,15 +27,11 @@ use Rattle.office_history.proofs.Pictured.{different}
 use Rattle.sqlite_keyed.proofs.ListLemmas.{map-map, filter-map}
 use Rattle.office_asking.specs.Asking.{Visit}
 use Rattle.office_asking.proofs.NumberedRows.{same_count}
-use Rattle.office_asking.proofs.HoldTold.{numbers_passing}
+use Rattle.office_asking.proofs.HoldTold.{live_same, numbers_passing}
 use Rattle.office_serving.specs.Listing.{is_due, may_destroy}
 use Rattle.office_serving.proofs.ListedRows.{both, rows_beside, filter_both}
 
 -- ---- one deposit
-
-live_row : (o : Option Date) → not (is_some (option_map epoch_day o)) ≡ is_none o
-live_row None = refl
-live_row (Some day) = refl
 
 no_hold : (ks : List ℕ) → int_eq (pos (length ks)) (pos 0) ≡ is_none (slice_get ks 0)
 no_hold [] = refl
@@ -89,7 +85,7 @@ module _ (h : History) (visit : Visit) where
   disposable_is : (n : ℕ) (x : Date × Deposit) → is_disposable (epoch_day visit.day) (both h n x)
       ≡ (is_none (destruction_day h n) && (is_none (least_hold h n x.1) && is_none (not_due_refusal h visit.day x.1)))
   disposable_is n x =
-      ap₂ (λ a b. a && b) (live_row (destruction_day h n)) (ap₂ (λ a b. a && b) (no_hold (live_holds h n x.1)) (sym (due_stands visit.day (due h x.1))))
+      ap₂ (λ a b. a && b) (live_same (destruction_day h n)) (ap₂ (λ a b. a && b) (no_hold (live_holds h n x.1)) (sym (due_stands visit.day (due h x.1))))
 
   refused_is : (n : ℕ) (x : Date × Deposit) → deposit_numbered h n ≡ Some x → is_none (refusal h visit.day visit.caller (Dispose n))
       ≡ (is_none (denial_at h visit.day visit.caller acts.Dispose x.1) && (is_none (destruction_day h n) && (is_none (least_hold h n x.1) && is_none (not_due_refusal h visit.day x.1))))
