@@ -1,8 +1,7 @@
 -- Whether a collection is there, by the rows.
-use Rattle.std.proofs.Common.{◌≡◌, ℕ, Bool, true, false, ◌||◌, List, [], ◌∷◌, refl, sym, ◌∙◌, true≢false}
+use Rattle.std.proofs.Common.{◌≡◌, ℕ, ◌||◌, List, [], ◌∷◌, refl, ◌∙◌}
 use Rattle.std.specs.Prelude.{bytes_eq}
 use Rattle.std.specs.List.{list_any, filter_map}
-use Rattle.std.proofs.lemmas.Slice.Eq.{bytes_eq-Decides}
 use Rattle.sqlite.specs.Effect.{Database}
 use Rattle.office_rows.specs.Rows as rows
 use Rattle.office_rows.specs.Rows.{this_version}
@@ -11,16 +10,8 @@ use Rattle.office_history.specs.Histories.{History, collection_in, has_collectio
 use Rattle.office_history.specs.Pictures.{picture, collection_rows}
 use Rattle.office_history.proofs.AlikeAnswers.{among_first_places}
 use Rattle.office_asking.specs.Pictures.{Pictures}
+use Rattle.office_asking.proofs.NumberedRows.{bytes_eq-sym}
 use Rattle.office_asking.proofs.Readings.{in_picture}
-
-pub bytes_eq-sym : (a b : List ℕ) → bytes_eq a b ≡ bytes_eq b a
-bytes_eq-sym a b = by (bytes_eq a b) (bytes_eq b a) refl refl
-  where
-    by : (s t : Bool) → bytes_eq a b ≡ s → bytes_eq b a ≡ t → s ≡ t
-    by true true e f = refl
-    by false false e f = refl
-    by true false e f = absurd (true≢false (sym ((bytes_eq-Decides b a).1 (sym ((bytes_eq-Decides a b).0 e))) ∙ f))
-    by false true e f = absurd (true≢false (sym ((bytes_eq-Decides a b).1 (sym ((bytes_eq-Decides b a).0 f))) ∙ e))
 
 -- whichever of the two is asked of the other
 pub among_either : (name : List ℕ) (names : List (List ℕ)) → list_any (λ other. bytes_eq other name) names ≡ list_any (bytes_eq name) names

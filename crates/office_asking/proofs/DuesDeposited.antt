@@ -4,8 +4,6 @@ use Rattle.std.specs.Option.{option_map_or}
 use Rattle.std.specs.Ordering.{int_eq}
 use Rattle.std.proofs.lemmas.List.{map-append}
 use Rattle.jiff.specs.Types.{Date}
-use Rattle.office_core.specs.RetentionReading.{due_of}
-use Rattle.office_core.specs.declared.retention.Due.TheVariants.{Never}
 use Rattle.office_rows.specs.Rows.{DueRow, put_by, new_due, is_due_of}
 use Rattle.office_rows.proofs.Order.{put_last}
 use Rattle.office_history.specs.Lists.{item_numbered, numbers}
@@ -14,7 +12,7 @@ use Rattle.office_history.specs.Pictures.{due_number, due_row, due_rows}
 use Rattle.office_history.proofs.HistoryLemmas.{deposits_grown}
 use Rattle.office_history.proofs.Pictured.{different}
 use Rattle.office_asking.proofs.NumberedRows.{rows_from, rows_append, below, alike}
-use Rattle.office_asking.proofs.Unchanged.{same_years, same_holds, same_released}
+use Rattle.office_asking.proofs.Unchanged.{same_due, same_holds, same_released}
 use Rattle.office_asking.proofs.DuesGrown.{due_rows_are}
 
 module _ (change : DueRow → DueRow) (n : ℕ) (spares : (d : DueRow) → int_eq d.number (pos n) ≡ false → change d ≡ d) where
@@ -43,7 +41,7 @@ module _ (h : History) (day : Date) (d : Deposit) where
   same_row : (m : ℕ) (x : Date × Deposit) → due_row h m x ≡ due_row longer m x
   same_row m x = λ i. record {
     number = pos m;
-    due = due_number (option_map_or (due_of x.1.closed) (sym (same_years h more (λ name. refl) x.1.class) i) Never);
+    due = due_number (same_due h more (λ name. refl) x.1 i);
     holds = pos (length (filter (λ k. is_none (sym (same_released h more (λ j. refl) k) i) && option_map_or (λ hold. reaches hold.1.target m x.1) (item_numbered (sym (same_holds h more refl) i) k) false) (numbers (length (sym (same_holds h more refl) i)))));
   }
 

@@ -1,5 +1,5 @@
 -- What is kept of deposits, after a longer history: due days and counts of holds.
-use Rattle.std.proofs.Common.{◌≡◌, ℕ, zero, suc, ◌+◌, ◌≤◌, ◌<◌, ◌==◌, ◌&&◌, not, ℤ, pos, negsuc, ◌+ℤ◌, Bool, true, false, List, [], ◌∷◌, map, filter, length, Option, Some, None, slice_get, is_none, bytes_eq, refl, sym, ap, ap₂, subst, ◌∙◌, arith, cond, if◌then◌else◌, inl, inr}
+use Rattle.std.proofs.Common.{◌≡◌, ℕ, zero, suc, ◌+◌, ◌≤◌, ◌<◌, ◌==◌, ◌&&◌, not, ℤ, pos, negsuc, ◌+ℤ◌, Bool, true, false, List, [], ◌∷◌, map, filter, length, Option, Some, None, slice_get, is_none, refl, sym, ap, ap₂, subst, ◌∙◌, arith, cond, if◌then◌else◌, inl, inr}
 use Rattle.std.specs.List.{range_with_len}
 use Rattle.std.specs.Option.{option_or, option_map_or}
 use Rattle.std.proofs.lemmas.Bool.{cases_Bool}
@@ -7,17 +7,14 @@ use Rattle.std.proofs.lemmas.Bool.Decides.{Decides-eqb, nat_tests}
 use Rattle.std.specs.Ordering.{int_eq}
 use Rattle.std.proofs.lemmas.Option.{same_Some}
 use Rattle.std.proofs.lemmas.Int.{ints}
-use Rattle.std.proofs.lemmas.Slice.Eq.{bytes_eq-Decides}
 use Rattle.jiff.specs.Types.{Date}
-use Rattle.office_core.specs.RetentionReading.{due_of}
-use Rattle.office_core.specs.declared.retention.Due.TheVariants.{Never}
 use Rattle.office_rows.specs.Rows.{DepositRow, DueRow, more_holds, is_of_class, is_within, is_due_of}
 use Rattle.office_history.specs.Lists.{item_numbered, numbers}
 use Rattle.office_history.specs.Histories.{History, Change, Deposit, Hold, OnDeposit, OnCollection, OnClass, ReleasedHold, with_changes, deposits, deposit_numbered, due, holds, hold_numbered, release_day, is_live, reaches, covers, live_holds}
 use Rattle.office_history.specs.Pictures.{deposit_row, deposit_rows, due_number, due_row, due_rows}
-use Rattle.office_asking.proofs.NumberedRows.{rows_from, rows_are, same_number, eqb-sym}
+use Rattle.office_asking.proofs.NumberedRows.{rows_from, rows_are, same_number, bytes_eq-sym, eqb-sym}
 use Rattle.office_asking.proofs.DepositTold.{deposit_rows_are}
-use Rattle.office_asking.proofs.Unchanged.{same_years, same_deposits, same_holds}
+use Rattle.office_asking.proofs.Unchanged.{same_deposits, same_due, same_holds}
 
 pub due_rows_are : (h : History) → due_rows h ≡ rows_from (due_row h) 1 (deposits h)
 due_rows_are h = rows_are (due_row h) (deposits h)
@@ -90,15 +87,6 @@ numbered_low [] (suc i) x e = absurd cc
 numbered_low (y ∷ xs) (suc zero) x e = (omega arith, omega arith)
 numbered_low (y ∷ xs) (suc (suc i)) x e = let more = numbered_low xs (suc i) x e in (omega arith, omega (arith, more.1))
 
-pub bytes_alike : (a b : List ℕ) → bytes_eq a b ≡ bytes_eq b a
-bytes_alike a b = by (bytes_eq a b) (bytes_eq b a) refl refl
-  where
-    by : (s t : Bool) → bytes_eq a b ≡ s → bytes_eq b a ≡ t → s ≡ t
-    by true true e f = refl
-    by false false e f = refl
-    by true false e f = absurd (let is : bytes_eq b a ≡ true = (bytes_eq-Decides b a).1 (sym ((bytes_eq-Decides a b).0 e)) in cc)
-    by false true e f = absurd (let is : bytes_eq a b ≡ true = (bytes_eq-Decides a b).1 (sym ((bytes_eq-Decides b a).0 f)) in cc)
-
 -- ---- a hold is released
 
 module _ (h : History) (day : Date) (k : ℕ) (found : Date × Hold) (there : hold_numbered h k ≡ Some found) (live : release_day h k ≡ None) (released_then : (m : ℕ) → release_day (with_changes h (ReleasedHold day k ∷ [])) m ≡ option_or (release_day h m) (if k == m then Some day else None)) where
@@ -138,9 +126,6 @@ module _ (h : History) (day : Date) (k : ℕ) (found : Date × Hold) (there : ho
   down : (a b : ℕ) → a ≡ b + 1 → pos a +ℤ negsuc 0 ≡ pos b
   down a b e = omega (arith, ints, e)
 
-  same_due : (x : Date × Deposit) → due h x.1 ≡ due longer x.1
-  same_due x = λ i. option_map_or (due_of x.1.closed) (sym (same_years h more (λ name. refl) x.1.class) i) Never
-
   -- the hold is on these deposits
   released_those : (those : DepositRow → Bool) → ((m : ℕ) (x : Date × Deposit) → reaches found.1.target m x.1 ≡ those (deposit_row h m x)) → (m : ℕ) (x : Date × Deposit)
       → (if those (deposit_row h m x) then record (due_row h m x) { holds = (due_row h m x).holds +ℤ negsuc 0 } else due_row h m x) ≡ due_row longer m x
@@ -151,10 +136,10 @@ module _ (h : History) (day : Date) (k : ℕ) (found : Date × Hold) (there : ho
 
       by : (b : Bool) → those (deposit_row h m x) ≡ b
           → (if b then record (due_row h m x) { holds = (due_row h m x).holds +ℤ negsuc 0 } else due_row h m x) ≡ due_row longer m x
-      by true e = λ i. record { number = pos m; due = due_number (same_due x i); holds = down (length (live_holds h m x.1)) (length (live_holds longer m x.1)) (counted true e) i }
+      by true e = λ i. record { number = pos m; due = due_number (same_due h more (λ name. refl) x.1 i); holds = down (length (live_holds h m x.1)) (length (live_holds longer m x.1)) (counted true e) i }
       by false e =
           let same : length (live_holds h m x.1) ≡ length (live_holds longer m x.1) = omega (arith, counted false e) in
-          λ i. record { number = pos m; due = due_number (same_due x i); holds = pos (same i) }
+          λ i. record { number = pos m; due = due_number (same_due h more (λ name. refl) x.1 i); holds = pos (same i) }
 
   dues_of_those : (those : DepositRow → Bool) → ((m : ℕ) (x : Date × Deposit) → reaches found.1.target m x.1 ≡ those (deposit_row h m x))
       → more_holds those (negsuc 0) (deposit_rows h) (due_rows h) ≡ due_rows longer
@@ -166,11 +151,11 @@ module _ (h : History) (day : Date) (k : ℕ) (found : Date × Hold) (there : ho
 
   -- the hold is on a collection
   pub dues_within : (name : List ℕ) → found.1.target ≡ OnCollection name → more_holds (is_within name) (negsuc 0) (deposit_rows h) (due_rows h) ≡ due_rows longer
-  dues_within name is = dues_of_those (is_within name) (λ m x. ap (λ t. reaches t m x.1) is ∙ bytes_alike name x.1.collection)
+  dues_within name is = dues_of_those (is_within name) (λ m x. ap (λ t. reaches t m x.1) is ∙ bytes_eq-sym name x.1.collection)
 
   -- the hold is on a class
   pub dues_of_class : (name : List ℕ) → found.1.target ≡ OnClass name → more_holds (is_of_class name) (negsuc 0) (deposit_rows h) (due_rows h) ≡ due_rows longer
-  dues_of_class name is = dues_of_those (is_of_class name) (λ m x. ap (λ t. reaches t m x.1) is ∙ bytes_alike name x.1.class)
+  dues_of_class name is = dues_of_those (is_of_class name) (λ m x. ap (λ t. reaches t m x.1) is ∙ bytes_eq-sym name x.1.class)
 
   -- the hold is on a deposit
   module _ (n : ℕ) (is : found.1.target ≡ OnDeposit n) (deposit : Date × Deposit) (at : deposit_numbered h n ≡ Some deposit) where
@@ -193,10 +178,10 @@ module _ (h : History) (day : Date) (k : ℕ) (found : Date × Hold) (there : ho
             λ i. length (live_holds h (sym same i) (sym it i).1)
 
         by : (b : Bool) → int_eq (pos m) (pos n) ≡ b → (if b then record (due_row h m x) { holds = fewer } else due_row h m x) ≡ due_row longer m x
-        by true e = λ i. record { number = pos m; due = due_number (same_due x i); holds = down (length (live_holds h n deposit.1)) (length (live_holds longer m x.1)) (one e ∙ counted true e) i }
+        by true e = λ i. record { number = pos m; due = due_number (same_due h more (λ name. refl) x.1 i); holds = down (length (live_holds h n deposit.1)) (length (live_holds longer m x.1)) (one e ∙ counted true e) i }
         by false e =
             let same : length (live_holds h m x.1) ≡ length (live_holds longer m x.1) = omega (arith, counted false e) in
-            λ i. record { number = pos m; due = due_number (same_due x i); holds = pos (same i) }
+            λ i. record { number = pos m; due = due_number (same_due h more (λ name. refl) x.1 i); holds = pos (same i) }
 
     pub dues_on : map (λ d. if is_due_of (pos n) d then record d { holds = fewer } else d) (due_rows h) ≡ due_rows longer
     dues_on =

@@ -1,20 +1,20 @@
 -- What is kept of deposits, after a hold was placed.
-use Rattle.std.proofs.Common.{◌≡◌, ℕ, zero, suc, ◌+◌, ◌<◌, ◌&&◌, pos, ◌+ℤ◌, Bool, true, false, List, [], ◌∷◌, ◌++◌, filter, length, Some, None, slice_get, is_none, refl, sym, ap, ap₂, subst, ◌∙◌, arith, cond, if◌then◌else◌}
+use Rattle.std.proofs.Common.{◌≡◌, ℕ, zero, suc, ◌+◌, ◌<◌, ◌&&◌, pos, ◌+ℤ◌, Bool, true, false, List, [], ◌∷◌, ◌++◌, filter, length, None, is_none, refl, sym, ap, ap₂, subst, ◌∙◌, add-one, arith, cond, if◌then◌else◌}
 use Rattle.std.specs.List.{range_with_len}
 use Rattle.std.specs.Option.{option_map_or}
 use Rattle.std.proofs.lemmas.Int.{ints}
+use Rattle.std.proofs.lemmas.List.{length_push}
+use Rattle.bag_text.proofs.ElementLemmas.{slice_get_last}
 use Rattle.jiff.specs.Types.{Date}
-use Rattle.office_core.specs.RetentionReading.{due_of}
-use Rattle.office_core.specs.declared.retention.Due.TheVariants.{Never}
 use Rattle.office_rows.specs.Rows.{DepositRow, more_holds, is_of_class, is_within}
 use Rattle.office_history.specs.Lists.{item_numbered, numbers}
 use Rattle.office_history.specs.Histories.{History, Change, Deposit, Hold, OnCollection, OnClass, PlacedHold, with_changes, deposits, due, holds, release_day, reaches, live_holds}
 use Rattle.office_history.specs.Pictures.{deposit_row, deposit_rows, due_number, due_row, due_rows}
 use Rattle.office_history.proofs.HistoryLemmas.{holds_grown}
-use Rattle.office_asking.proofs.NumberedRows.{rows_from}
+use Rattle.office_asking.proofs.NumberedRows.{bytes_eq-sym, item_front, rows_from}
 use Rattle.office_asking.proofs.DepositTold.{deposit_rows_are}
-use Rattle.office_asking.proofs.Unchanged.{same_years, same_deposits, same_released}
-use Rattle.office_asking.proofs.DuesGrown.{due_rows_are, more_from, bytes_alike}
+use Rattle.office_asking.proofs.Unchanged.{same_deposits, same_due, same_released}
+use Rattle.office_asking.proofs.DuesGrown.{due_rows_are, more_from}
 
 -- one number more, after those that pass as before
 last_more : (p q : ℕ → Bool) (start len : ℕ) → ((i : ℕ) → i < len → q (start + i) ≡ p (start + i))
@@ -38,18 +38,9 @@ last_more p q start (suc len) same =
     by true false e xs ys rest = absurd cc
     by false true e xs ys rest = absurd cc
 
-item_front : {A : Type 0} (xs : List A) (y : A) (i : ℕ) → i < length xs → slice_get (xs ++ y ∷ []) i ≡ slice_get xs i
-item_front [] y i low = absurd (omega (arith, low))
-item_front (x ∷ xs) y zero low = refl
-item_front (x ∷ xs) y (suc i) low = item_front xs y i (omega (arith, low))
-
-item_last : {A : Type 0} (xs : List A) (y : A) → slice_get (xs ++ y ∷ []) (length xs) ≡ Some y
-item_last [] y = refl
-item_last (x ∷ xs) y = item_last xs y
-
-length_last : {A : Type 0} (xs : List A) (y : A) → length (xs ++ y ∷ []) ≡ suc (length xs)
-length_last [] y = refl
-length_last (x ∷ xs) y = ap suc (length_last xs y)
+-- a count that is one higher
+pub up : (a b : ℕ) → b ≡ a + 1 → pos a +ℤ pos 1 ≡ pos b
+up a b e = omega (arith, ints, e)
 
 module _ (h : History) (day : Date) (hold : Hold) (not_yet : release_day h (1 + length (holds h)) ≡ None) where
   abbrev more : List Change
@@ -68,7 +59,7 @@ module _ (h : History) (day : Date) (hold : Hold) (not_yet : release_day h (1 + 
   now : (n : ℕ) (d : Deposit) → live_holds longer n d ≡ filter (live_among (holds h ++ it ∷ []) n d) (range_with_len 1 (suc (length (holds h))))
   now n d =
       (λ i. filter (λ k. is_none (same_released h more (λ m. refl) k i) && option_map_or (λ found. reaches found.1.target n d) (item_numbered (holds_grown h more i) k) false) (numbers (length (holds_grown h more i))))
-      ∙ ap (λ len. filter (live_among (holds h ++ it ∷ []) n d) (range_with_len 1 len)) (length_last (holds h) it)
+      ∙ ap (λ len. filter (live_among (holds h ++ it ∷ []) n d) (range_with_len 1 len)) (length_push (holds h) it ∙ add-one (length (holds h)))
 
   pub count_more : (n : ℕ) (d : Deposit) → length (live_holds longer n d) ≡ length (live_holds h n d) + (if reaches hold.target n d then 1 else 0)
   count_more n d =
@@ -76,19 +67,13 @@ module _ (h : History) (day : Date) (hold : Hold) (not_yet : release_day h (1 + 
       let q = live_among (hs ++ it ∷ []) n d in
       let last : q (1 + length hs) ≡ reaches hold.target n d =
       (let one : 1 + length hs ≡ suc (length hs) = omega arith in
-      λ i. is_none (not_yet i) && option_map_or (λ found. reaches found.1.target n d) ((ap (item_numbered (hs ++ it ∷ [])) one ∙ item_last hs it) i) false) in
+      λ i. is_none (not_yet i) && option_map_or (λ found. reaches found.1.target n d) ((ap (item_numbered (hs ++ it ∷ [])) one ∙ slice_get_last hs it []) i) false) in
       ap length (now n d)
       ∙ last_more (live_among hs n d) q 1 (length hs) (λ i low.
       let one : 1 + i ≡ suc i = omega arith in
-      let front : item_numbered (hs ++ it ∷ []) (1 + i) ≡ item_numbered hs (1 + i) = ap (item_numbered (hs ++ it ∷ [])) one ∙ item_front hs it i low ∙ ap (item_numbered hs) (sym one) in
+      let front : item_numbered (hs ++ it ∷ []) (1 + i) ≡ item_numbered hs (1 + i) = ap (item_numbered (hs ++ it ∷ [])) one ∙ item_front hs (it ∷ []) i low ∙ ap (item_numbered hs) (sym one) in
       ap (λ o. is_none (release_day h (1 + i)) && option_map_or (λ found. reaches found.1.target n d) o false) front)
       ∙ ap (λ b. length (live_holds h n d) + (if b then 1 else 0)) last
-
-  up : (a b : ℕ) → b ≡ a + 1 → pos a +ℤ pos 1 ≡ pos b
-  up a b e = omega (arith, ints, e)
-
-  same_due : (x : Date × Deposit) → due h x.1 ≡ due longer x.1
-  same_due x = λ i. option_map_or (due_of x.1.closed) (sym (same_years h more (λ name. refl) x.1.class) i) Never
 
   placed_those : (those : DepositRow → Bool) → ((m : ℕ) (x : Date × Deposit) → reaches hold.target m x.1 ≡ those (deposit_row h m x)) → (m : ℕ) (x : Date × Deposit)
       → (if those (deposit_row h m x) then record (due_row h m x) { holds = (due_row h m x).holds +ℤ pos 1 } else due_row h m x) ≡ due_row longer m x
@@ -98,10 +83,10 @@ module _ (h : History) (day : Date) (hold : Hold) (not_yet : release_day h (1 + 
       counted b e = count_more m x.1 ∙ ap (λ c. length (live_holds h m x.1) + (if c then 1 else 0)) (reached m x ∙ e)
 
       by : (b : Bool) → those (deposit_row h m x) ≡ b → (if b then record (due_row h m x) { holds = (due_row h m x).holds +ℤ pos 1 } else due_row h m x) ≡ due_row longer m x
-      by true e = λ i. record { number = pos m; due = due_number (same_due x i); holds = up (length (live_holds h m x.1)) (length (live_holds longer m x.1)) (counted true e) i }
+      by true e = λ i. record { number = pos m; due = due_number (same_due h more (λ name. refl) x.1 i); holds = up (length (live_holds h m x.1)) (length (live_holds longer m x.1)) (counted true e) i }
       by false e =
           let same : length (live_holds h m x.1) ≡ length (live_holds longer m x.1) = omega (arith, counted false e) in
-          λ i. record { number = pos m; due = due_number (same_due x i); holds = pos (same i) }
+          λ i. record { number = pos m; due = due_number (same_due h more (λ name. refl) x.1 i); holds = pos (same i) }
 
   -- a hold counts over each of the deposits that it reaches
   dues_of_those : (those : DepositRow → Bool) → ((m : ℕ) (x : Date × Deposit) → reaches hold.target m x.1 ≡ those (deposit_row h m x))
@@ -114,8 +99,8 @@ module _ (h : History) (day : Date) (hold : Hold) (not_yet : release_day h (1 + 
 
   -- one on a collection over each of its deposits
   pub dues_placed : (name : List ℕ) → hold.target ≡ OnCollection name → more_holds (is_within name) (pos 1) (deposit_rows h) (due_rows h) ≡ due_rows longer
-  dues_placed name is = dues_of_those (is_within name) (λ m x. ap (λ t. reaches t m x.1) is ∙ bytes_alike name x.1.collection)
+  dues_placed name is = dues_of_those (is_within name) (λ m x. ap (λ t. reaches t m x.1) is ∙ bytes_eq-sym name x.1.collection)
 
   -- and one on a class over each deposit of the class
   pub dues_placed_of_class : (name : List ℕ) → hold.target ≡ OnClass name → more_holds (is_of_class name) (pos 1) (deposit_rows h) (due_rows h) ≡ due_rows longer
-  dues_placed_of_class name is = dues_of_those (is_of_class name) (λ m x. ap (λ t. reaches t m x.1) is ∙ bytes_alike name x.1.class)
+  dues_placed_of_class name is = dues_of_those (is_of_class name) (λ m x. ap (λ t. reaches t m x.1) is ∙ bytes_eq-sym name x.1.class)

@@ -3,6 +3,7 @@ use Rattle.std.proofs.Common.{◌≡◌, ℕ, zero, suc, ◌+◌, pos, ℤ, Bool
 use Rattle.std.specs.Prelude.{bytes_eq, find, position, option_and_then, nat_lt}
 use Rattle.std.specs.List.{AllByRecursion}
 use Rattle.std.specs.List.{position_or_len}
+use Rattle.std.proofs.Math.Bool.{or-false}
 use Rattle.std.proofs.lemmas.Bool.Decides.{nat_tests}
 use Rattle.std.proofs.lemmas.Option.{same_Some, slice_get_past}
 use Rattle.std.proofs.lemmas.List.Folds.{find_at}
@@ -26,12 +27,8 @@ use Rattle.office_asking.proofs.NumberedRows.{same_count}
 abbrev pub IsSaid : List ℕ → Type 0
 IsSaid text = bytes_eq text [] ≡ false
 
-or_false : (b : Bool) → (b || false) ≡ b
-or_false true = refl
-or_false false = refl
-
 optional_fits : (text : List ℕ) (name : Option (List ℕ)) → IsSaid text → fits_name text (or_empty name) ≡ asks_for_optional text name
-optional_fits text None said = ap (λ b. bytes_eq text star || b) said ∙ or_false (bytes_eq text star)
+optional_fits text None said = ap (λ b. bytes_eq text star || b) said ∙ or-false (bytes_eq text star)
 optional_fits text (Some name) said = refl
 
 five : (a b c d e : Bool) → (a && (b && (c && (d && e)))) ≡ (a && b && c && d && e)

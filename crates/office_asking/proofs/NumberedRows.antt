@@ -1,12 +1,13 @@
 -- Rows that stand for the items of a list, numbered from 1.
 use Rattle.std.proofs.Common.{◌≡◌, ℕ, zero, suc, ◌+◌, ◌==◌, ◌<◌, ◌≤◌, ℤ, pos, Bool, true, false, List, [], ◌∷◌, ◌++◌, length, map, Option, Some, None, Less, option_map, unwrap_or, slice_get, rules, refl, sym, ap, subst, ◌∙◌, arith, cond, if◌then◌else◌, true≢false}
-use Rattle.std.specs.Prelude.{find}
+use Rattle.std.specs.Prelude.{bytes_eq, find}
 use Rattle.std.specs.Cmp.{int_cmp_is}
 use Rattle.std.specs.List.{filter_map, range_with_len, AllByRecursion}
 use Rattle.std.specs.Option.{option_or}
 use Rattle.std.specs.Ordering.{int_cmp, int_eq}
 use Rattle.std.proofs.lemmas.Bool.Decides.{Decides-int_eq, Decides-eqb}
 use Rattle.std.proofs.lemmas.Option.{slice_get_past}
+use Rattle.std.proofs.lemmas.Slice.Eq.{bytes_eq-Decides}
 use Rattle.office_rows.specs.Rows.{last_number}
 use Rattle.office_history.specs.Lists.{item_numbered, numbers}
 use Rattle.office_history.proofs.Alike.{or_none}
@@ -40,6 +41,7 @@ same_number m n = by (int_eq (pos m) (pos n)) (m == n) refl refl
     by true false e f = absurd (let same : pos m ≡ pos n = (Decides-int_eq (pos m) (pos n)).0 e in let equal : m ≡ n = cc in true≢false (sym ((Decides-eqb m n).1 equal) ∙ f))
     by false true e f = absurd (true≢false (sym ((Decides-int_eq (pos m) (pos n)).1 (ap pos ((Decides-eqb m n).0 f))) ∙ e))
 
+-- two numbers are alike in either order
 pub eqb-sym : (m n : ℕ) → (m == n) ≡ (n == m)
 eqb-sym m n = by (m == n) (n == m) refl refl
   where
@@ -48,6 +50,22 @@ eqb-sym m n = by (m == n) (n == m) refl refl
     by false false e f = refl
     by true false e f = absurd (true≢false (sym ((Decides-eqb n m).1 (sym ((Decides-eqb m n).0 e))) ∙ f))
     by false true e f = absurd (true≢false (sym ((Decides-eqb m n).1 (sym ((Decides-eqb n m).0 f))) ∙ e))
+
+-- two names too
+pub bytes_eq-sym : (a b : List ℕ) → bytes_eq a b ≡ bytes_eq b a
+bytes_eq-sym a b = by (bytes_eq a b) (bytes_eq b a) refl refl
+  where
+    by : (s t : Bool) → bytes_eq a b ≡ s → bytes_eq b a ≡ t → s ≡ t
+    by true true e f = refl
+    by false false e f = refl
+    by true false e f = absurd (true≢false (sym ((bytes_eq-Decides b a).1 (sym ((bytes_eq-Decides a b).0 e))) ∙ f))
+    by false true e f = absurd (true≢false (sym ((bytes_eq-Decides a b).1 (sym ((bytes_eq-Decides b a).0 f))) ∙ e))
+
+-- the items of the front
+pub item_front : {A : Type 0} (xs ys : List A) (i : ℕ) → i < length xs → slice_get (xs ++ ys) i ≡ slice_get xs i
+item_front [] ys i low = absurd (omega (arith, low))
+item_front (x ∷ xs) ys zero low = refl
+item_front (x ∷ xs) ys (suc i) low = item_front xs ys i (omega (arith, low))
 
 -- no item has the number after the last
 pub none_next : {A : Type 0} (xs : List A) → item_numbered xs (1 + length xs) ≡ None

@@ -9,10 +9,8 @@ use Rattle.office_core.specs.declared.action.Action.{Action}
 use Rattle.office_core.specs.declared.action.Action.TheVariants as acts
 use Rattle.office_core.specs.declared.refusal.Refusal.{Refusal}
 use Rattle.office_core.specs.declared.refusal.Refusal.TheVariants.{Gone}
-use Rattle.office_core.specs.declared.rule.Effect.{Effect}
-use Rattle.office_core.specs.declared.rule.Effect.TheVariants.{Allow, Deny}
 use Rattle.office_rows.specs.Rows.{ClassRow, DepositRow, DueRow, HoldRow, Limits, RuleRow, Tables, deposit_numbered}
-use Rattle.office_history.specs.Pictures.{effect_number, years_number}
+use Rattle.office_history.specs.Pictures.{years_number}
 use Rattle.office_history.specs.Refusals.{refusal_in}
 use Rattle.office_history.proofs.Pictured.{same_day, same_days}
 use Rattle.office_asking.specs.Asking.{IsDecisionOf, Visit}
@@ -22,6 +20,7 @@ use Rattle.office_asking.specs.Limits.{IsNextIn, IsNumberAfter, IsRefusedOr}
 use Rattle.office_asking.specs.declared.deposits.DepositDays.{DepositDays}
 use Rattle.office_asking.proofs.DuesTold.{due_back}
 use Rattle.office_asking.proofs.NumberedRows.{same_count}
+use Rattle.office_asking.proofs.PolicyTold.{same_effect}
 
 -- no two of them are so
 abbrev pub HasAtMostOne : {A : Type 0} → (A → Type 0) → Type 0
@@ -29,17 +28,11 @@ HasAtMostOne {A} IsSo = (a b : A) → IsSo a → IsSo b → a ≡ b
 
 -- ---- the rules
 
-effect_back : (a b : Effect) → effect_number a ≡ effect_number b → a ≡ b
-effect_back Allow Allow e = refl
-effect_back Allow Deny e = absurd (omega (arith, same_count 1 0 e))
-effect_back Deny Allow e = absurd (omega (arith, same_count 0 1 e))
-effect_back Deny Deny e = refl
-
 -- the row of a rule says one decision
 pub decision_of_row_is_one : (row : RuleRow) → HasAtMostOne (IsDecisionOf row)
 decision_of_row_is_one row a b p q = λ i. record {
   rule = same_count a.rule b.rule (p.rule ∙ sym q.rule) i;
-  effect = effect_back a.effect b.effect (p.effect ∙ sym q.effect) i;
+  effect = same_effect a.effect b.effect (p.effect ∙ sym q.effect) i;
 }
 
 -- one decision is made by the row of a rule that may not be there

@@ -7,7 +7,7 @@ use Rattle.office_core.specs.RetentionReading.{due_of}
 use Rattle.office_core.specs.declared.retention.Due.TheVariants.{Never}
 use Rattle.office_rows.specs.Rows.{ClassRow, DepositRow, DueRow, FileRow, HoldRow, this_version}
 use Rattle.office_history.specs.Lists.{first_said, last_said, item_numbered, numbers, in_first_places}
-use Rattle.office_history.specs.Histories.{History, Change, with_changes, installed_in, policy, years_in, years_of, collection_in, deposit_in, deposits, destroyed_in, destruction_day, hold_in, holds, released_in, release_day, reaches}
+use Rattle.office_history.specs.Histories.{History, Change, Deposit, with_changes, installed_in, policy, years_in, years_of, collection_in, deposit_in, deposits, destroyed_in, destruction_day, due, hold_in, holds, released_in, release_day, reaches}
 use Rattle.office_history.specs.Pictures.{class_in, class_row, class_rows, caller_row, rule_rows, office_row, collection_rows, row_by_gone, deposit_rows, due_number, due_rows, file_row, file_rows, row_by_release, hold_rows, picture}
 use Rattle.office_history.proofs.Alike.{or_none, last_said-append, policy_grown, gone_grown, released_grown}
 
@@ -26,6 +26,9 @@ module _ (h : History) (more : List Change) where
   -- it defines no class
   pub same_years : ((name : List ℕ) → last_said (years_in name) more ≡ None) → (name : List ℕ) → years_of (with_changes h more) name ≡ years_of h name
   same_years none name = years_grown name ∙ ap (λ o. option_or o (years_of h name)) (none name)
+
+  pub same_due : ((name : List ℕ) → last_said (years_in name) more ≡ None) → (d : Deposit) → due h d ≡ due (with_changes h more) d
+  same_due none d = λ i. option_map_or (due_of d.closed) (sym (same_years none d.class) i) Never
 
   pub same_classes : filter_map class_in more ≡ [] → ((name : List ℕ) → last_said (years_in name) more ≡ None) → class_rows (with_changes h more) ≡ class_rows h
   same_classes none silent = λ i. filter_map (λ name. option_map (class_row name) (same_years silent name i)) (in_first_places (same_said class_in none i))

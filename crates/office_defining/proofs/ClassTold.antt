@@ -18,7 +18,7 @@ use Rattle.office_history.specs.Pictures.{class_in, class_row, years_number, cla
 use Rattle.office_history.proofs.AlikeAnswers.{among_first_places}
 use Rattle.office_history.proofs.Pictured.{rows_by, HasYears, all_have_years, all_distinct}
 use Rattle.office_asking.proofs.Unchanged.{years_grown, same_collections, same_deposit_rows, same_file_rows, same_hold_rows, pictured_by}
-use Rattle.office_asking.proofs.CollectionTold.{bytes_eq-sym}
+use Rattle.office_asking.proofs.NumberedRows.{bytes_eq-sym}
 use Rattle.office_asking.proofs.DepositTold.{deposit_rows_are}
 use Rattle.office_asking.specs.Pictures.{Pictures}
 use Rattle.office_defining.specs.Revising.{closing_row, with_due_days, AreDueDaysSet}

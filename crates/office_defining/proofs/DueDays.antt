@@ -12,9 +12,9 @@ use Rattle.office_rows.specs.Told.{ClosingRow, closing_of}
 use Rattle.office_tables.specs.Tables.{IsOffice, Becomes, tables_of}
 use Rattle.office_history.specs.Histories.{History, Change, Deposit, DefinedClass, with_changes, years_of, deposits, due}
 use Rattle.office_history.specs.Pictures.{deposit_row, due_row, due_rows}
-use Rattle.office_asking.proofs.NumberedRows.{rows_from}
+use Rattle.office_asking.proofs.NumberedRows.{bytes_eq-sym, rows_from}
 use Rattle.office_asking.proofs.Unchanged.{years_grown, same_deposits}
-use Rattle.office_asking.proofs.DuesGrown.{due_rows_are, bytes_alike}
+use Rattle.office_asking.proofs.DuesGrown.{due_rows_are}
 use Rattle.office_asking.proofs.DuesRevised.{with_dues, with_dues_is, set_all, revised_from}
 use Rattle.office_asking.proofs.DuesTold.{row_then}
 use Rattle.office_defining.specs.Revising.{closing_row, with_due_days}
@@ -124,7 +124,7 @@ module _ (h : History) (day : Date) (name : List ℕ) (years : Option ℕ) where
       ∙ sym (due_rows_are longer)
     where
       now : (x : Date × Deposit) (b : Bool) → bytes_eq x.1.class name ≡ b → years_of longer x.1.class ≡ option_or (if b then Some years else None) (years_of h x.1.class)
-      now x b e = years_grown h more x.1.class ∙ ap (λ c. option_or (if c then Some years else None) (years_of h x.1.class)) (bytes_alike name x.1.class ∙ e)
+      now x b e = years_grown h more x.1.class ∙ ap (λ c. option_or (if c then Some years else None) (years_of h x.1.class)) (bytes_eq-sym name x.1.class ∙ e)
 
       sets : (m : ℕ) (x : Date × Deposit) → is_of_class name (tell h name (due_code years) m x) ≡ true → record (due_row h m x) { due = decoded (tell h name (due_code years) m x).closed } ≡ due_row longer m x
       sets m x e =

@@ -1,20 +1,16 @@
 -- What is kept of deposits, after a hold was placed on one of them.
 use Rattle.std.proofs.Common.{◌≡◌, ℕ, suc, ◌+◌, ℤ, pos, ◌+ℤ◌, Bool, true, false, List, [], ◌∷◌, map, length, Some, refl, sym, ap, subst, ◌∙◌, arith, if◌then◌else◌, None}
-use Rattle.std.specs.Option.{option_map_or}
 use Rattle.std.specs.Ordering.{int_eq}
 use Rattle.std.proofs.lemmas.Option.{same_Some}
 use Rattle.std.proofs.lemmas.Bool.Decides.{Decides-eqb}
-use Rattle.std.proofs.lemmas.Int.{ints}
 use Rattle.jiff.specs.Types.{Date}
-use Rattle.office_core.specs.RetentionReading.{due_of}
-use Rattle.office_core.specs.declared.retention.Due.TheVariants.{Never}
 use Rattle.office_rows.specs.Rows.{DueRow, is_due_of}
 use Rattle.office_history.specs.Histories.{History, Change, Deposit, Hold, OnDeposit, PlacedHold, with_changes, deposits, deposit_numbered, due, holds, release_day, reaches, live_holds}
 use Rattle.office_history.specs.Pictures.{due_number, due_row, due_rows}
 use Rattle.office_asking.proofs.NumberedRows.{rows_from, same_number, eqb-sym}
-use Rattle.office_asking.proofs.Unchanged.{same_years, same_deposits}
+use Rattle.office_asking.proofs.Unchanged.{same_deposits, same_due}
 use Rattle.office_asking.proofs.DuesGrown.{due_rows_are, changed_there}
-use Rattle.office_asking.proofs.DuesPlaced.{count_more}
+use Rattle.office_asking.proofs.DuesPlaced.{count_more, up}
 
 module _ (h : History) (day : Date) (hold : Hold) (not_yet : release_day h (1 + length (holds h)) ≡ None) (n : ℕ) (is : hold.target ≡ OnDeposit n) (deposit : Date × Deposit) (at : deposit_numbered h n ≡ Some deposit) where
   abbrev more : List Change
@@ -28,12 +24,6 @@ module _ (h : History) (day : Date) (hold : Hold) (not_yet : release_day h (1 + 
 
   abbrev counted_there : DueRow → DueRow
   counted_there d = if is_due_of (pos n) d then record d { holds = one_more } else d
-
-  up : (a b : ℕ) → b ≡ a + 1 → pos a +ℤ pos 1 ≡ pos b
-  up a b e = omega (arith, ints, e)
-
-  same_due : (x : Date × Deposit) → due h x.1 ≡ due longer x.1
-  same_due x = λ i. option_map_or (due_of x.1.closed) (sym (same_years h more (λ name. refl) x.1.class) i) Never
 
   placed_at : (m : ℕ) (x : Date × Deposit) → deposit_numbered h m ≡ Some x → counted_there (due_row h m x) ≡ due_row longer m x
   placed_at m x there = by (int_eq (pos m) (pos n)) refl
@@ -52,12 +42,12 @@ module _ (h : History) (day : Date) (hold : Hold) (not_yet : release_day h (1 + 
       by : (b : Bool) → int_eq (pos m) (pos n) ≡ b → (if b then record (due_row h m x) { holds = one_more } else due_row h m x) ≡ due_row longer m x
       by true e = λ i. record {
         number = pos m;
-        due = due_number (same_due x i);
+        due = due_number (same_due h more (λ name. refl) x.1 i);
         holds = up (length (live_holds h n deposit.1)) (length (live_holds longer m x.1)) (counted true e ∙ ap (λ k. k + 1) (it e)) i;
       }
       by false e =
           let same : length (live_holds h m x.1) ≡ length (live_holds longer m x.1) = omega (arith, counted false e) in
-          λ i. record { number = pos m; due = due_number (same_due x i); holds = pos (same i) }
+          λ i. record { number = pos m; due = due_number (same_due h more (λ name. refl) x.1 i); holds = pos (same i) }
 
   -- a hold on a deposit counts over that deposit
   pub dues_placed_on : map counted_there (due_rows h) ≡ due_rows longer

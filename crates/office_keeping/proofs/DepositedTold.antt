@@ -1,5 +1,5 @@
 -- The rows of an office after a deposit was made.
-use Rattle.std.proofs.Common.{◌≡◌, ℕ, zero, suc, ◌+◌, ◌<◌, ℤ, pos, Bool, true, false, List, [], ◌∷◌, ◌++◌, length, map, filter, Option, Some, None, Less, slice_get, is_none, refl, sym, ap, subst, ◌∙◌, arith, cond, append-nil, append_assoc, add-one}
+use Rattle.std.proofs.Common.{◌≡◌, ℕ, zero, suc, ◌+◌, ◌<◌, ℤ, pos, Bool, true, false, List, [], ◌∷◌, ◌++◌, length, map, filter, Option, Some, None, Less, is_none, refl, sym, ap, subst, ◌∙◌, arith, cond, append-nil, append_assoc, add-one}
 use Rattle.std.specs.List.{flat_map, range_with_len, AllByRecursion}
 use Rattle.std.specs.Option.{option_map_or}
 use Rattle.std.specs.Ordering.{int_cmp}
@@ -32,7 +32,7 @@ use Rattle.bag_text.proofs.ElementLemmas.{slice_get_last}
 use Rattle.office_asking.specs.Pictures.{Pictures}
 use Rattle.office_history.proofs.HistoryLemmas.{deposits_grown}
 use Rattle.office_keeping.specs.Depositing.{with_files, with_kept}
-use Rattle.office_asking.proofs.NumberedRows.{rows_from, rows_append, range_last, below, none_next}
+use Rattle.office_asking.proofs.NumberedRows.{item_front, rows_from, rows_append, range_last, below, none_next}
 use Rattle.office_asking.proofs.DepositTold.{deposit_rows_are}
 use Rattle.office_asking.proofs.DuesDeposited.{dues_deposited}
 use Rattle.office_asking.proofs.Unchanged.{same_classes, same_collections, same_gone, same_hold_rows, pictured_by}
@@ -42,11 +42,6 @@ files_added n [] t = λ i. record t { files = sym (append-nil t.files) i }
 files_added n (f ∷ files) t =
     files_added n files (record t { files = t.files ++ file_row n f ∷ [] })
     ∙ ap (λ (fs : List FileRow). record t { files = fs }) (append_assoc t.files (file_row n f ∷ []) (map (file_row n) files))
-
-front : {A : Type 0} (xs ys : List A) (i : ℕ) → i < length xs → slice_get (xs ++ ys) i ≡ slice_get xs i
-front [] ys i less = absurd (omega (arith, less))
-front (x ∷ xs) ys zero less = refl
-front (x ∷ xs) ys (suc i) less = front xs ys i (omega (arith, less))
 
 -- what is gathered of numbers in a row that a filter keeps
 same_gathered : {A : Type 0} (f g : ℕ → List A) (keeps : ℕ → Bool) (len start : ℕ) → ((i : ℕ) → i < len → f (start + i) ≡ g (start + i)) → flat_map f (filter keeps (range_with_len start len)) ≡ flat_map g (filter keeps (range_with_len start len))
@@ -101,7 +96,7 @@ module _ (h : History) (day : Date) (d : Deposit) (not_gone : destruction_day h 
       old = same_gathered (files_in (deposits h)) (files_in (deposits h ++ (day, d) ∷ [])) keeps (length (deposits h)) 1 (λ i less.
           let one : suc i ≡ 1 + i = omega arith in
           subst (λ k. files_in (deposits h) k ≡ files_in (deposits h ++ (day, d) ∷ []) k) one
-          (ap (λ o. map (file_row (suc i)) (option_map_or (λ (f : Date × Deposit). f.1.bag) o [])) (sym (front (deposits h) ((day, d) ∷ []) i less))))
+          (ap (λ o. map (file_row (suc i)) (option_map_or (λ (f : Date × Deposit). f.1.bag) o [])) (sym (item_front (deposits h) ((day, d) ∷ []) i less))))
 
       there : item_numbered (deposits h ++ (day, d) ∷ []) next ≡ Some (day, d)
       there = let one : suc (length (deposits h)) ≡ next = omega arith in subst (λ k. item_numbered (deposits h ++ (day, d) ∷ []) k ≡ Some (day, d)) one (slice_get_last (deposits h) (day, d) [])

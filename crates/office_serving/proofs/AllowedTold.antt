@@ -1,16 +1,13 @@
 -- What is known of pairs of collection and class, as more of them are asked.
-use Rattle.std.proofs.Common.{◌≡◌, ℕ, ◌+◌, ◌<◌, pos, ◌&&◌, Bool, true, false, List, [], ◌∷◌, ◌++◌, length, map, filter, take, get_or, Some, refl, sym, ap, subst, ◌∙◌, append-nil, cond, bytes_eq}
+use Rattle.std.proofs.Common.{◌≡◌, ℕ, ◌+◌, ◌<◌, pos, Bool, true, false, List, [], ◌∷◌, ◌++◌, length, map, filter, take, get_or, Some, refl, sym, ap, subst, ◌∙◌, append-nil, cond, bytes_eq}
 use Rattle.std.specs.Prelude.{IfSome}
 use Rattle.std.specs.HashMap.{HashMap, get, Updates}
+use Rattle.std.proofs.lemmas.Bool.{and_parts}
 use Rattle.std.proofs.lemmas.List.{map-append, take_more}
 use Rattle.std.proofs.lemmas.List.Elements.{filter-append}
 use Rattle.std.proofs.lemmas.Slice.Eq.{bytes_eq-Decides}
 use Rattle.office_rows.specs.Told.{PlaceRow}
 use Rattle.office_serving.specs.Allowances.{CollectionAndClass, same_pair}
-
-both : (a b : Bool) → (a && b) ≡ true → (a ≡ true) × (b ≡ true)
-both true b e = (refl, e)
-both false b e = absurd cc
 
 -- whichever thing is known of a pair by its texts
 module _ (IsSo : List ℕ → List ℕ → Bool → Type 0) {S : Type 0} where
@@ -27,7 +24,7 @@ module _ (IsSo : List ℕ → List ℕ → Bool → Type 0) {S : Type 0} where
     where
       by : (b : Bool) → same_pair pair q ≡ b → IfSome (cond b (Some is) (get same_pair known q)) (IsSo q.0.now q.1.now)
       by true e =
-          let parts = both (bytes_eq pair.0.now q.0.now) (bytes_eq pair.1.now q.1.now) e in
+          let parts = and_parts (bytes_eq pair.0.now q.0.now) (bytes_eq pair.1.now q.1.now) e in
           let first : pair.0.now ≡ q.0.now = (bytes_eq-Decides pair.0.now q.0.now).0 parts.0 in
           let second : pair.1.now ≡ q.1.now = (bytes_eq-Decides pair.1.now q.1.now).0 parts.1 in
           subst (λ text. IsSo text q.1.now is) first (subst (λ text. IsSo pair.0.now text is) second answer)

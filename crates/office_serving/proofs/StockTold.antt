@@ -13,6 +13,7 @@ use Rattle.office_history.specs.Histories.{History, kept_numbers}
 use Rattle.office_history.specs.Pictures.{file_row}
 use Rattle.office_history.specs.Stocks.{files_of, contents, Stock, stock}
 use Rattle.office_asking.specs.Pictures.{Pictures}
+use Rattle.office_asking.proofs.NumberedRows.{same_count}
 use Rattle.sqlite_keyed.proofs.ListLemmas.{map-map}
 use Rattle.std.specs.List.Sorted.{IsPermutation}
 use Rattle.std.proofs.lemmas.List.Sums.{sum-map, sum_by_push}
@@ -60,10 +61,7 @@ module _ {A F : Type 0} where
 
 -- sizes that are these numbers are the lengths that they are told to be
 pub same_sizes : (parts lens : List ℕ) → map pos parts ≡ map pos lens → sum parts ≡ sum lens
-same_sizes parts lens e = ap sum (map_back pos same_pos parts lens e)
-  where
-    same_pos : (a b : ℕ) → pos a ≡ pos b → a ≡ b
-    same_pos a b e = cc
+same_sizes parts lens e = ap sum (map_back pos same_count parts lens e)
 
 -- one size more
 pub one_more : {X : Type 0} (size : X → ℤ) (xs : List X) (i : ℕ) (x : X) (parts : List ℕ) (more total next : ℕ) → i < length xs → map size (take i xs) ≡ map pos parts → total ≡ sum parts → next ≡ total + more
