@@ -1,6 +1,6 @@
 -- What is kept of deposits, after a longer history: due days and counts of holds.
 use Rattle.std.proofs.Common.{◌≡◌, ℕ, zero, suc, ◌+◌, ◌≤◌, ◌<◌, ◌==◌, ◌&&◌, not, ℤ, pos, negsuc, ◌+ℤ◌, Bool, true, false, List, [], ◌∷◌, map, filter, length, Option, Some, None, slice_get, is_none, refl, sym, ap, ap₂, subst, ◌∙◌, arith, cond, if◌then◌else◌, inl, inr}
-use Rattle.std.specs.List.{range_with_len}
+use Rattle.std.specs.List.{filter_map, range_with_len}
 use Rattle.std.specs.Option.{option_or, option_map_or}
 use Rattle.std.proofs.lemmas.Bool.{cases_Bool}
 use Rattle.std.proofs.lemmas.Bool.Decides.{Decides-eqb, nat_tests}
@@ -10,7 +10,7 @@ use Rattle.std.proofs.lemmas.Int.{ints}
 use Rattle.jiff.specs.Types.{Date}
 use Rattle.office_rows.specs.Rows.{DepositRow, DueRow, more_holds, is_of_class, is_within, is_due_of}
 use Rattle.office_history.specs.Lists.{item_numbered, numbers}
-use Rattle.office_history.specs.Histories.{History, Change, Deposit, Hold, OnDeposit, OnCollection, OnClass, ReleasedHold, with_changes, deposits, deposit_numbered, due, holds, hold_numbered, release_day, is_live, reaches, covers, live_holds}
+use Rattle.office_history.specs.Histories.{History, Change, Deposit, Hold, OnDeposit, OnCollection, OnClass, ReleasedHold, with_changes, deposit_in, deposits, deposit_numbered, due, holds, hold_numbered, release_day, is_live, reaches, covers, live_holds}
 use Rattle.office_history.specs.Pictures.{deposit_row, deposit_rows, due_number, due_row, due_rows}
 use Rattle.office_asking.proofs.NumberedRows.{rows_from, rows_are, same_number, bytes_eq-sym, eqb-sym}
 use Rattle.office_asking.proofs.DepositTold.{deposit_rows_are}
@@ -22,14 +22,14 @@ due_rows_are h = rows_are (due_row h) (deposits h)
 -- ---- a column beside rows that are numbered
 
 -- as many more over those that pass make the rows of what is said after
-pub more_from : {A : Type 0} (those : DepositRow → Bool) (by : ℤ) (tell : ℕ → A → DepositRow) (before after : ℕ → A → DueRow)
+more_from : {A : Type 0} (those : DepositRow → Bool) (by : ℤ) (tell : ℕ → A → DepositRow) (before after : ℕ → A → DueRow)
     → ((m : ℕ) (x : A) → (if those (tell m x) then record (before m x) { holds = (before m x).holds +ℤ by } else before m x) ≡ after m x)
     → (xs : List A) (start : ℕ) → more_holds those by (rows_from tell start xs) (rows_from before start xs) ≡ rows_from after start xs
 more_from those by tell before after same [] start = refl
 more_from those by tell before after same (x ∷ xs) start = ap₂ (λ r rs. r ∷ rs) (same start x) (more_from those by tell before after same xs (start + 1))
 
 -- a change of the row of one number, of which one item stands there
-pub changed_there : {A : Type 0} (change : DueRow → DueRow) (before after : ℕ → A → DueRow) (xs : List A) (start : ℕ) → ((i : ℕ) (x : A) → slice_get xs i ≡ Some x → change (before (start + i) x) ≡ after (start + i) x)
+changed_there : {A : Type 0} (change : DueRow → DueRow) (before after : ℕ → A → DueRow) (xs : List A) (start : ℕ) → ((i : ℕ) (x : A) → slice_get xs i ≡ Some x → change (before (start + i) x) ≡ after (start + i) x)
     → map change (rows_from before start xs) ≡ rows_from after start xs
 changed_there change before after [] start same = refl
 changed_there change before after (x ∷ xs) start same =
@@ -80,6 +80,28 @@ one_less p k start (suc len) low high = elim (cases_Bool (k == start)) [
     there true b true e xs ys next = absurd cc
     there true b false e xs ys next = omega (arith, next)
     there false b c e xs ys next = next
+
+-- ---- changes that take no deposit
+
+module _ (h : History) (more : List Change) (none : filter_map deposit_in more ≡ []) where
+  abbrev grown : History
+  grown = with_changes h more
+
+  no_more : rows_from (due_row grown) 1 (deposits h) ≡ due_rows grown
+  no_more = ap (rows_from (due_row grown) 1) (sym (same_deposits h more none)) ∙ sym (due_rows_are grown)
+
+  -- as many more over the deposits that pass
+  pub dues_by : (those : DepositRow → Bool) (by : ℤ) → ((m : ℕ) (x : Date × Deposit) → (if those (deposit_row h m x) then record (due_row h m x) { holds = (due_row h m x).holds +ℤ by } else due_row h m x) ≡ due_row grown m x)
+      → more_holds those by (deposit_rows h) (due_rows h) ≡ due_rows grown
+  dues_by those by each = ap₂ (more_holds those by) (deposit_rows_are h) (due_rows_are h) ∙ more_from those by (deposit_row h) (due_row h) (due_row grown) each (deposits h) 1 ∙ no_more
+
+  -- what is kept of a deposit, by its number
+  pub dues_at : (change : DueRow → DueRow) → ((m : ℕ) (x : Date × Deposit) → deposit_numbered h m ≡ Some x → change (due_row h m x) ≡ due_row grown m x) → map change (due_rows h) ≡ due_rows grown
+  dues_at change each =
+      ap (map change) (due_rows_are h)
+      ∙ changed_there change (due_row h) (due_row grown) (deposits h) 1
+      (λ i x e. let one : suc i ≡ 1 + i = omega arith in each (1 + i) x (subst (λ k. deposit_numbered h k ≡ Some x) one e))
+      ∙ no_more
 
 numbered_low : {A : Type 0} (xs : List A) (k : ℕ) (x : A) → item_numbered xs k ≡ Some x → (1 ≤ k) × (k < 1 + length xs)
 numbered_low xs zero x e = absurd cc
@@ -143,11 +165,7 @@ module _ (h : History) (day : Date) (k : ℕ) (found : Date × Hold) (there : ho
 
   dues_of_those : (those : DepositRow → Bool) → ((m : ℕ) (x : Date × Deposit) → reaches found.1.target m x.1 ≡ those (deposit_row h m x))
       → more_holds those (negsuc 0) (deposit_rows h) (due_rows h) ≡ due_rows longer
-  dues_of_those those reached =
-      ap₂ (more_holds those (negsuc 0)) (deposit_rows_are h) (due_rows_are h)
-      ∙ more_from those (negsuc 0) (deposit_row h) (due_row h) (due_row longer) (released_those those reached) (deposits h) 1
-      ∙ ap (rows_from (due_row longer) 1) (sym (same_deposits h more refl))
-      ∙ sym (due_rows_are longer)
+  dues_of_those those reached = dues_by h more refl those (negsuc 0) (released_those those reached)
 
   -- the hold is on a collection
   pub dues_within : (name : List ℕ) → found.1.target ≡ OnCollection name → more_holds (is_within name) (negsuc 0) (deposit_rows h) (due_rows h) ≡ due_rows longer
@@ -184,9 +202,4 @@ module _ (h : History) (day : Date) (k : ℕ) (found : Date × Hold) (there : ho
             λ i. record { number = pos m; due = due_number (same_due h more (λ name. refl) x.1 i); holds = pos (same i) }
 
     pub dues_on : map (λ d. if is_due_of (pos n) d then record d { holds = fewer } else d) (due_rows h) ≡ due_rows longer
-    dues_on =
-        ap (map (λ d. if is_due_of (pos n) d then record d { holds = fewer } else d)) (due_rows_are h)
-        ∙ changed_there (λ d. if is_due_of (pos n) d then record d { holds = fewer } else d) (due_row h) (due_row longer) (deposits h) 1
-        (λ i x e. let one : suc i ≡ 1 + i = omega arith in released_at (1 + i) x (subst (λ k. deposit_numbered h k ≡ Some x) one e))
-        ∙ ap (rows_from (due_row longer) 1) (sym (same_deposits h more refl))
-        ∙ sym (due_rows_are longer)
+    dues_on = dues_at h more refl (λ d. if is_due_of (pos n) d then record d { holds = fewer } else d) released_at

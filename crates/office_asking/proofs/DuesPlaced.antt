@@ -1,5 +1,5 @@
 -- What is kept of deposits, after a hold was placed.
-use Rattle.std.proofs.Common.{◌≡◌, ℕ, zero, suc, ◌+◌, ◌<◌, ◌&&◌, pos, ◌+ℤ◌, Bool, true, false, List, [], ◌∷◌, ◌++◌, filter, length, None, is_none, refl, sym, ap, ap₂, subst, ◌∙◌, add-one, arith, cond, if◌then◌else◌}
+use Rattle.std.proofs.Common.{◌≡◌, ℕ, zero, suc, ◌+◌, ◌<◌, ◌&&◌, pos, ◌+ℤ◌, Bool, true, false, List, [], ◌∷◌, ◌++◌, filter, length, None, is_none, refl, sym, ap, subst, ◌∙◌, add-one, arith, cond, if◌then◌else◌}
 use Rattle.std.specs.List.{range_with_len}
 use Rattle.std.specs.Option.{option_map_or}
 use Rattle.std.proofs.lemmas.Int.{ints}
@@ -11,10 +11,9 @@ use Rattle.office_history.specs.Lists.{item_numbered, numbers}
 use Rattle.office_history.specs.Histories.{History, Change, Deposit, Hold, OnCollection, OnClass, PlacedHold, with_changes, deposits, due, holds, release_day, reaches, live_holds}
 use Rattle.office_history.specs.Pictures.{deposit_row, deposit_rows, due_number, due_row, due_rows}
 use Rattle.office_history.proofs.HistoryLemmas.{holds_grown}
-use Rattle.office_asking.proofs.NumberedRows.{bytes_eq-sym, item_front, rows_from}
-use Rattle.office_asking.proofs.DepositTold.{deposit_rows_are}
-use Rattle.office_asking.proofs.Unchanged.{same_deposits, same_due, same_released}
-use Rattle.office_asking.proofs.DuesGrown.{due_rows_are, more_from}
+use Rattle.office_asking.proofs.NumberedRows.{bytes_eq-sym, item_front}
+use Rattle.office_asking.proofs.Unchanged.{same_due, same_released}
+use Rattle.office_asking.proofs.DuesGrown.{dues_by}
 
 -- one number more, after those that pass as before
 last_more : (p q : ℕ → Bool) (start len : ℕ) → ((i : ℕ) → i < len → q (start + i) ≡ p (start + i))
@@ -91,11 +90,7 @@ module _ (h : History) (day : Date) (hold : Hold) (not_yet : release_day h (1 + 
   -- a hold counts over each of the deposits that it reaches
   dues_of_those : (those : DepositRow → Bool) → ((m : ℕ) (x : Date × Deposit) → reaches hold.target m x.1 ≡ those (deposit_row h m x))
       → more_holds those (pos 1) (deposit_rows h) (due_rows h) ≡ due_rows longer
-  dues_of_those those reached =
-      ap₂ (more_holds those (pos 1)) (deposit_rows_are h) (due_rows_are h)
-      ∙ more_from those (pos 1) (deposit_row h) (due_row h) (due_row longer) (placed_those those reached) (deposits h) 1
-      ∙ ap (rows_from (due_row longer) 1) (sym (same_deposits h more refl))
-      ∙ sym (due_rows_are longer)
+  dues_of_those those reached = dues_by h more refl those (pos 1) (placed_those those reached)
 
   -- one on a collection over each of its deposits
   pub dues_placed : (name : List ℕ) → hold.target ≡ OnCollection name → more_holds (is_within name) (pos 1) (deposit_rows h) (due_rows h) ≡ due_rows longer

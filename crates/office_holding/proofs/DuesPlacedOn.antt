@@ -1,5 +1,5 @@
 -- What is kept of deposits, after a hold was placed on one of them.
-use Rattle.std.proofs.Common.{◌≡◌, ℕ, suc, ◌+◌, ℤ, pos, ◌+ℤ◌, Bool, true, false, List, [], ◌∷◌, map, length, Some, refl, sym, ap, subst, ◌∙◌, arith, if◌then◌else◌, None}
+use Rattle.std.proofs.Common.{◌≡◌, ℕ, ◌+◌, ℤ, pos, ◌+ℤ◌, Bool, true, false, List, [], ◌∷◌, map, length, Some, refl, sym, ap, ◌∙◌, arith, if◌then◌else◌, None}
 use Rattle.std.specs.Ordering.{int_eq}
 use Rattle.std.proofs.lemmas.Option.{same_Some}
 use Rattle.std.proofs.lemmas.Bool.Decides.{Decides-eqb}
@@ -7,9 +7,9 @@ use Rattle.jiff.specs.Types.{Date}
 use Rattle.office_rows.specs.Rows.{DueRow, is_due_of}
 use Rattle.office_history.specs.Histories.{History, Change, Deposit, Hold, OnDeposit, PlacedHold, with_changes, deposits, deposit_numbered, due, holds, release_day, reaches, live_holds}
 use Rattle.office_history.specs.Pictures.{due_number, due_row, due_rows}
-use Rattle.office_asking.proofs.NumberedRows.{rows_from, same_number, eqb-sym}
-use Rattle.office_asking.proofs.Unchanged.{same_deposits, same_due}
-use Rattle.office_asking.proofs.DuesGrown.{due_rows_are, changed_there}
+use Rattle.office_asking.proofs.NumberedRows.{same_number, eqb-sym}
+use Rattle.office_asking.proofs.Unchanged.{same_due}
+use Rattle.office_asking.proofs.DuesGrown.{dues_at}
 use Rattle.office_asking.proofs.DuesPlaced.{count_more, up}
 
 module _ (h : History) (day : Date) (hold : Hold) (not_yet : release_day h (1 + length (holds h)) ≡ None) (n : ℕ) (is : hold.target ≡ OnDeposit n) (deposit : Date × Deposit) (at : deposit_numbered h n ≡ Some deposit) where
@@ -51,9 +51,4 @@ module _ (h : History) (day : Date) (hold : Hold) (not_yet : release_day h (1 + 
 
   -- a hold on a deposit counts over that deposit
   pub dues_placed_on : map counted_there (due_rows h) ≡ due_rows longer
-  dues_placed_on =
-      ap (map counted_there) (due_rows_are h)
-      ∙ changed_there counted_there (due_row h) (due_row longer) (deposits h) 1
-      (λ i x e. let one : suc i ≡ 1 + i = omega arith in placed_at (1 + i) x (subst (λ k. deposit_numbered h k ≡ Some x) one e))
-      ∙ ap (rows_from (due_row longer) 1) (sym (same_deposits h more refl))
-      ∙ sym (due_rows_are longer)
+  dues_placed_on = dues_at h more refl counted_there placed_at
