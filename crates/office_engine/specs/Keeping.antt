@@ -5,7 +5,7 @@ use Rattle.jiff.specs.Types.{Date}
 use Rattle.sqlite.specs.Tree.{Trees}
 use Rattle.sqlite.specs.Effect.{Database}
 use Rattle.sqlite.specs.Store.{Ghosts}
-use Rattle.sqlite.specs.State.{State, Survives}
+use Rattle.sqlite.specs.State.{State, HasCleanDisk, Survives}
 use Rattle.sqlite.specs.Held.{Held, state}
 use Rattle.office_core.specs.Policies.{PolicyValue}
 use Rattle.office_core.specs.declared.answer.Answer.{Answer}
@@ -22,6 +22,12 @@ use Rattle.office_asking.specs.Asking.{visit_on}
 use Rattle.office_asking.specs.Pictures.{PicturesAt}
 use Rattle.office_serving.specs.ListsByRows.{AreDueIn, IsStockIn}
 use Rattle.office_engine.specs.ByRows.{RowsTell}
+
+-- ---- a call
+
+-- where the disk is honest after the call, this is so of the store before it and the store after it
+abbrev pub IfClean : {S : Type 0} → Ghosts S → Held S → Held S → (State → State → Type 0) → Type 0
+IfClean g old new is_so = HasCleanDisk (state g new) → is_so (state g old) (state g new)
 
 -- ---- what is kept, and what is left
 

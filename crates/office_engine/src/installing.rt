@@ -4,7 +4,7 @@ ghost use Rattle.std.specs.Prelude.{◌≡◌, IfErr, IfOk, IsOkAnd, IsTrue, Ok,
 ghost use Rattle.sqlite.specs.State.{HasCleanDisk, IsRolledBack, Shows, Survives};
 ghost use Rattle.sqlite.specs.Held.{state};
 ghost use Rattle.office_tables.specs.Faults.{IsFailure};
-ghost use Rattle.office_engine.specs.Keeping.{CommitsTo, InstallLasts, Installs, KeepsTables, LeavesEither, LeavesInstalled, after_policy};
+ghost use Rattle.office_engine.specs.Keeping.{CommitsTo, IfClean, InstallLasts, Installs, KeepsTables, LeavesEither, LeavesInstalled, after_policy};
 
 use office_core::Policy;
 use office_tables::TableFault;
@@ -48,20 +48,19 @@ pub fn install<S: Alter>(
     requires outside { (state S.Store conn.old).in_transaction ≡ false }
     ensures outside { (state S.Store conn.new).in_transaction ≡ false }
     ensures failure { IfErr result IsFailure }
-    ensures installed { HasCleanDisk (state S.Store conn.new)
-        → OnOk result (Installs (state S.Store conn.old) (state S.Store conn.new) policy.now) }
-    ensures open { HasCleanDisk (state S.Store conn.new)
-        → OnOk result (IsTrue (state S.Store conn.old).is_open) }
-    ensures kept { HasCleanDisk (state S.Store conn.new)
-        → OnErr result (KeepsTables (state S.Store conn.old) (state S.Store conn.new)) }
+    ensures installed { IfClean S.Store conn.old conn.new (λ old new.
+        OnOk result (Installs old new policy.now)) }
+    ensures open { IfClean S.Store conn.old conn.new (λ old _. OnOk result (IsTrue old.is_open)) }
+    ensures kept { IfClean S.Store conn.old conn.new (λ old new.
+        OnErr result (KeepsTables old new)) }
     ensures survives { Survives (state S.Store conn.old) (state S.Store conn.new)
         (CommitsTo (state S.Store conn.old) (after_policy policy.now)) }
-    ensures durable { HasCleanDisk (state S.Store conn.new)
-        → OnOk result (InstallLasts (state S.Store conn.old) (state S.Store conn.new) policy.now) }
-    ensures leaves { HasCleanDisk (state S.Store conn.new)
-        → LeavesEither (state S.Store conn.old) (state S.Store conn.new) (after_policy policy.now) }
-    ensures made { HasCleanDisk (state S.Store conn.new)
-        → LeavesInstalled (state S.Store conn.old) (state S.Store conn.new) result }
+    ensures durable { IfClean S.Store conn.old conn.new (λ old new.
+        OnOk result (InstallLasts old new policy.now)) }
+    ensures leaves { IfClean S.Store conn.old conn.new (λ old new.
+        LeavesEither old new (after_policy policy.now)) }
+    ensures made { IfClean S.Store conn.old conn.new (λ old new.
+        LeavesInstalled old new result) }
 {
     // What the type of a policy says of its callers and rules, and the connection of its state.
     let _rules = policy.rules();

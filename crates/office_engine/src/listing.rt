@@ -1,10 +1,10 @@
 //! The due list and the stock, read in a transaction that is rolled back.
 
 ghost use Rattle.std.specs.Prelude.{◌≡◌, IfErr, IfOk, IsTrue, OnOk, false};
-ghost use Rattle.sqlite.specs.State.{HasCleanDisk, Survives};
+ghost use Rattle.sqlite.specs.State.{Survives};
 ghost use Rattle.sqlite.specs.Held.{state};
 ghost use Rattle.office_tables.specs.Faults.{IsFailure};
-ghost use Rattle.office_engine.specs.Keeping.{AreToldDue, CountsStock, IsToldStock, KeepsTables, ListsDue};
+ghost use Rattle.office_engine.specs.Keeping.{AreToldDue, CountsStock, IfClean, IsToldStock, KeepsTables, ListsDue};
 
 use office_core::Day;
 use office_serving::{Stock, due_numbers, stock_of};
@@ -22,15 +22,12 @@ pub fn due_list<S: Alter>(
     requires outside { (state S.Store conn.old).in_transaction ≡ false }
     ensures outside { (state S.Store conn.new).in_transaction ≡ false }
     ensures failure { IfErr result IsFailure }
-    ensures listed { HasCleanDisk (state S.Store conn.new) → IfOk result (λ numbers.
-        ListsDue (state S.Store conn.old) (state S.Store conn.new) day caller.now numbers.items) }
-    ensures rows { HasCleanDisk (state S.Store conn.new)
-        → IfOk result (λ numbers.
-        AreToldDue (state S.Store conn.old) day caller.now numbers.items) }
-    ensures open { HasCleanDisk (state S.Store conn.new)
-        → OnOk result (IsTrue (state S.Store conn.old).is_open) }
-    ensures kept { HasCleanDisk (state S.Store conn.new)
-        → KeepsTables (state S.Store conn.old) (state S.Store conn.new) }
+    ensures listed { IfClean S.Store conn.old conn.new (λ old new.
+        IfOk result (λ numbers. ListsDue old new day caller.now numbers.items)) }
+    ensures rows { IfClean S.Store conn.old conn.new (λ old _.
+        IfOk result (λ numbers. AreToldDue old day caller.now numbers.items)) }
+    ensures open { IfClean S.Store conn.old conn.new (λ old _. OnOk result (IsTrue old.is_open)) }
+    ensures kept { IfClean S.Store conn.old conn.new KeepsTables }
     ensures survives { Survives (state S.Store conn.old) (state S.Store conn.new) (λ _. ⊥) }
 {
     // What the connection says of its state.
@@ -46,14 +43,12 @@ pub fn stock<S: Alter>(alloc: Global, conn: &mut Connection<S>) -> Result<Stock,
     requires outside { (state S.Store conn.old).in_transaction ≡ false }
     ensures outside { (state S.Store conn.new).in_transaction ≡ false }
     ensures failure { IfErr result IsFailure }
-    ensures counted { HasCleanDisk (state S.Store conn.new) → IfOk result (λ found.
-        CountsStock (state S.Store conn.old) (state S.Store conn.new) found) }
-    ensures rows { HasCleanDisk (state S.Store conn.new)
-        → IfOk result (λ found. IsToldStock (state S.Store conn.old) found) }
-    ensures open { HasCleanDisk (state S.Store conn.new)
-        → OnOk result (IsTrue (state S.Store conn.old).is_open) }
-    ensures kept { HasCleanDisk (state S.Store conn.new)
-        → KeepsTables (state S.Store conn.old) (state S.Store conn.new) }
+    ensures counted { IfClean S.Store conn.old conn.new (λ old new.
+        IfOk result (CountsStock old new)) }
+    ensures rows { IfClean S.Store conn.old conn.new (λ old _.
+        IfOk result (IsToldStock old)) }
+    ensures open { IfClean S.Store conn.old conn.new (λ old _. OnOk result (IsTrue old.is_open)) }
+    ensures kept { IfClean S.Store conn.old conn.new KeepsTables }
     ensures survives { Survives (state S.Store conn.old) (state S.Store conn.new) (λ _. ⊥) }
 {
     // What the connection says of its state.

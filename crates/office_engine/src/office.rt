@@ -11,7 +11,7 @@ ghost use Rattle.sqlite.specs.Tree.{Trees};
 ghost use Rattle.office_core.specs.declared.answer.Answer.{Answer as AnswerValue};
 ghost use Rattle.office_tables.specs.Faults as faults;
 ghost use Rattle.office_tables.specs.Opening as opening;
-ghost use Rattle.office_tables.specs.Opening.{HasOtherVersion, HasVersion, KeepsTables, IsKnownAsOther, has_office};
+ghost use Rattle.office_tables.specs.Opening.{HasOtherVersion, HasVersion, IfRefused, IfTaken, KeepsTables, IsKnownAsOther, has_office};
 ghost use Rattle.office_tables.specs.Tables.{IsOffice, tables_of};
 ghost use Rattle.office_tables.specs.Schema.{no_schema};
 ghost use Rattle.office_tables.specs.declared.fault.TableFault.TheVariants.{NotAnOffice, OtherVersion};
@@ -20,13 +20,13 @@ ghost use Rattle.office_history.specs.Histories.{History};
 ghost use Rattle.office_history.specs.Answers.{after};
 ghost use Rattle.office_history.specs.Runs.{IsLegal, Item, new_history};
 ghost use Rattle.office_tables.specs.Found.{HoldsWhere, PicksUp};
-ghost use Rattle.office_tables.specs.Versions.{IsOfficeAt, tables_at, version_number};
+ghost use Rattle.office_tables.specs.Versions.{IfKnownOffice, version_number};
 ghost use Rattle.office_tables.specs.Moving.{AllRows, BecomesAt};
 ghost use Rattle.office_tables.specs.declared.version.TableVersion.{TableVersion};
 ghost use Rattle.office_upgrade.specs.Upgrading as rows;
 ghost use Rattle.office_upgrade.specs.Upgrading.{HasUnknownVersion, IsOlder, IsUpgrade, NewestSurvives, TellsVersion, TellsKnown, TellsUnknown};
 ghost use Rattle.office_engine.specs.Upgrading.{GoesBackAt, IsUpgradeOf, LeavesAt, OpensOlder, StaysAt, TakesUp, UpgradeLasts, Upgrades};
-ghost use Rattle.office_engine.specs.Keeping.{AllStayShut, AreToldDue, CommitsRun, CommitsTo, CountsStock, InTurn, InstallLasts, Installs, IsKeptBy, IsKeptOfRun, IsLeftAt, IsLeftOf, IsLeftOfEither, IsLeftOfRun, IsToldByRows, IsToldStock, Lasts, LeavesEither, LeavesInstalled, LeavesKept, LeavesMade, LeavesRun, ListsDue, Runs, Serves, StaysShut, after_item, is_accepted, after_policy};
+ghost use Rattle.office_engine.specs.Keeping.{AllStayShut, AreToldDue, CommitsRun, CommitsTo, CountsStock, IfClean, InTurn, InstallLasts, Installs, IsKeptBy, IsKeptOfRun, IsLeftAt, IsLeftOf, IsLeftOfEither, IsLeftOfRun, IsToldByRows, IsToldStock, Lasts, LeavesEither, LeavesInstalled, LeavesKept, LeavesMade, LeavesRun, ListsDue, Runs, Serves, StaysShut, after_item, is_accepted, after_policy};
 
 use crate::installing::install;
 use crate::listing::{due_list, stock};
@@ -73,19 +73,15 @@ impl<S: Alter> Office<S> {
         limits: Limits,
     ) -> Result<Office<S>, (Connection<S>, TableFault)>
         requires outside { (state S.Store conn).in_transaction ≡ false }
-        ensures made { IfOk result (λ office. HasCleanDisk (state S.Store office)
-            → IsKeptBy (new_history limits.deposits limits.holds) (state S.Store office)) }
-        ensures open { IfOk result (λ office.
-            HasCleanDisk (state S.Store office) → IsTrue (state S.Store office).is_open) }
+        ensures made { IfTaken S.Store result
+            (IsKeptBy (new_history limits.deposits limits.holds)) }
+        ensures open { IfTaken S.Store result (λ s. IsTrue s.is_open) }
         ensures survives { IfOk result (λ office.
             Survives (state S.Store conn) (state S.Store office)
             (IsLeftOf (new_history limits.deposits limits.holds))) }
-        ensures durable { IfOk result (λ office.
-            HasCleanDisk (state S.Store office) → (left : Trees)
-            → (state S.Store office).may_leave left
+        ensures durable { IfTaken S.Store result (λ s. (left : Trees) → s.may_leave left
             → IsLeftOf (new_history limits.deposits limits.holds) left) }
-        ensures refused { IfErr result (λ e. HasCleanDisk (state S.Store e.0)
-            → KeepsTables (state S.Store conn) (state S.Store e.0)) }
+        ensures refused { IfRefused S.Store result (λ s _. KeepsTables (state S.Store conn) s) }
         ensures refused_outside { IfErr result (λ e. (state S.Store e.0).in_transaction ≡ false) }
         ensures refused_survives { IfErr result (λ e.
             Survives (state S.Store conn) (state S.Store e.0)
@@ -108,56 +104,42 @@ impl<S: Alter> Office<S> {
     /// The connection is handed back, its tables as they were.
     pub fn adopt(conn: Connection<S>) -> Result<Office<S>, (Connection<S>, TableFault)>
         requires outside { (state S.Store conn).in_transaction ≡ false }
-        ensures same { IfOk result (λ office.
-            HasCleanDisk (state S.Store office)
-            → KeepsTables (state S.Store conn) (state S.Store office)) }
-        ensures version { IfOk result (λ office.
-            HasCleanDisk (state S.Store office)
-            → HasVersion (state S.Store conn).now this_version) }
-        ensures has_table { IfOk result (λ office.
-            HasCleanDisk (state S.Store office)
-            → IsTrue (has_office (state S.Store conn).now.schema)) }
-        ensures known_as_this { IfOk result (λ office.
-            HasCleanDisk (state S.Store office) → (version : TableVersion)
-            → IsOfficeAt version (state S.Store conn).now
-            → version_of (tables_at version (state S.Store conn).now) ≡ Some this_version) }
+        ensures same { IfTaken S.Store result (KeepsTables (state S.Store conn)) }
+        ensures version { IfTaken S.Store result (λ _.
+            HasVersion (state S.Store conn).now this_version) }
+        ensures has_table { IfTaken S.Store result (λ _.
+            IsTrue (has_office (state S.Store conn).now.schema)) }
+        ensures known_as_this { IfTaken S.Store result (λ _.
+            IfKnownOffice (state S.Store conn).now (λ t. version_of t ≡ Some this_version)) }
         ensures survives { IfOk result (λ office.
             Survives (state S.Store conn) (state S.Store office) (λ _. ⊥)) }
         // What a crash left of an office goes on as that office, and is never told to be none, or one
         // of another version.
-        ensures goes_on { IfOk result (λ office.
-            HasCleanDisk (state S.Store office) → (h : History)
-            → IsLeftOf h (state S.Store conn).now.trees → IsKeptBy h (state S.Store office)) }
-        ensures known { IfErr result (λ e.
-            HasCleanDisk (state S.Store e.0) → IsTrue (state S.Store conn).is_open → (h : History)
-            → IsLegal h → IsLeftOf h (state S.Store conn).now.trees → faults.IsFailure e.1) }
+        ensures goes_on { IfTaken S.Store result (λ s.
+            (h : History) → IsLeftOf h (state S.Store conn).now.trees → IsKeptBy h s) }
+        ensures known { IfRefused S.Store result (λ _ fault.
+            IsTrue (state S.Store conn).is_open → (h : History)
+            → IsLegal h → IsLeftOf h (state S.Store conn).now.trees → faults.IsFailure fault) }
 
-        ensures refused { IfErr result (λ e.
-            HasCleanDisk (state S.Store e.0)
-            → KeepsTables (state S.Store conn) (state S.Store e.0)) }
+        ensures refused { IfRefused S.Store result (λ s _. KeepsTables (state S.Store conn) s) }
         ensures refused_outside { IfErr result (λ e. (state S.Store e.0).in_transaction ≡ false) }
         ensures refused_survives { IfErr result (λ e.
             Survives (state S.Store conn) (state S.Store e.0) (λ _. ⊥)) }
-        ensures goes_back { IfErr result (λ e.
-            HasCleanDisk (state S.Store e.0) → (h : History)
-            → IsLeftOf h (state S.Store conn).now.trees → IsKeptBy h (state S.Store e.0)) }
-        ensures not_office { IfErr result (λ e.
-            HasCleanDisk (state S.Store e.0) → e.1 ≡ NotAnOffice
-            → opening.NotAnOffice (state S.Store conn).now) }
-        ensures other_version { IfErr result (λ e.
-            HasCleanDisk (state S.Store e.0) → e.1 ≡ OtherVersion
-            → HasOtherVersion (state S.Store conn).now this_version) }
+        ensures goes_back { IfRefused S.Store result (λ s _.
+            (h : History) → IsLeftOf h (state S.Store conn).now.trees → IsKeptBy h s) }
+        ensures not_office { IfRefused S.Store result (λ _ fault.
+            fault ≡ NotAnOffice → opening.NotAnOffice (state S.Store conn).now) }
+        ensures other_version { IfRefused S.Store result (λ _ fault.
+            fault ≡ OtherVersion → HasOtherVersion (state S.Store conn).now this_version) }
         ensures no_table { has_office (state S.Store conn).now.schema ≡ false
             → result ≡ Err (conn, NotAnOffice) }
         // Where the tables are an office's of any known version, it says so of what they tell.
-        ensures unknown { IfErr result (λ e.
-            HasCleanDisk (state S.Store e.0) → (version : TableVersion)
-            → IsOfficeAt version (state S.Store conn).now → e.1 ≡ NotAnOffice
-            → version_of (tables_at version (state S.Store conn).now) ≡ None) }
-        ensures known_as_other { IfErr result (λ e.
-            HasCleanDisk (state S.Store e.0) → (version : TableVersion)
-            → IsOfficeAt version (state S.Store conn).now → e.1 ≡ OtherVersion
-            → IsKnownAsOther (tables_at version (state S.Store conn).now) this_version) }
+        ensures unknown { IfRefused S.Store result (λ _ fault.
+            IfKnownOffice (state S.Store conn).now
+            (λ t. fault ≡ NotAnOffice → version_of t ≡ None)) }
+        ensures known_as_other { IfRefused S.Store result (λ _ fault.
+            IfKnownOffice (state S.Store conn).now
+            (λ t. fault ≡ OtherVersion → IsKnownAsOther t this_version)) }
     {
         match adopt(conn) {
             Ok(conn) => Ok(Office { conn }),
@@ -172,64 +154,41 @@ impl<S: Alter> Office<S> {
     /// back, its tables as they were.
     pub fn upgrade(conn: Connection<S>) -> Result<Office<S>, (Connection<S>, TableFault)>
         requires outside { (state S.Store conn).in_transaction ≡ false }
-        ensures upgraded { IfOk result (λ office.
-            HasCleanDisk (state S.Store office)
-            → Upgrades (state S.Store conn) (state S.Store office)) }
+        ensures upgraded { IfTaken S.Store result (Upgrades (state S.Store conn)) }
         // What a crash left of an office of any of these versions goes on as that office.
-        ensures found { IfOk result (λ office.
-            HasCleanDisk (state S.Store office)
-            → TakesUp (state S.Store conn) (state S.Store office)) }
+        ensures found { IfTaken S.Store result (TakesUp (state S.Store conn)) }
         // Tables that show no older version stay as they are, those of this version among them.
-        ensures kept { IfOk result (λ office.
-            HasCleanDisk (state S.Store office) → (IsOlder (state S.Store conn).now → ⊥)
-            → KeepsTables (state S.Store conn) (state S.Store office)) }
-        ensures newest { IfOk result (λ office.
-            HasCleanDisk (state S.Store office) → IsOffice (state S.Store conn).now
+        ensures kept { IfTaken S.Store result (λ s.
+            (IsOlder (state S.Store conn).now → ⊥) → KeepsTables (state S.Store conn) s) }
+        ensures newest { IfTaken S.Store result (λ s. IsOffice (state S.Store conn).now
             → version_of (tables_of (state S.Store conn).now) ≡ Some this_version
-            → KeepsTables (state S.Store conn) (state S.Store office)) }
+            → KeepsTables (state S.Store conn) s) }
         ensures newest_survives { IfOk result (λ office.
             NewestSurvives (state S.Store conn) (state S.Store office)) }
-        ensures open { IfOk result (λ office.
-            HasCleanDisk (state S.Store office) → IsTrue (state S.Store conn).is_open) }
-        ensures is_open { IfOk result (λ office. HasCleanDisk (state S.Store office)
-            → OpensOlder (state S.Store conn) (state S.Store office)) }
-        ensures version { IfOk result (λ office.
-            HasCleanDisk (state S.Store office)
-            → IsTrue (has_office (state S.Store conn).now.schema)
+        ensures open { IfTaken S.Store result (λ _. IsTrue (state S.Store conn).is_open) }
+        ensures is_open { IfTaken S.Store result (OpensOlder (state S.Store conn)) }
+        ensures version { IfTaken S.Store result (λ _.
+            IsTrue (has_office (state S.Store conn).now.schema)
             × ((known : TableVersion)
             × HasVersion (state S.Store conn).now (version_number known))) }
-        ensures known_as_one { IfOk result (λ office.
-            HasCleanDisk (state S.Store office) → (version : TableVersion)
-            → IsOfficeAt version (state S.Store conn).now
-            → TellsKnown (tables_at version (state S.Store conn).now)) }
+        ensures known_as_one { IfTaken S.Store result (λ _.
+            IfKnownOffice (state S.Store conn).now TellsKnown) }
         ensures survives { IfOk result (λ office.
             Survives (state S.Store conn) (state S.Store office)
             (IsUpgradeOf (state S.Store conn).now)) }
-        ensures durable { IfOk result (λ office.
-            HasCleanDisk (state S.Store office)
-            → UpgradeLasts (state S.Store conn) (state S.Store office)) }
-        ensures leaves { IfOk result (λ office.
-            HasCleanDisk (state S.Store office)
-            → LeavesAt (state S.Store conn) (state S.Store office)) }
+        ensures durable { IfTaken S.Store result (UpgradeLasts (state S.Store conn)) }
+        ensures leaves { IfTaken S.Store result (LeavesAt (state S.Store conn)) }
         // The same of whatever rows an office of a known version has, where no history pictures them.
-        ensures upgraded_rows { IfOk result (λ office. HasCleanDisk (state S.Store office)
-            → rows.Upgrades (state S.Store conn) (state S.Store office)) }
-        ensures found_rows { IfOk result (λ office. HasCleanDisk (state S.Store office)
-            → rows.TakesUp (state S.Store conn) (state S.Store office)) }
+        ensures upgraded_rows { IfTaken S.Store result (rows.Upgrades (state S.Store conn)) }
+        ensures found_rows { IfTaken S.Store result (rows.TakesUp (state S.Store conn)) }
         ensures survives_rows { IfOk result (λ office.
             Survives (state S.Store conn) (state S.Store office)
             (IsUpgrade (state S.Store conn).now)) }
-        ensures durable_rows { IfOk result (λ office. HasCleanDisk (state S.Store office)
-            → rows.UpgradeLasts (state S.Store conn) (state S.Store office)) }
+        ensures durable_rows { IfTaken S.Store result (rows.UpgradeLasts (state S.Store conn)) }
 
-        ensures refused_same { IfErr result (λ e.
-            HasCleanDisk (state S.Store e.0)
-            → KeepsTables (state S.Store conn) (state S.Store e.0)) }
-        ensures refused { IfErr result (λ e.
-            HasCleanDisk (state S.Store e.0) → StaysAt (state S.Store conn) (state S.Store e.0)) }
-        ensures goes_back { IfErr result (λ e.
-            HasCleanDisk (state S.Store e.0)
-            → GoesBackAt (state S.Store conn) (state S.Store e.0)) }
+        ensures refused_same { IfRefused S.Store result (λ s _. KeepsTables (state S.Store conn) s) }
+        ensures refused { IfRefused S.Store result (λ s _. StaysAt (state S.Store conn) s) }
+        ensures goes_back { IfRefused S.Store result (λ s _. GoesBackAt (state S.Store conn) s) }
         ensures refused_outside { IfErr result (λ e. (state S.Store e.0).in_transaction ≡ false) }
         ensures refused_survives { IfErr result (λ e.
             Survives (state S.Store conn) (state S.Store e.0)
@@ -243,39 +202,32 @@ impl<S: Alter> Office<S> {
         ensures told_survives { IfErr result (λ e.
             (faults.IsFailure e.1 → ⊥)
             → Survives (state S.Store conn) (state S.Store e.0) (λ _. ⊥)) }
-        ensures refused_leaves { IfErr result (λ e.
-            HasCleanDisk (state S.Store e.0) → LeavesAt (state S.Store conn) (state S.Store e.0)) }
-        ensures not_office { IfErr result (λ e.
-            HasCleanDisk (state S.Store e.0) → e.1 ≡ NotAnOffice
-            → opening.NotAnOffice (state S.Store conn).now) }
-        ensures other_version { IfErr result (λ e.
-            HasCleanDisk (state S.Store e.0) → e.1 ≡ OtherVersion
-            → HasUnknownVersion (state S.Store conn).now) }
+        ensures refused_leaves { IfRefused S.Store result (λ s _. LeavesAt (state S.Store conn) s) }
+        ensures not_office { IfRefused S.Store result (λ _ fault.
+            fault ≡ NotAnOffice → opening.NotAnOffice (state S.Store conn).now) }
+        ensures other_version { IfRefused S.Store result (λ _ fault.
+            fault ≡ OtherVersion → HasUnknownVersion (state S.Store conn).now) }
         ensures no_table { has_office (state S.Store conn).now.schema ≡ false
             → result ≡ Err (conn, NotAnOffice) }
         // Where the tables are an office's, it says so of their own version.
-        ensures unknown { IfErr result (λ e.
-            HasCleanDisk (state S.Store e.0) → (version : TableVersion)
-            → IsOfficeAt version (state S.Store conn).now → e.1 ≡ NotAnOffice
-            → version_of (tables_at version (state S.Store conn).now) ≡ None) }
-        ensures known_as_other { IfErr result (λ e.
-            HasCleanDisk (state S.Store e.0) → (version : TableVersion)
-            → IsOfficeAt version (state S.Store conn).now → e.1 ≡ OtherVersion
-            → TellsUnknown (tables_at version (state S.Store conn).now)) }
+        ensures unknown { IfRefused S.Store result (λ _ fault.
+            IfKnownOffice (state S.Store conn).now
+            (λ t. fault ≡ NotAnOffice → version_of t ≡ None)) }
+        ensures known_as_other { IfRefused S.Store result (λ _ fault.
+            IfKnownOffice (state S.Store conn).now
+            (λ t. fault ≡ OtherVersion → TellsUnknown t)) }
         // An office of one of these versions, and what a crash left of one, is never told to be none, or one of another version:
         // whatever its rows are, where they tell their version.
-        ensures known { IfErr result (λ e.
-            HasCleanDisk (state S.Store e.0) → IsTrue (state S.Store conn).is_open
-            → (version : TableVersion) (h : History) → IsLegal h
-            → IsLeftAt version h (state S.Store conn).now.trees → faults.IsFailure e.1) }
-        ensures failure { IfErr result (λ e.
-            HasCleanDisk (state S.Store e.0) → (version : TableVersion) (all : AllRows)
-            → BecomesAt version (state S.Store conn).now all → TellsVersion version all
-            → faults.IsFailure e.1) }
-        ensures left_failure { IfErr result (λ e.
-            HasCleanDisk (state S.Store e.0) → IsTrue (state S.Store conn).is_open
-            → (version : TableVersion) (all : AllRows) → TellsVersion version all
-            → rows.IsLeftAt version all (state S.Store conn).now.trees → faults.IsFailure e.1) }
+        ensures known { IfRefused S.Store result (λ _ fault.
+            IsTrue (state S.Store conn).is_open → (version : TableVersion) (h : History) → IsLegal h
+            → IsLeftAt version h (state S.Store conn).now.trees → faults.IsFailure fault) }
+        ensures failure { IfRefused S.Store result (λ _ fault.
+            (version : TableVersion) (all : AllRows) → BecomesAt version (state S.Store conn).now all
+            → TellsVersion version all → faults.IsFailure fault) }
+        ensures left_failure { IfRefused S.Store result (λ _ fault.
+            IsTrue (state S.Store conn).is_open → (version : TableVersion) (all : AllRows)
+            → TellsVersion version all
+            → rows.IsLeftAt version all (state S.Store conn).now.trees → faults.IsFailure fault) }
     {
         match office_upgrade::upgrade_office(conn) {
             Ok(conn) => Ok(Office { conn }),
@@ -288,22 +240,20 @@ impl<S: Alter> Office<S> {
     /// Fails with `Memory` or `Store`.
     pub fn install(&mut self, alloc: Global, policy: &Policy) -> Result<(), TableFault>
         ensures failure { IfErr result faults.IsFailure }
-        ensures installed { HasCleanDisk (state S.Store self.new)
-            → OnOk result (Installs (state S.Store self.old) (state S.Store self.new) policy.now) }
-        ensures open { HasCleanDisk (state S.Store self.new)
-            → OnOk result (IsTrue (state S.Store self.old).is_open) }
-        ensures kept { HasCleanDisk (state S.Store self.new)
-            → OnErr result (KeepsTables (state S.Store self.old) (state S.Store self.new)) }
+        ensures installed { IfClean S.Store self.old self.new (λ old new.
+            OnOk result (Installs old new policy.now)) }
+        ensures open { IfClean S.Store self.old self.new (λ old _.
+            OnOk result (IsTrue old.is_open)) }
+        ensures kept { IfClean S.Store self.old self.new (λ old new.
+            OnErr result (KeepsTables old new)) }
         ensures survives { Survives (state S.Store self.old) (state S.Store self.new)
             (CommitsTo (state S.Store self.old) (after_policy policy.now)) }
-        ensures durable { HasCleanDisk (state S.Store self.new)
-            → OnOk result
-            (InstallLasts (state S.Store self.old) (state S.Store self.new) policy.now) }
-        ensures leaves { HasCleanDisk (state S.Store self.new)
-            → LeavesEither (state S.Store self.old) (state S.Store self.new)
-            (after_policy policy.now) }
-        ensures made { HasCleanDisk (state S.Store self.new)
-            → LeavesInstalled (state S.Store self.old) (state S.Store self.new) result }
+        ensures durable { IfClean S.Store self.old self.new (λ old new.
+            OnOk result (InstallLasts old new policy.now)) }
+        ensures leaves { IfClean S.Store self.old self.new (λ old new.
+            LeavesEither old new (after_policy policy.now)) }
+        ensures made { IfClean S.Store self.old self.new (λ old new.
+            LeavesInstalled old new result) }
     {
         install(alloc, &mut self.conn, policy)
     }
@@ -311,28 +261,25 @@ impl<S: Alter> Office<S> {
     /// Serves a caller's request on that day, in one transaction with one commit. A request that is
     /// refused, or only asks, changes nothing.
     pub fn step(&mut self, alloc: Global, day: Day, caller: &str, request: &Request<'_>) -> Answer
-        ensures served { HasCleanDisk (state S.Store self.new)
-            → Serves (state S.Store self.old) (state S.Store self.new)
-            (day, caller.entry, request.now) result }
-        ensures kept { HasCleanDisk (state S.Store self.new) → is_accepted result ≡ false
-            → KeepsTables (state S.Store self.old) (state S.Store self.new) }
+        ensures served { IfClean S.Store self.old self.new (λ old new.
+            Serves old new (day, caller.entry, request.now) result) }
+        ensures kept { IfClean S.Store self.old self.new (λ old new.
+            is_accepted result ≡ false → KeepsTables old new) }
         // Whatever rows the tables of the office hold, no answer rests on one that tells nothing.
-        ensures rows { HasCleanDisk (state S.Store self.new)
-            → IsToldByRows (state S.Store self.old) (day, caller.entry, request.now) result }
+        ensures rows { IfClean S.Store self.old self.new (λ old _.
+            IsToldByRows old (day, caller.entry, request.now) result) }
         // Over a store that a fault has shut, it is a failure.
-        ensures shut { HasCleanDisk (state S.Store self.new)
-            → StaysShut (state S.Store self.old) (state S.Store self.new) result }
+        ensures shut { IfClean S.Store self.old self.new (λ old new.
+            StaysShut old new result) }
         ensures survives { Survives (state S.Store self.old) (state S.Store self.new)
             (CommitsTo (state S.Store self.old) (after_item (day, caller.entry, request.now))) }
-        ensures durable { HasCleanDisk (state S.Store self.new)
-            → Lasts (state S.Store self.old) (state S.Store self.new)
-            (day, caller.entry, request.now) result }
-        ensures leaves { HasCleanDisk (state S.Store self.new)
-            → LeavesEither (state S.Store self.old) (state S.Store self.new)
-            (after_item (day, caller.entry, request.now)) }
+        ensures durable { IfClean S.Store self.old self.new (λ old new.
+            Lasts old new (day, caller.entry, request.now) result) }
+        ensures leaves { IfClean S.Store self.old self.new (λ old new.
+            LeavesEither old new (after_item (day, caller.entry, request.now))) }
         // Whatever was kept, it leaves no other trees than those that were there and those that the request made.
-        ensures made { HasCleanDisk (state S.Store self.new)
-            → LeavesMade (state S.Store self.old) (state S.Store self.new) result }
+        ensures made { IfClean S.Store self.old self.new (λ old new.
+            LeavesMade old new result) }
     {
         serve(alloc, &mut self.conn, day, caller, request)
     }
@@ -344,20 +291,20 @@ impl<S: Alter> Office<S> {
         alloc: Global,
         items: &[(Day, &str, Request<'_>)],
     ) -> Result<Vec<Answer>, AllocError>
-        ensures ran { HasCleanDisk (state S.Store self.new) → IfOk result (λ answers.
-            Runs (state S.Store self.old) (state S.Store self.new) items.now answers.items) }
+        ensures ran { IfClean S.Store self.old self.new (λ old new.
+            IfOk result (λ answers. Runs old new items.now answers.items)) }
         ensures in_turn { HasCleanDisk (state S.Store self.new)
             → IfOk result (λ answers. InTurn S.Store self.old self.new items.now answers.items) }
-        ensures shut { HasCleanDisk (state S.Store self.new) → IfOk result (λ answers.
-            AllStayShut (state S.Store self.old) (state S.Store self.new) answers.items) }
+        ensures shut { IfClean S.Store self.old self.new (λ old new.
+            IfOk result (λ answers. AllStayShut old new answers.items)) }
         ensures failed { OnErr result (self.new ≡ self.old) }
         ensures failed_leaves { OnErr result (LeavesKept (state S.Store self.new)) }
         // What a crash leaves has every change that was answered as accepted.
         ensures survives { IfOk result (λ answers.
             Survives (state S.Store self.old) (state S.Store self.new)
             (CommitsRun (state S.Store self.old) items.now answers.items)) }
-        ensures leaves { HasCleanDisk (state S.Store self.new) → IfOk result (λ answers.
-            LeavesRun (state S.Store self.old) (state S.Store self.new) items.now answers.items) }
+        ensures leaves { IfClean S.Store self.old self.new (λ old new.
+            IfOk result (λ answers. LeavesRun old new items.now answers.items)) }
     {
         let mut answers = Vec::with_capacity(alloc, items.len())?;
         for item in items {
@@ -377,17 +324,13 @@ impl<S: Alter> Office<S> {
         caller: &str,
     ) -> Result<Vec<u32>, TableFault>
         ensures failure { IfErr result faults.IsFailure }
-        ensures listed { HasCleanDisk (state S.Store self.new)
-            → IfOk result (λ numbers.
-            ListsDue (state S.Store self.old)
-            (state S.Store self.new) day caller.now numbers.items) }
-        ensures rows { HasCleanDisk (state S.Store self.new)
-            → IfOk result (λ numbers.
-            AreToldDue (state S.Store self.old) day caller.now numbers.items) }
-        ensures open { HasCleanDisk (state S.Store self.new)
-            → OnOk result (IsTrue (state S.Store self.old).is_open) }
-        ensures kept { HasCleanDisk (state S.Store self.new)
-            → KeepsTables (state S.Store self.old) (state S.Store self.new) }
+        ensures listed { IfClean S.Store self.old self.new (λ old new.
+            IfOk result (λ numbers. ListsDue old new day caller.now numbers.items)) }
+        ensures rows { IfClean S.Store self.old self.new (λ old _.
+            IfOk result (λ numbers. AreToldDue old day caller.now numbers.items)) }
+        ensures open { IfClean S.Store self.old self.new (λ old _.
+            OnOk result (IsTrue old.is_open)) }
+        ensures kept { IfClean S.Store self.old self.new KeepsTables }
         ensures survives { Survives (state S.Store self.old) (state S.Store self.new) (λ _. ⊥) }
     {
         due_list(alloc, &mut self.conn, day, caller)
@@ -398,14 +341,13 @@ impl<S: Alter> Office<S> {
     /// Fails with `Memory` or `Store`. Nothing changes.
     pub fn stock(&mut self, alloc: Global) -> Result<Stock, TableFault>
         ensures failure { IfErr result faults.IsFailure }
-        ensures counted { HasCleanDisk (state S.Store self.new) → IfOk result (λ found.
-            CountsStock (state S.Store self.old) (state S.Store self.new) found) }
-        ensures rows { HasCleanDisk (state S.Store self.new)
-            → IfOk result (λ found. IsToldStock (state S.Store self.old) found) }
-        ensures open { HasCleanDisk (state S.Store self.new)
-            → OnOk result (IsTrue (state S.Store self.old).is_open) }
-        ensures kept { HasCleanDisk (state S.Store self.new)
-            → KeepsTables (state S.Store self.old) (state S.Store self.new) }
+        ensures counted { IfClean S.Store self.old self.new (λ old new.
+            IfOk result (CountsStock old new)) }
+        ensures rows { IfClean S.Store self.old self.new (λ old _.
+            IfOk result (IsToldStock old)) }
+        ensures open { IfClean S.Store self.old self.new (λ old _.
+            OnOk result (IsTrue old.is_open)) }
+        ensures kept { IfClean S.Store self.old self.new KeepsTables }
         ensures survives { Survives (state S.Store self.old) (state S.Store self.new) (λ _. ⊥) }
     {
         stock(alloc, &mut self.conn)

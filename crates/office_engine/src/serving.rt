@@ -9,7 +9,7 @@ ghost use Rattle.office_history.specs.Runs.{IsFailure};
 ghost use Rattle.office_asking.specs.Asking.{visit_on};
 ghost use Rattle.office_asking.specs.Serving.{Decides};
 ghost use Rattle.office_engine.specs.ByRows.{RowsTell};
-ghost use Rattle.office_engine.specs.Keeping.{CommitsTo, IsTurn, after_item, is_accepted};
+ghost use Rattle.office_engine.specs.Keeping.{CommitsTo, IfClean, IsTurn, after_item, is_accepted};
 
 use office_core::{Answer, Day, Refusal, Request};
 use office_defining::{define_class, define_collection};
@@ -157,9 +157,8 @@ pub fn serve<S: Alter>(
 ) -> Answer
     requires outside { (state S.Store conn.old).in_transaction ≡ false }
     ensures outside { (state S.Store conn.new).in_transaction ≡ false }
-    ensures turn { HasCleanDisk (state S.Store conn.new)
-        → IsTurn (state S.Store conn.old) (state S.Store conn.new)
-        (day, caller.entry, request.now) result }
+    ensures turn { IfClean S.Store conn.old conn.new (λ old new.
+        IsTurn old new (day, caller.entry, request.now) result) }
     ensures survives { Survives (state S.Store conn.old) (state S.Store conn.new)
         (CommitsTo (state S.Store conn.old) (after_item (day, caller.entry, request.now))) }
 {
