@@ -46,7 +46,7 @@ failed_back last end e inside (inl h) = h.3
 failed_back last end e inside (inr h) = absurd (true≢false (sym inside ∙ h.1))
 
 -- what was made inside a transaction, of whichever legal history the tables pictured; its Ok is to be committed
-pub record IsMade {S T E : Type 0} (g : Ghosts S) (first last : Held S) (next : History → History) (done : Result T E) : Type 0 where
+pub record IsMadeInside {S T E : Type 0} (g : Ghosts S) (first last : Held S) (next : History → History) (done : Result T E) : Type 0 where
   pub committed : IsTrue (state g first).is_open → (state g first).now ≡ (state g first).committed
   pub stays : CommitsNothing g (record first { in_transaction = true }) last
   pub goes_on : Continues g (record first { in_transaction = true }) last done
@@ -56,14 +56,14 @@ inside_ok : {T E : Type 0} (old new : State) (done : Result T E) → IsTrue old.
 inside_ok old new (Ok x) inside goes = goes.inside inside
 inside_ok old new (Err e) inside goes = tt
 
-commits : {S T E : Type 0} (g : Ghosts S) (first last : Held S) (next : History → History) (done : Result T E) → IsMade g first last next done
+commits : {S T E : Type 0} (g : Ghosts S) (first last : Held S) (next : History → History) (done : Result T E) → IsMadeInside g first last next done
     → HasCleanDisk (state g last) → (db : Trees) → IsOkAnd done (λ _. db ≡ (state g last).now.trees) → CommitsTo (state g first) next db
 commits g first last next (Ok x) it clean db is =
     let was_open = (it.stays.kept clean refl).was_open (it.goes_on clean).is_open in
     (was_open, λ h legal keeps. ((state g last).now, it.makes clean h legal (keeps was_open).0, is))
 commits g first last next (Err e) it clean db none = absurd none
 
-module _ {S T E : Type 0} {g : Ghosts S} {first last : Held S} {next : History → History} {done : Result T E} (it : IsMade g first last next done) (end : Held S) where
+module _ {S T E : Type 0} {g : Ghosts S} {first last : Held S} {next : History → History} {done : Result T E} (it : IsMadeInside g first last next done) (end : Held S) where
   pub made_survives : Survives (state g last) (state g end) (λ db. IsOkAnd done (λ _. db ≡ (state g last).now.trees)) → Survives (state g first) (state g end) (CommitsTo (state g first) next)
   made_survives s =
       survives_then (state g first) (state g last) (state g end) _ _ (CommitsTo (state g first) next) (λ _ db none. absurd none)
@@ -111,7 +111,7 @@ module _ {S T : Type 0} (g : Ghosts S) (first last end : Held S) (is_so : Histor
   found_kept (Err e) goes finds clean back = tt
   found_kept (Ok x) goes finds clean back = λ h legal keeps.
       let ok : Result T TableFault = Ok x in
-      let made : IsMade g first last (λ k. k) ok = record { committed = committed; stays = stays; goes_on = goes; makes = λ late k is pictured. (finds late k is pictured).0 } in
+      let made : IsMadeInside g first last (λ k. k) ok = record { committed = committed; stays = stays; goes_on = goes; makes = λ late k is pictured. (finds late k is pictured).0 } in
       (record { legal = legal; kept = still_kept made end clean back h keeps }, (finds clean h legal (keeps (was_open made end clean x refl)).0).1)
 
 -- what an Ok that is committed comes to
@@ -152,7 +152,7 @@ served_after : (decided : Result Answer TableFault) (h : History) (item : Item) 
 served_after (Ok given) h item db served = served.after
 served_after (Err stopped) h item db served = tt
 
-pub decided_made : {S : Type 0} (g : Ghosts S) (first last : Held S) (item : Item) (decided : Result Answer TableFault) → IsDecided g first last item decided → IsMade g first last (after_item item) decided
+pub decided_made : {S : Type 0} (g : Ghosts S) (first last : Held S) (item : Item) (decided : Result Answer TableFault) → IsDecided g first last item decided → IsMadeInside g first last (after_item item) decided
 decided_made g first last item decided it =
     record { committed = it.committed; stays = it.stays; goes_on = it.goes_on; makes = λ clean h legal pictured. served_after decided h item (state g last).now (it.decides clean h legal pictured) }
 
@@ -160,7 +160,7 @@ module _ {S : Type 0} {g : Ghosts S} {first last : Held S} {item : Item} {decide
     (settled : (s : Held S) → IsSettled (state g s)) (survives : Survives (state g first) (state g end) (CommitsTo (state g first) (after_item item)))
     (clean : HasCleanDisk (state g end)) (early : HasCleanDisk (state g last))
     (crash : (left : Trees) → (state g end).may_leave left → (state g first).may_leave left ⊎ Makes (state g last) decided left) where
-  made_it : IsMade g first last (after_item item) decided
+  made_it : IsMadeInside g first last (after_item item) decided
   made_it = decided_made g first last item decided it
 
   leaves : LeavesEither (state g first) (state g end) (after_item item)

@@ -7,7 +7,7 @@ use Rattle.sqlite.proofs.Callers.{survives_begin}
 use Rattle.sqlite.proofs.StateLemmas.{survives_then}
 use Rattle.office_history.specs.Runs as runs
 use Rattle.office_engine.specs.Keeping.{CommitsTo, InstallLasts, Installs, after_policy}
-use Rattle.office_engine.proofs.Ends.{IsMade, inside, left_by, made_kept, made_lasting, made_survives, of_ok, on_committed, unchanged, was_open}
+use Rattle.office_engine.proofs.Ends.{IsMadeInside, inside, left_by, made_kept, made_lasting, made_survives, of_ok, on_committed, unchanged, was_open}
 use Rattle.office_engine.proofs.installing.install.Goals as goal
 
 pub returns : goal.returns
@@ -18,7 +18,7 @@ returns g c =
     let end = c.end.new.tx.0 in
     let begun = c.transaction-tx.ensures.begun in
     let same : end ≡ c.conn-1.given.0 = search rules in
-    let made : IsMade g.S.Store first last (after_policy policy) c.install-done.result = record {
+    let made : IsMadeInside g.S.Store first last (after_policy policy) c.install-done.result = record {
       committed = c.is_autocommit-is_settled.ensures.settled (c.is_autocommit-is_settled.ensures.value ∙ ap not c.requires.outside);
       stays = rw begun at c.install-done.ensures.inside.stays;
       goes_on = rw begun at c.install-done.ensures.inside.goes_on;
