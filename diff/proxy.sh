@@ -73,7 +73,7 @@ cp "$top/examples/bag-a.bagset" small.bagset
 
 openssl req -x509 -newkey rsa:2048 -nodes -days 2 -subj /CN=localhost -addext subjectAltName=DNS:localhost \
     -keyout office.key -out office.crt 2>/dev/null
-users=(anna Berta 'long-name-long-name-long-name-long-name-x')
+users=(anna eve Berta 'long-name-long-name-long-name-long-name-x')
 
 start_nginx() {
     https=$(port)
@@ -140,7 +140,7 @@ gets() {
     local status=$1 body=$2 user=$3 target=$4 said
     shift 4
     said=$(curl -sS --max-time 60 --cacert office.crt -u "$user:secret" -w '\n%{http_code} %{content_type}' "$@" "https://localhost:$https$target" 2>&1) || true
-    [ "$said" = "$body"$'\n'"$status application/json" ] || fail "$target by $user: $status $body is wanted, and this came: $said"
+    [ "$said" = "$body"$'\n'"$status application/json" ] || fail "$target by $user${*:+ with $*}: $status $body is wanted, and this came: $said"
     checked=$((checked + 1))
 }
 
@@ -158,21 +158,34 @@ deposits() {
 }
 
 cases() {
-    local field slow large said
+    local field slow large said holds none='{"holds":[]}' denied='{"error":"Denied","rule":"default"}'
     gets 200 '{"class":"y1","years":1}' anna /classes/y1 -X PUT -d '{"years":1}'
     gets 200 '{"collection":"maps"}' anna /collections/maps -X PUT
 
-    # a field of the client's own never counts: a stranger may not ask for records, and anna may
-    for field in 'Depot-Caller: eve' 'depot-caller: eve' 'DEPOT-CALLER: eve' 'Depot-caller:eve' 'dEPOT-cALLER:  eve' 'Depot_Caller: eve' \
-        'Depot-Caller : eve' $'Depot-Caller: x\r\nDepot-Caller: eve'; do
+    deposits small.bagset
+
+    # a field of the client's own never counts: a stranger may not ask for holds, and anna may. The control: the desk itself
+    # goes by the field
+    holds=/deposits/$last/holds
+    desk_says anna "$none 200"
+    desk_says eve "$denied 403"
+    for field in 'Depot-Caller: ' 'depot-caller: ' 'DEPOT-CALLER: ' 'Depot-caller:' 'dEPOT-cALLER:  ' 'Depot_Caller: ' \
+        'Depot-Caller : ' $'Depot-Caller: x\r\nDepot-Caller: '; do
         case $field in
-        'Depot-Caller : eve') says_400 "$field" ;; # no field at all: the whole request is refused
-        *) gets 404 '{"error":"NoSuch","what":"deposit"}' anna /deposits/999 -H "$field" ;;
+        *' : ') # no field at all: the head is refused, or goes on without it
+            refused_or 200 anna "${field}eve"
+            refused_or 403 eve "${field}anna"
+            ;;
+        *) # (over HTTP/2, which Caddy takes, curl writes each name in small letters)
+            gets 200 "$none" anna "$holds" --http1.1 -H "${field}eve"
+            gets 403 "$denied" eve "$holds" --http1.1 -H "${field}anna"
+            ;;
         esac
     done
+    gets 200 "$none" anna "$holds" -H 'Depot-Caller: eve'
+    gets 403 "$denied" eve "$holds" -H 'Depot-Caller: anna'
 
     # uploads
-    deposits small.bagset
     deposits large.bagset
     large=$last
     deposits large.bagset -H 'Expect: 100-continue'
@@ -202,7 +215,7 @@ cases() {
 
     # who can't be a caller is refused here: a stranger would get a list
     gets 403 '{"error":"NotACaller"}' Berta /deposits
-    gets 403 '{"error":"NotACaller"}' "${users[2]}" /deposits
+    gets 403 '{"error":"NotACaller"}' "${users[3]}" /deposits
 
     # errors of the proxy
     said=$(curl -sS --cacert office.crt -w '\n%{http_code} %{content_type}' "https://localhost:$https/deposits")
@@ -215,24 +228,32 @@ cases() {
     checked=$((checked + 3))
 }
 
-# A head that is none is refused, by the proxy or by the desk.
-says_400() {
+# What the desk itself answers this caller of the holds.
+desk_says() {
     local said
-    said=$(python3 - "$https" "$1" <<'END'
+    said=$(curl -sS -w ' %{http_code}' -H "Depot-Caller: $1" "http://127.0.0.1:$desk$holds")
+    [ "$said" = "$2" ] || fail "the control: $2 is wanted for $1, and this came: $said"
+    checked=$((checked + 1))
+}
+
+# A head that is none is refused, by the proxy or by the desk, or the user's own name counts: the status that is wanted then,
+# the user, and the line that is no field.
+refused_or() {
+    local said
+    said=$(python3 - "$https" "$2" "$holds" "$3" <<'END'
 import base64, socket, ssl, sys
+port, user, target, line = sys.argv[1:]
 context = ssl.create_default_context(cafile="office.crt")
-with socket.create_connection(("127.0.0.1", int(sys.argv[1]))) as plain, context.wrap_socket(plain, server_hostname="localhost") as peer:
+with socket.create_connection(("127.0.0.1", int(port))) as plain, context.wrap_socket(plain, server_hostname="localhost") as peer:
     peer.settimeout(30)
-    given = base64.b64encode(b"anna:secret").decode()
-    peer.sendall(f"GET /deposits/999 HTTP/1.1\r\nHost: localhost\r\nAuthorization: Basic {given}\r\n{sys.argv[2]}\r\nConnection: close\r\n\r\n".encode())
+    given = base64.b64encode(f"{user}:secret".encode()).decode()
+    peer.sendall(f"GET {target} HTTP/1.1\r\nHost: localhost\r\nAuthorization: Basic {given}\r\n{line}\r\nConnection: close\r\n\r\n".encode())
     print(peer.recv(4096).split(b"\r\n")[0].decode())
 END
     )
     case $said in
-    'HTTP/1.1 400 '*) ;;
-    # nginx leaves such a field out, which is as good: anna is asked of
-    'HTTP/1.1 404 '*) ;;
-    *) fail "$1: 400 or 404 is wanted, and this came: $said" ;;
+    'HTTP/1.1 400 '* | "HTTP/1.1 $1 "*) ;; # (nginx leaves such a field out)
+    *) fail "$3 by $2: 400 or $1 is wanted, and this came: $said" ;;
     esac
     checked=$((checked + 1))
 }
