@@ -158,7 +158,7 @@ deposits() {
 }
 
 cases() {
-    local field slow large said holds none='{"holds":[]}' denied='{"error":"Denied","rule":"default"}'
+    local field slow large said long holds none='{"holds":[]}' denied='{"error":"Denied","rule":"default"}'
     gets 200 '{"class":"y1","years":1}' anna /classes/y1 -X PUT -d '{"years":1}'
     gets 200 '{"collection":"maps"}' anna /collections/maps -X PUT
 
@@ -226,6 +226,22 @@ cases() {
     said=$(curl -sS --cacert office.crt -u anna:secret -H 'Expect:' -w '\n%{http_code} %{content_type}' --data-binary @beyond "https://localhost:$https$(place)" 2>/dev/null) || true
     [ "${said##*$'\n'}" = '413 application/json' ] || fail "of a body of 17 MiB 413 as JSON is wanted, and this came: $said"
     checked=$((checked + 3))
+    gets 405 '{"error":"Method"}' anna /due -X TRACE
+    long=$(head -c 9000 /dev/zero | tr '\0' a)
+    if [ "$proxy" = nginx ]; then
+        gets 414 '{"error":"TooLarge"}' anna "/$long"
+        gets 400 '{"error":"BadRequest"}' anna /due -H "X: $long"
+        gets 404 '{"error":"NoRoute"}' anna /error
+        # a line that is no request, and a request without TLS
+        gets 400 '{"error":"BadRequest"}' anna /due -X 'GE T'
+        said=$(curl -sS -w '\n%{http_code} %{content_type}' "http://localhost:$https/due")
+        [ "$said" = '{"error":"BadRequest"}'$'\n400 application/json' ] || fail "without TLS 400 as JSON is wanted, and this came: $said"
+        checked=$((checked + 1))
+    else
+        # (it passes such a head on)
+        gets 413 '{"error":"TooLarge"}' anna "/$long"
+        gets 413 '{"error":"TooLarge"}' anna /due -H "X: $long"
+    fi
 }
 
 # What the desk itself answers this caller of the holds.
