@@ -1,9 +1,10 @@
 #!/usr/bin/env bash
 # Puts nginx and Caddy, as the system installs them, in front of `depot serve`, each with its file of `examples/` (other
 # ports, names and passwords put in), over TLS on 127.0.0.1. Of both it shows: the name of the caller is the user's, however
-# a client spells a field `Depot-Caller` of its own; uploads in chunks, of 10 MiB, with `Expect` and over a connection that
-# stays are taken; a slow upload and a slow download hold nobody up; a user whose name can't be a caller is refused by the
-# proxy, and not served as a stranger; and the proxy's own errors come as JSON.
+# a client spells a field `Depot-Caller` of its own; uploads in chunks (but with Caddy before 2.7), of 10 MiB, with `Expect` and
+# over a connection that stays are taken; a slow upload and a slow download hold nobody up; a user whose name can't be a caller
+# is refused by the proxy, and not served as a stranger; and the proxy's own errors come as JSON. (Of heads that it can't read
+# Caddy's do not: nothing here asks for them.)
 # Needs nginx, caddy, openssl, curl and python3. Words: the program, `depot` of the repository if left out.
 set -eu
 top=$(dirname "$(readlink -f "$0")")/..
@@ -139,7 +140,7 @@ up() {
 gets() {
     local status=$1 body=$2 user=$3 target=$4 said
     shift 4
-    said=$(curl -sS --max-time 60 --cacert office.crt -u "$user:secret" -w '\n%{http_code} %{content_type}' "$@" "https://localhost:$https$target" 2>&1) || true
+    said=$(curl -sS --max-time 300 --cacert office.crt -u "$user:secret" -w '\n%{http_code} %{content_type}' "$@" "https://localhost:$https$target" 2>&1) || true
     [ "$said" = "$body"$'\n'"$status application/json" ] || fail "$target by $user${*:+ with $*}: $status $body is wanted, and this came: $said"
     checked=$((checked + 1))
 }
@@ -169,6 +170,7 @@ cases() {
     holds=/deposits/$last/holds
     desk_says anna "$none 200"
     desk_says eve "$denied 403"
+    desk_says $'x\r\nDepot-Caller: eve' '{"error":"TwoCallers"} 400'
     for field in 'Depot-Caller: ' 'depot-caller: ' 'DEPOT-CALLER: ' 'Depot-caller:' 'dEPOT-cALLER:  ' 'Depot_Caller: ' \
         'Depot-Caller : ' $'Depot-Caller: x\r\nDepot-Caller: '; do
         case $field in
@@ -202,16 +204,20 @@ cases() {
     checked=$((checked + 1))
 
     # who is slow holds nobody up
-    curl -sS --max-time 60 --limit-rate 2M --cacert office.crt -u anna:secret -o /dev/null --data-binary @large.bagset "https://localhost:$https$(place)" &
+    curl -sS --limit-rate 500K --cacert office.crt -u anna:secret -o /dev/null --data-binary @large.bagset "https://localhost:$https$(place)" &
     slow=$!
     sleep 0.5
     quick 'a slow upload'
-    kill "$slow" 2>/dev/null || true
-    curl -sS --max-time 60 --limit-rate 1M --cacert office.crt -u anna:secret -o /dev/null "https://localhost:$https/deposits/$large/bag" &
+    # (a download of which a byte is taken, and then nothing)
+    rm -f stuck
+    mkfifo stuck
+    curl -sS --cacert office.crt -u anna:secret "https://localhost:$https/deposits/$large/bag" >stuck &
     slow=$!
-    sleep 1
+    exec 8<stuck
+    head -c 1 <&8 >byte
+    [ -s byte ] || fail "a slow download didn't begin"
     quick 'a slow download'
-    kill "$slow" 2>/dev/null || true
+    exec 8<&-
 
     # who can't be a caller is refused here: a stranger would get a list
     gets 403 '{"error":"NotACaller"}' Berta /deposits
@@ -219,12 +225,12 @@ cases() {
 
     # errors of the proxy
     said=$(curl -sS --cacert office.crt -w '\n%{http_code} %{content_type}' "https://localhost:$https/deposits")
-    [ "${said##*$'\n'}" = '401 application/json' ] || fail "without a password 401 as JSON is wanted, and this came: $said"
+    [ "$said" = '{"error":"Unauthorized"}'$'\n401 application/json' ] || fail "without a password 401 as JSON is wanted, and this came: $said"
     said=$(curl -sS --cacert office.crt -u anna:wrong -o /dev/null -D - "https://localhost:$https/deposits" | tr -d '\r' | grep -i '^www-authenticate:')
     [ -n "$said" ] || fail "a wrong password isn't asked for again"
     head -c $((17 << 20)) /dev/zero >beyond
     said=$(curl -sS --cacert office.crt -u anna:secret -H 'Expect:' -w '\n%{http_code} %{content_type}' --data-binary @beyond "https://localhost:$https$(place)" 2>/dev/null) || true
-    [ "${said##*$'\n'}" = '413 application/json' ] || fail "of a body of 17 MiB 413 as JSON is wanted, and this came: $said"
+    [ "$said" = '{"error":"TooLarge"}'$'\n413 application/json' ] || fail "of a body of 17 MiB 413 as JSON is wanted, and this came: $said"
     checked=$((checked + 3))
     gets 405 '{"error":"Method"}' anna /due -X TRACE
     long=$(head -c 9000 /dev/zero | tr '\0' a)
@@ -282,11 +288,13 @@ two_over_one_connection() {
     checked=$((checked + 1))
 }
 
-# Others are served at once.
+# Others are served at once, while what is slow goes on: it is ended then.
 quick() {
     local began=$SECONDS
     gets 200 "{\"day\":\"$day\",\"deposits\":[]}" anna /due
     [ $((SECONDS - began)) -le 2 ] || fail "$1 held others up for $((SECONDS - began)) seconds"
+    kill -0 "$slow" 2>/dev/null || fail "$1 was over"
+    kill "$slow"
 }
 
 last=0
