@@ -1,8 +1,9 @@
 #!/usr/bin/env python3
 """Shows what the N of `depot serve --count N` means, which docs/OPERATING.md says under "Limits": how many connections an
 office takes in a second, from one client that asks without a pause for a record, for what is due, and to deposit a bag of
-10 KiB; and so how long a million of them last at least. Then that each connection counts, also one that is refused, one
-that sends nothing and one that is lost, and that the office ends with status 0 after the last.
+10 KiB; and so how long a million of them last at least, which may not be less than two thirds of what the page says. Then
+that each connection counts, also one that is refused, one that sends nothing and one that is lost, and that the office ends
+with status 0 after the last.
 
 Words: the program, that of the variable DEPOT or `depot` of the repository if left out.
 """
@@ -20,6 +21,9 @@ TOP = Path(__file__).resolve().parent.parent
 DAY = "2024-03-02"
 SECONDS = 5
 MOST = 1_000_000
+# What docs/OPERATING.md says under "Limits" of how long a million connections last, in its words, and in minutes.
+ASKED = "three minutes if one client asks for records or due lists without a pause", 3
+DEPOSITED = "half an hour if each deposits 10 KiB and the disk is fast", 30
 
 
 def fail(text):
@@ -73,6 +77,10 @@ def lasts(per_second):
 
 def main():
     words = sys.argv[1:]
+    page = " ".join((TOP / "docs/OPERATING.md").read_text().split())
+    for text, _ in (ASKED, DEPOSITED):
+        if text not in page:
+            fail(f"docs/OPERATING.md doesn't say: {text}")
     program = os.path.abspath((words or [os.environ.get("DEPOT", TOP / "depot")])[0])
     with tempfile.TemporaryDirectory() as folder:
         store = os.path.join(folder, "office.db")
@@ -81,15 +89,20 @@ def main():
         asks(port, request("PUT", "/classes/y1", b'{"years":1}'), 200)
         asks(port, request("PUT", "/collections/maps"), 200)
         asks(port, deposit(0), 201)
-        for name, make, wanted in [
-            ("a record", lambda _: request("GET", "/deposits/1"), 200),
-            ("what is due", lambda _: request("GET", "/due"), 200),
-            ("a deposit of 10 KiB", deposit, 201),
+        short = []
+        for name, make, wanted, (text, minutes) in [
+            ("a record", lambda _: request("GET", "/deposits/1"), 200, ASKED),
+            ("what is due", lambda _: request("GET", "/due"), 200, ASKED),
+            ("a deposit of 10 KiB", deposit, 201, DEPOSITED),
         ]:
             found = rate(port, make, wanted)
             print(f"rates: {name}: {found:.0f} connections in a second; a million last {lasts(found)}")
+            if MOST / found / 60 < minutes * 2 / 3:
+                short.append(f"{name} in less than two thirds of what docs/OPERATING.md says: {text}")
         running.kill()
         running.wait()
+        if short:
+            fail("; ".join(short))
         # Five connections: of a request, one that is refused, one that sends nothing, one that is lost, and one more.
         running, port = serve(program, store, 5)
         asks(port, request("GET", "/due"), 200)
