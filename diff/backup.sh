@@ -8,25 +8,14 @@
 set -eu
 top=$(dirname "$(readlink -f "$0")")/..
 . "$top/diff/waits.sh"
+. "$top/diff/pages.sh"
 program=$(readlink -f "${1:-$top/depot}")
 bag=$top/examples/bag-a.bagset
 day=2024-03-02
 room=$(mktemp -d)
 trap 'kill $(jobs -p) 2>/dev/null || true; rm -rf "$room"' EXIT
 cases=0
-
-# The block of code of this number under "Stopping and backing up", as the page has it.
-block() {
-    awk -v wanted="$1" '
-        /^## / { is_here = $0 == "## Stopping and backing up" }
-        is_here && /^```/ { is_code = !is_code; count += is_code; next }
-        is_code && count == wanted' "$top/docs/OPERATING.md"
-}
-
-# Runs it, as a person would who goes by the page: it ends well.
-follow() {
-    eval "$(block "$1")" 2>noise || { echo "block $1 of the page ended with $?: $(cat noise)" >&2; exit 1; }
-}
+section="Stopping and backing up"
 
 # What was done, and what is wanted and was found.
 compare() {
@@ -115,14 +104,14 @@ done
 
 # As the page says.
 begin 1000000
-follow 1
+follow "$section" 1
 cp backup/2024-03-02.db copy/office.db
 has_three "the page's copy, opened elsewhere" copy/office.db
-compare "the page's look into it" '{"deposits":[1,2,3]}' "$(follow 2 | body | sed 's/{"accession[^}]*"deposit":\([0-9]*\),[^}]*}/\1/g')"
+compare "the page's look into it" '{"deposits":[1,2,3]}' "$(follow "$section" 2 | body | sed 's/{"accession[^}]*"deposit":\([0-9]*\),[^}]*}/\1/g')"
 serve 1000000
 deposit 4
 deposit 5
-follow 3
+follow "$section" 3
 has_three "the office that the page restores" office.db
 serve 1000000
 deposit 4
@@ -133,7 +122,7 @@ compare "it goes on, and is killed" '{"deposits":[1,2,3,4]}; 0' "$(deposits_of o
 begin 1000000
 compare "the log of an office that runs is to be folded in" 'store Q4 depot: cannot open office.db: database is locked; 3' "$(asks office.db /due)"
 kill_office
-follow 1
+follow "$section" 1
 has_three "the page's copy of an office that had ended" backup/2024-03-02.db
 
 # The file alone: an older office.
