@@ -5,6 +5,7 @@
 built() {
     # shellcheck disable=SC2154 # the script that sources this one sets `top`
     local crate=$top/crates/$1
+    # shellcheck disable=SC2034 # the script that sources this one uses it
     program=$crate/out/$1
     if ! (cd "$crate" && shift && rt run -- "$@") >/dev/null 2>&1; then
         echo "the program could not be built: try rt run in $crate" >&2

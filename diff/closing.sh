@@ -8,7 +8,9 @@
 # Needs sha256sum and curl. Words: the program, `depot` of the repository if left out.
 set -eu
 top=$(dirname "$(readlink -f "$0")")/..
+. "$top/diff/needs.sh"
 . "$top/diff/waits.sh"
+needs curl
 program=${1:-$top/depot}
 folder=$(mktemp -d)
 trap 'kill $(jobs -p) 2>/dev/null || true; rm -rf "$folder"' EXIT
@@ -124,4 +126,21 @@ told="depot: cannot install the policy in $office: the store failed"
 [ "$(tail -n +2 "$folder/err")" = "$told" ] || { echo "'$told' is wanted, and this came: '$(tail -n +2 "$folder/err")'" >&2; exit 1; }
 cmp "$office" "$folder/before.db"
 request GET /deposits | "$program" ask "$office" "$day" | head -n 1 | grep -q '^HTTP/1.1 200 ' || { echo "the policy before doesn't stand" >&2; exit 1; }
-echo "$cases commands whose end goes wrong say so, and what they did stands"
+
+# Somebody removes the log of an office that runs: it goes on answering, and what it answered is gone with the process, as
+# docs/OPERATING.md says under "The two files". (The same of SQLite. So nothing here says that an office takes notice.)
+answered() {
+    curl -sS --max-time 60 -w ' %{http_code}' -X PUT -H 'Depot-Caller: anna' "http://127.0.0.1:$(sed 's/listening //' "$folder/listening")/collections/$1"
+}
+"$program" serve --port 0 --count 100 "$office" "$day" >"$folder/listening" &
+serving=$!
+await "$serving" "$folder/listening" listening
+[ "$(answered before)" = '{"collection":"before"} 200' ]
+rm "$office-wal"
+[ "$(answered after)" = '{"collection":"after"} 200' ] || { echo "an office without its log answers otherwise" >&2; exit 1; }
+kill "$serving"
+ended "$serving" || true
+printf '{"collection":"after","matter":"Case 7"}' >"$folder/hold"
+request POST /holds "$folder/hold" | "$program" ask "$office" "$day" | grep -q 'NoSuch' ||
+    { echo "what was answered without a log is there: docs/OPERATING.md says otherwise" >&2; exit 1; }
+echo "$cases commands whose end goes wrong say so, and what they did stands; a log that is removed is lost"

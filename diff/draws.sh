@@ -10,7 +10,10 @@
 # python3; proves and builds the program where it is missing, or its sources have changed.
 set -eu
 top=$(dirname "$(readlink -f "$0")")/..
+. "$top/diff/needs.sh"
 . "$top/diff/built.sh"
+needs python3
+needs_kit
 built office_file draw 1 1
 folder=$(mktemp -d)
 trap 'rm -rf "$folder"' EXIT
@@ -28,6 +31,7 @@ done
 
 # add KIND TOLD: adds each number that comes before one of these words.
 add() {
+    # shellcheck disable=SC2178 # it names an array
     local -n sums=$1
     local number=0 word
     for word in $2; do
@@ -68,6 +72,7 @@ done
 
 # about KIND: what came to classes and days.
 about() {
+    # shellcheck disable=SC2178 # it names an array
     local -n sums=$1
     echo "${sums[held]} holds on a class, ${sums[released]} released, ${sums[listed]} lists of holds with one;" \
         "${sums[asked]} requests under rules with days, ${sums[denied]} denied by one"

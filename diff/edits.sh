@@ -14,6 +14,9 @@
 set -eu
 shopt -s nullglob
 top=$(dirname "$(readlink -f "$0")")/..
+. "$top/diff/needs.sh"
+needs git
+needs_kit
 
 room=$(mktemp -d)
 trap 'rm -rf "$room"' EXIT

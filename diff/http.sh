@@ -7,7 +7,9 @@
 # which stands in for `nc`. Words: the program, `depot` of the repository if left out.
 set -eu
 top=$(dirname "$(readlink -f "$0")")/..
+. "$top/diff/needs.sh"
 . "$top/diff/waits.sh"
+needs curl python3
 program=$(readlink -f "${1:-$top/depot}")
 room=$(mktemp -d)
 serving=
@@ -67,6 +69,7 @@ page() {
     serving=$!
     await "$serving" said listening
     port=$(sed 's/listening //' said)
+    # shellcheck disable=SC2034 # the page's commands use it
     OFFICE=http://127.0.0.1:$port
     asked=0
     for section in 'Each route by an example' 'What the desk refuses' 'What the office refuses'; do

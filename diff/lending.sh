@@ -5,6 +5,8 @@
 # their checks left; without that, they are proved first, which takes some minutes.
 set -eu
 top=$(dirname "$(readlink -f "$0")")/..
+. "$top/diff/needs.sh"
+needs_kit
 room=$(mktemp -d)
 trap 'rm -rf "$room"' EXIT
 

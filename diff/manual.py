@@ -15,6 +15,8 @@ import sys
 import tempfile
 from pathlib import Path
 
+from needs import needs
+
 TOP = Path(__file__).resolve().parent.parent
 PAGE, COMPLETIONS = TOP / "docs/depot.1", TOP / "docs/depot.bash"
 # What a man page needs besides the help: each status by a run that ends with it, and what it means.
@@ -166,6 +168,7 @@ def completed(*words):
 
 
 def main():
+    needs("man=man-db", "groff")
     words = sys.argv[1:]
     is_write = words[:1] == ["--write"]
     program = os.path.abspath((words[is_write:] or [os.environ.get("DEPOT", TOP / "depot")])[0])

@@ -37,6 +37,7 @@ import sys
 import tempfile
 
 import upgrade as stores
+from needs import needs
 
 TOP = pathlib.Path(__file__).resolve().parent.parent
 DEPOT = os.environ.get("DEPOT", str(TOP / "crates/depot/out/depot-program"))
@@ -90,6 +91,7 @@ void *realloc(void *old, size_t size) { return refused() ? NULL : __libc_realloc
 
 def compiled(folder):
     """The library, compiled."""
+    needs("cc=gcc", "/usr/include/stdlib.h=libc6-dev")
     source, made = folder / "refusing.c", folder / "refusing.so"
     source.write_text(LIBRARY)
     subprocess.run(["cc", "-shared", "-fPIC", "-O1", "-o", made, source], check=True)

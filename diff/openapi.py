@@ -13,11 +13,12 @@ body that the file has for its route, and JSON is compact. With one thing in it 
 takes too much is found. At the end the routes and codes that no exchange shows are listed.
 
 Needs bash and Debian's python3-yaml and python3-jsonschema. For 1 it needs openapi-specification, which has the schema of
-OpenAPI, or python3-openapi-spec-validator, and uses both where it finds them.
+OpenAPI, or python3-openapi-spec-validator, and uses both where it finds them. What is missing it installs (`needs.py`).
 Status: 0, 1 where something differs, 2 for other words, 3 where a package is missing and nothing was compared.
 """
 
 import dataclasses
+import importlib.util
 import json
 import pathlib
 import re
@@ -26,12 +27,11 @@ import sys
 import urllib.parse
 from datetime import date
 
-try:
-    import jsonschema
-    import yaml
-except ImportError as missing:
-    print(f"openapi: nothing was compared: Python has no {missing.name} (python3-jsonschema, python3-yaml)", file=sys.stderr)
-    sys.exit(3)
+from needs import needs, needs_modules
+
+needs_modules("jsonschema=python3-jsonschema", "yaml=python3-yaml")
+import jsonschema
+import yaml
 
 TOP = pathlib.Path(__file__).resolve().parent.parent
 FILE, PAGE = TOP / "docs/openapi.yaml", TOP / "docs/HTTP.md"
@@ -765,6 +765,8 @@ def main():
     if len(sys.argv) > 2 or sys.argv[1:2] and sys.argv[1].startswith("-"):
         print("words: a program, or none", file=sys.stderr)
         sys.exit(2)
+    if not importlib.util.find_spec("openapi_spec_validator"):
+        needs(f"{RULES}=openapi-specification")
     file, judges = read_file()
     operations = list(operations_of(file))
     others = answers_of(file.get("x-without-operation", {}), "x-without-operation")

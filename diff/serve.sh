@@ -11,7 +11,9 @@
 # many times it is killed. Takes some minutes.
 set -eu
 top=$(dirname "$(readlink -f "$0")")/..
+. "$top/diff/needs.sh"
 . "$top/diff/waits.sh"
+needs curl python3 sqlite3
 bag=$top/examples/bag-a.bagset
 # (the built program itself, since the script `depot` needs more descriptors than it)
 [ $# -gt 0 ] || "$top/depot" check "$bag" >/dev/null

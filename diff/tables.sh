@@ -3,11 +3,14 @@
 # `sqlite3` command finds there with what it has to be: each row with `rows.txt`, the texts of the
 # tables with `schema.sql`; and `sqlite3` makes its own tests of the file. Stores of older versions have that
 # schema, too, once they are upgraded.
-# Needs sqlite3 (Debian: apt-get install sqlite3) and python3; proves and builds the program where it is missing,
+# Needs sqlite3, python3 and the kit; proves and builds the program where it is missing,
 # or its sources have changed.
 set -eu
 top=$(dirname "$(readlink -f "$0")")/..
+. "$top/diff/needs.sh"
 . "$top/diff/built.sh"
+needs sqlite3 python3
+needs_kit
 built office_file draw 1 1
 folder=$(mktemp -d)
 trap 'rm -rf "$folder"' EXIT

@@ -5,6 +5,9 @@
 # be over a minute after the last command. Needs curl, python3, and the kit for the first look, which takes some minutes.
 set -eu
 top=$(dirname "$(readlink -f "$0")")/..
+. "$top/diff/needs.sh"
+needs curl python3
+needs_kit
 room=$(mktemp -d)
 trap 'rm -rf "$room"' EXIT
 "$top/depot" check "$top/examples/bag-a.bagset" >/dev/null

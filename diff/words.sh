@@ -4,6 +4,8 @@
 # of its sentence. Want of memory has a row in docs/POLICY.md alone, and is left out.
 set -eu
 top=$(dirname "$(readlink -f "$0")")/..
+. "$top/diff/needs.sh"
+needs python3
 python3 - "$top" <<'SCRIPT'
 import re
 import sys
