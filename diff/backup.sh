@@ -6,9 +6,11 @@
 # backup that is put beside a later log. Needs curl.
 # Words: the program, `depot` of the repository if left out.
 set -eu
-top=$(dirname "$(readlink -f "$0")")/..
+top=$(readlink -f "$(dirname "$(readlink -f "$0")")/..")
+. "$top/diff/needs.sh"
 . "$top/diff/waits.sh"
 . "$top/diff/pages.sh"
+needs curl
 program=$(readlink -f "${1:-$top/depot}")
 bag=$top/examples/bag-a.bagset
 day=2024-03-02
@@ -55,6 +57,7 @@ begin() {
     mkdir "$room/copy"
     cd "$room"
     ln -s "$program" depot
+    ln -s "$top/examples" examples
     ./depot policy office.db "$top/examples/policy.toml" >said
     printf 'PUT /collections/maps HTTP/1.1\r\nDepot-Caller: anna\r\n\r\n' | ./depot ask office.db "$day" >said
     printf 'PUT /classes/y1 HTTP/1.1\r\nDepot-Caller: anna\r\nContent-Length: 11\r\n\r\n{"years":1}' | ./depot ask office.db "$day" >said
@@ -111,12 +114,23 @@ compare "the page's look into it" '{"deposits":[1,2,3]}' "$(follow "$section" 2 
 serve 1000000
 deposit 4
 deposit 5
-follow "$section" 3
+follow "$section" 3 >said
 has_three "the office that the page restores" office.db
 serve 1000000
 deposit 4
 kill_office
 compare "it goes on, and is killed" '{"deposits":[1,2,3,4]}; 0' "$(deposits_of office.db)"
+
+# The page's restore moves what was there away, also where there is no log, and where there is no office.
+for there in "office.db office.db-wal" office.db ""; do
+    rm -rf replaced-*
+    if [ -z "$there" ]; then rm -f office.db*; elif [ "$there" = office.db ]; then rm -f office.db-wal; fi
+    follow "$section" 3 >said
+    has_three "the page's restore of '$there'" office.db
+    compare "what was there" "$there" "$(find replaced-* -type f -printf '%f\n' 2>/dev/null | sort | paste -sd' ')"
+    serve 1000000
+    kill_office
+done
 
 # An office that runs, or has ended already.
 begin 1000000

@@ -6,8 +6,10 @@
 # Words: the program, that of the variable DEPOT or `depot` if left out.
 set -eu
 top=$(readlink -f "$(dirname "$(readlink -f "$0")")/..")
+. "$top/diff/needs.sh"
 . "$top/diff/waits.sh"
 . "$top/diff/pages.sh"
+needs curl
 program=$(readlink -f "${1:-${DEPOT:-$top/depot}}")
 bag=$top/examples/bag-a.bagset
 day=2024-03-02

@@ -6,7 +6,9 @@
 # Words: the program, that of the variable DEPOT or `depot` if left out.
 set -eu
 top=$(readlink -f "$(dirname "$(readlink -f "$0")")/..")
+. "$top/diff/needs.sh"
 . "$top/diff/pages.sh"
+needs python3
 program=$(readlink -f "${1:-${DEPOT:-$top/depot}}")
 section="A new version of the program"
 room=$(mktemp -d)
@@ -30,6 +32,7 @@ version() {
 }
 
 ln -s "$program" depot.new
+ln -s "$top/examples" examples
 cp "$program" depot
 python3 -c 'import sys; sys.path.insert(0, sys.argv[1]); import upgrade; upgrade.make("office.db", 4, 200, 60, 20)' "$top/diff"
 kept=$(python3 -c 'import sqlite3; print(sqlite3.connect("office.db").execute("SELECT count(*) FROM deposit WHERE gone IS NULL").fetchone()[0])')
@@ -41,8 +44,9 @@ compare "the answer of the new program" '{"deposits":[' "$(tail -n 1 said | head
 compare "its deposits" "$kept" "$(grep -o '"deposit":[0-9]*' said | wc -l)"
 compare "its tables" 5 "$(version)"
 cmp depot depot.old
-follow "$section" 2
+follow "$section" 2 >said
 cmp office.db backup/2024-03-02.db
 compare "the tables after the way back" 4 "$(version)"
-[ -x depot ] && [ ! -e depot.old ] && [ -e depot.new ] && [ -e upgraded/office.db ]
+replaced=(replaced-*/office.db)
+[ -x depot ] && [ ! -e depot.old ] && [ -e depot.new ] && [ -e "${replaced[0]}" ]
 echo "upgrading: $cases cases: to the new program and back, by the commands of docs/OPERATING.md, word for word"
