@@ -198,4 +198,5 @@ def main():
           f"the same bytes; {odd} folders refused for an entry")
 
 
-main()
+if __name__ == "__main__":
+    main()

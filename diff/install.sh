@@ -1,10 +1,12 @@
 #!/usr/bin/env bash
-# Installs the program by `./depot install DIR`: the program, its man page and its completions stand under DIR, and nothing
-# else. There the program runs in a tree that has nothing but what `ldd` names, `man` shows the page, and bash loads the
-# completions. A tiny tree stands for the repository, with an `rt` of this script's own that hands out the program.
+# Installs the program by `./depot install DIR`: the program, its man page, its completions and the records room stand under
+# DIR, and nothing else. There the program runs in a tree that has nothing but what `ldd` names, `man` shows the page, and bash
+# loads the completions. A tiny tree stands for the repository, with an `rt` of this script's own that hands out the program.
 # Needs man, and root or a user namespace for the tree. Words: the program, that of the variable DEPOT or `depot` if left out.
 set -eu
 top=$(readlink -f "$(dirname "$(readlink -f "$0")")/..")
+. "$top/diff/needs.sh"
+needs man=man-db
 [ $# -gt 0 ] || [ -n "${DEPOT-}" ] || "$top/depot" check "$top/examples/bag-a.bagset" >/dev/null
 program=$(readlink -f "${1:-${DEPOT:-$top/crates/depot/out/depot-program}}")
 room=$(mktemp -d)
@@ -23,7 +25,7 @@ compare() {
 # The repository, as far as the script needs it, and a kit.
 mkdir -p "$room"/tree/crates/depot/src "$room"/kit/bin
 cp "$top/depot" "$room/tree/"
-cp -r "$top/docs" "$top/examples" "$room/tree/"
+cp -r "$top/docs" "$top/examples" "$top/room" "$room/tree/"
 echo 'depot:' >"$room/tree/crates.txt"
 echo '//' >"$room/tree/crates/depot/src/main.rt"
 echo 'kit' >"$room/kit/KIT-ID"
@@ -40,9 +42,10 @@ for words in 'install' 'install a b'; do
 done
 [ ! -e crates/depot/out ] || { echo "wrong words began a build" >&2; exit 1; }
 mkdir "$room/root"
+page=$(cd "$top/room" && LC_ALL=C find . -type f -not -name README.md -printf '644 share/depot/room/%P\n' | LC_ALL=C sort | paste -sd' ')
 for _ in once again; do
     ./depot install "$room/root/usr/local" 2>../told
-    compare "what stands under DIR" "644 share/bash-completion/completions/depot 644 share/man/man1/depot.1 755 bin/depot" \
+    compare "what stands under DIR" "644 share/bash-completion/completions/depot $page 644 share/man/man1/depot.1 755 bin/depot" \
         "$(cd "$room/root/usr/local" && find . -type f -printf '%m %P\n' | LC_ALL=C sort | paste -sd' ')"
 done
 cmp "$program" "$room/root/usr/local/bin/depot"
