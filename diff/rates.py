@@ -22,8 +22,8 @@ DAY = "2024-03-02"
 SECONDS = 5
 MOST = 1_000_000
 # What docs/OPERATING.md says under "Limits" of how long a million connections last, in its words, and in minutes.
-ASKED = "three minutes if one client asks for records or due lists without a pause", 3
-DEPOSITED = "half an hour if each deposits 10 KiB and the disk is fast", 30
+ASKED = "a minute if one client asks for records or due lists without a pause", 1
+DEPOSITED = "a quarter of an hour if each deposits 10 KiB and the disk is fast", 15
 
 
 def fail(text):
