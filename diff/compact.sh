@@ -417,6 +417,7 @@ compare "the hold that it took" "$number Case 8" \
 
 # ---- its unit
 
+# shellcheck disable=SC2034 # boots.sh uses it
 machine=
 boot "$(dirname "$program")" "$room"
 units=$top/examples/systemd

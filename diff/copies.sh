@@ -19,6 +19,7 @@ units=$top/examples/systemd
 bag=$top/examples/bag-a.bagset
 day=2024-03-02
 room=$(mktemp -d)
+# shellcheck disable=SC2034 # boots.sh uses it
 machine=
 trap 'kill -CONT $(jobs -p) 2>/dev/null || true; kill $(jobs -p) 2>/dev/null || true; halt; cd /; rm -rf "$room"' EXIT
 cases=0

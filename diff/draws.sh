@@ -43,6 +43,7 @@ add() {
     done
 }
 
+# shellcheck disable=SC2154 # built.sh sets `program`
 for seed in $(seq "$first" "$last"); do
     said=$("$program" draw 100 "$seed" 2>&1) || { echo "seed $seed: $said" >&2; exit 1; }
     again=$("$program" draw 100 "$seed" "$folder/$seed.db" 2>&1) || { echo "seed $seed over a file: $again" >&2; exit 1; }
