@@ -3,14 +3,15 @@
 # word: starts, requests, midnights, stops, restores, audits, failures, a full disk, another policy, another program, and days
 # that are refused. Looks after each at the states of the units, the backups and the journal. Where a line of a unit is
 # the cure, it is also taken out, and the trial is seen to fail.
-# What gives other days is a stand-in for `date` on the unit's PATH. There is no proxy. Needs root, systemd-container, curl
-# and sqlite3. Words: the program, that of the variable DEPOT or `depot` of the repository if left out.
+# What gives other days is a stand-in for `date` on the unit's PATH. There is no proxy. Needs root, systemd-container, curl,
+# sqlite3 and rsync. Words: the program, that of the variable DEPOT or `depot` of the repository if left out.
+# shellcheck disable=SC2016 # what is in single quotes is for the machine
 set -eu
 top=$(readlink -f "$(dirname "$(readlink -f "$0")")/..")
 . "$top/diff/needs.sh"
 . "$top/diff/boots.sh"
 . "$top/diff/pages.sh"
-needs curl sqlite3 runuser=util-linux sha256sum=coreutils
+needs curl sqlite3 rsync runuser=util-linux sha256sum=coreutils
 [ $# -gt 0 ] || [ -n "${DEPOT-}" ] || "$top/depot" check "$top/examples/bag-a.bagset" >/dev/null
 program=$(readlink -f "${1:-${DEPOT:-$top/crates/depot/out/depot-program}}")
 cases=0
@@ -130,7 +131,7 @@ take_out() {
     inside "rm /etc/systemd/system/$1.d/$2.conf; systemctl daemon-reload"
 }
 
-boot "$(dirname "$program")"
+boot "$program"
 within mkdir /root/depot
 within cp -r "$top/examples" /root/depot/
 within install "$program" /usr/local/bin/depot

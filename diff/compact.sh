@@ -419,7 +419,7 @@ compare "the hold that it took" "$number Case 8" \
 
 # shellcheck disable=SC2034 # boots.sh uses it
 machine=
-boot "$(dirname "$program")" "$room"
+boot "$program" "$room"
 units=$top/examples/systemd
 within bash -eu <<END
 useradd --system --home-dir /var/lib/depot depot

@@ -38,7 +38,8 @@ add() {
         if [[ $word =~ ^[0-9]+$ ]]; then
             number=$word
         elif [ -n "${sums[$word]-}" ]; then
-            sums[$word]=$((${sums[$word]} + number))
+            # shellcheck disable=SC2004 # a word is the key
+            sums[$word]=$((sums[$word] + number))
         fi
     done
 }
@@ -58,7 +59,7 @@ for seed in $(seq "$first" "$last"); do
         rm -f "$half"*
         "$program" draw "$count" "$seed" "$half" >/dev/null
         read -r version placed released kept < <("$top/diff/older.py" "$half")
-        [ $((seed % 2)) -eq 0 ] && [ "$version" -ne 3 ] || break
+        if [ $((seed % 2)) -ne 0 ] || [ "$version" -eq 3 ]; then break; fi
     done
     said=$("$program" draw-on "$count" "$seed" "$half" 2>&1) ||
         { echo "seed $seed, upgraded from version $version: $said" >&2; exit 1; }

@@ -83,6 +83,7 @@ page() {
                 came="$(tail -n 1 <<<"$came") $(tail -n 1 <<<"$body")${allow:+, and Allow: $allow}"
             fi
             if [ "$section" = 'What the desk refuses' ]; then
+                # shellcheck disable=SC2001 # a pattern with a part that stays
                 came=$(sed 's/{"error":"\([A-Za-z]*\)"}/\1/' <<<"$came")
             fi
             if [[ $request == *back.bagset* ]] && cmp -s back.bagset examples/bag-a.bagset; then

@@ -339,6 +339,14 @@ LOGS=../logs calls backup office.db ../backup
 compare "logs once they are turned" "0 two one" "$status $(cat ../backup/logs/access.log) $(cat ../backup/logs/access.log.1)"
 LOGS=../none calls backup office.db ../backup
 compare "no logs" "1 ../backup/*.db *../none*" "$status $said $(echo "$told" | paste -sd' ')"
+# A machine without rsync: the backup is made, and what is missing is named.
+mkdir ../tools
+for tool in bash env flock date mkdir rm cp sync mv sleep; do
+    ln -s "$(command -v "$tool")" ../tools
+done
+status=0
+said=$(LOGS=../logs PATH=$(readlink -f ../tools) "$units/backup" office.db ../backup 2>"$folder/told") || status=$?
+compare "no rsync" "1 ../backup/*.db backup: LOGS needs rsync" "$status $said $(cat "$folder/told")"
 prepare() {
     rm -rf ../backup ./*
     cp "$folder"/before/* .
@@ -477,6 +485,7 @@ if [ "$(id -u)" -eq 0 ]; then
     rm -rf "$open"
 fi
 # Control: the file before its log is what counts. The other way round, a kill leaves an older office under the name.
+# shellcheck disable=SC2016 # the names are the script's
 sed 's/^files=.*/files=("$name-wal" "$name")/' "$units/restore" >"$folder/control"
 chmod 755 "$folder/control"
 prepare
