@@ -86,7 +86,9 @@ function tagFiles(payload, about, sums = []) {
 }
 const sorted = files => files.sort((a, b) => compare(a.bytes, b.bytes));
 const SYSTEM = /(^|\/)(\.DS_Store|\._[^/]*|Thumbs\.db|desktop\.ini)$/i;
-// What [{path, blob}] of a folder would be as a bag, before anything is read; `fault` is [key of its text, values].
+// What is thrown of a folder that can't be deposited: the key of its text, and what that needs.
+export const unfit = (key, path, more) => ({ unfit: key, path, ...more });
+// What [{path, blob}] of a folder would be as a bag, before anything is read.
 export function measured(entries) {
   const isBag = entries.some(e => e.path === "bagit.txt");
   const system = entries.filter(e => SYSTEM.test(e.path)).map(e => e.path);
@@ -97,15 +99,17 @@ export function measured(entries) {
   const longest = { day: "2000-01-01", accession: "x".repeat(64), description: "\u4e00".repeat(1000) };
   const tags = isBag ? null : tagFiles(files, longest), all = isBag ? files : [...files, ...tags.tags, tags.list()];
   const bad = files.find(f => !goodPath(f.path)), two = clash(all.map(f => f.path)), size = formSize(all);
-  const fault = !files.length ? ["limitEmpty", {}] : bad ? ["limitPath", { path: bad.path }] :
-    two ? ["limitClash", { path: two }] : all.length > MOST_FILES ? ["limitCount", { n: all.length }] :
-      size > MOST_BYTES ? ["limitSize", { size }] : null;
-  return { isBag, files, system, size, count: all.length, fault };
+  if (!files.length) throw unfit("limitEmpty");
+  if (bad) throw unfit("limitPath", bad.path);
+  if (two) throw unfit("limitClash", two);
+  if (all.length > MOST_FILES) throw unfit("limitCount", "", { n: all.length });
+  if (size > MOST_BYTES) throw unfit("limitSize", "", { size });
+  return { isBag, files, system, size, count: all.length };
 }
 // A file that was changed since it was chosen can't be read, or has other bytes.
 export async function read(f) {
   const content = await f.blob.arrayBuffer().then(b => new Uint8Array(b), () => null);
-  if (content?.length !== f.size || (f.content && compare(f.content, content) !== 0)) throw { changed: f.path };
+  if (content?.length !== f.size || (f.content && compare(f.content, content) !== 0)) throw unfit("changed", f.path);
   return content;
 }
 export async function bagOf(files, sums, about) {
@@ -114,10 +118,10 @@ export async function bagOf(files, sums, about) {
 }
 
 // ---- What was chosen or dropped, as [{path, blob}] with paths from the folder on
-// Of a chosen folder Chromium makes a / of each \ in a name, and leaves out links and names that aren't Unicode. Of a
-// dropped one it gives the latter, without a name.
+// Of a chosen folder Chromium makes a / of each \ in a name, and leaves out links, some real files where a link leads
+// to their folder, and names that aren't Unicode. Of a dropped one it gives these names, but empty.
 export const chosen = list => Array.from(list, f => {
-  if (!f.webkitRelativePath.endsWith("/" + f.name)) throw { renamed: f.name };
+  if (!f.webkitRelativePath.endsWith("/" + f.name)) throw unfit("renamed", f.name);
   return { path: f.webkitRelativePath.split("/").slice(1).join("/"), blob: f };
 });
 export async function dropped(folder) {
@@ -128,10 +132,10 @@ export async function dropped(folder) {
       const some = await new Promise((good, bad) => reader.readEntries(good, bad));
       if (!some.length) break;
       for (const e of some) {
-        if (!e.name) throw { unnamed: e.fullPath };
+        if (!e.name) throw unfit("unnamed", e.fullPath);
         if (e.isDirectory) rest.push(e);
         else found.push({ path: e.fullPath.slice(folder.fullPath.length + 1),
-          blob: await new Promise((good, bad) => e.file(good, () => bad({ changed: e.fullPath }))) });
+          blob: await new Promise((good, bad) => e.file(good, () => bad(unfit("changed", e.fullPath)))) });
       }
       if (found.length > 20000) return found;          // far more than a bag takes: don't list a whole disk
     }

@@ -8,10 +8,10 @@ const manifestName = path => /^(tag)?manifest-([^/]+)\.txt$/.exec(path);        
 // A name as a fault prints it.
 const printed = path => Array.from(utf8(path), byte => byte < 33 || byte > 126 || byte === 37 ?
   "%" + byte.toString(16).toUpperCase().padStart(2, "0") : String.fromCharCode(byte)).join("");
+const flaw = text => text === null ? 1 : text.startsWith("\ufeff") ? 2 : 0;    // the first rules of any tag file
 function declaration(content) {
   const text = decoded(content);
-  if (text === null) return { fault: "V1" };
-  if (text.startsWith("\ufeff")) return { fault: "V2" };
+  if (flaw(text)) return { fault: "V" + flaw(text) };
   const both = lines(text);
   if (both.length !== 2) return { fault: "V3" };
   const version = /^BagIt-Version:[ \t]*(\d+\.\d+)[ \t]*$/.exec(both[0])?.[1];
@@ -24,8 +24,7 @@ function declaration(content) {
 // {sums}, from a path to its checksum, or {fault}.
 function readManifest(content, version, digits) {
   const text = decoded(content), sums = new Map();
-  if (text === null) return { fault: "L1" };
-  if (text.startsWith("\ufeff")) return { fault: "L2" };
+  if (flaw(text)) return { fault: "L" + flaw(text) };
   const coded = version === "1.0" ? /%(0[AaDd]|25)/g : /%(0[AaDd])/g;
   for (const [i, line] of lines(text).entries()) {
     if (isBlank(line)) continue;
@@ -42,8 +41,7 @@ function readManifest(content, version, digits) {
 // {oxums}, the values of Payload-Oxum in bag-info.txt, or {fault}.
 function readInfo(content) {
   const text = decoded(content), pairs = [];
-  if (text === null) return { fault: "I1" };
-  if (text.startsWith("\ufeff")) return { fault: "I2" };
+  if (flaw(text)) return { fault: "I" + flaw(text) };
   for (const [i, line] of lines(text).entries()) {
     if (isBlank(line)) continue;
     const colon = line.indexOf(":"), rest = line.slice(colon + 1).replace(/^[ \t]+/, "");

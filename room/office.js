@@ -1,6 +1,6 @@
 // The routes of docs/HTTP.md, and what a refusal means in words. The office decides; this only asks.
 import words from "./words.js";
-import { h, t, filled, shown, announce, alarm } from "./dom.js";
+import { h, p, note, t, filled, shown, alarm, asking, noticed, notify, unanswered } from "./dom.js";
 
 export const office = { day: "", caller: "" };
 export const caller = () => office.caller || t("unknownCaller");
@@ -29,7 +29,7 @@ const ask = (method, address, body) =>
 const MOST_TRIES = 20, MOST_LOOKS = 60;
 let last = Promise.resolve();
 function send(method, path, body, read = answer => answer.json(), progress = null) {
-  const mine = last.then(async () => {
+  const mine = last.then(() => noticed(async () => {
     for (let tries = 1; ; tries++) {
       try {
         const answer = await (progress ? upload : ask)(method, BASE + path, body, progress);
@@ -38,11 +38,11 @@ function send(method, path, body, read = answer => answer.json(), progress = nul
         const retry = Math.min(Number(answer.headers.get("Retry-After")) || 2, 30);
         if (answer.status !== 429 || tries === MOST_TRIES)
           throw new Refusal(answer.status, { ...await answer.json().catch(() => ({ error: "Proxy" })), retry });
-        announce(t("waiting"));
+        notify("waiting");
         await pause(retry);
       } catch (e) { throw e instanceof Refusal ? e : new Refusal(0, { error: "Offline" }); }
     }
-  });
+  }));
   last = mine.catch(() => {});
   return mine;
 }
@@ -63,9 +63,11 @@ export const dispose = n => json("DELETE", `deposits/${n}`);
 export const defineClass = (name, years) => json("PUT", `classes/${name}`, { years });
 export const defineCollection = name => json("PUT", `collections/${name}`);
 export const due = async () => { const answer = await json("GET", "due"); office.day = answer.day; return answer; };
+// The day, if it is still the office's.
+export const stillOn = day => due().then(answer => answer.day === day && day, () => false);
 export const deposit = async (about, form, progress) =>
   (await send("POST", "deposits?" + query(about), new Blob([form]), answer => answer.json(), progress)).deposit;
-// Would the office take a deposit? An empty body is judged last, as S3: any other refusal comes before it.
+// Would the office take a deposit? An empty body is refused as S3 after all else is right. Only E10, Full, comes later.
 export async function wouldTake(about) {
   try { await json("POST", "deposits?" + query(about)); } catch (e) { if (e.body?.fault !== "S3") throw e; }
 }
@@ -110,11 +112,14 @@ export function faultWords(fault) {
   if (parts[0] === "B2" || parts[0] === "B13") parts = parts.slice(1);
   const [code, a = "", b = ""] = parts, key = Object.hasOwn(words.fault, code) ? code : "other";
   const values = { name: shown(decode(name || a)), path: shown(decode(b)), line: shown(a), offset: shown(a) };
-  return words.fault[key].map(text => filled(text, values));
+  return (words.fault[key] ?? [code, ""]).map(text => filled(text, values));
 }
-const said = (what, todo, code) => [h("p", {}, what), h("p", {}, h("strong", {}, t("todo")), " ", todo),
-  h("p", { class: "help" }, t("code"), " ", shown(code, "code"))];
-export const faultSaid = fault => said(...faultWords(fault), fault);
+const said = (what, todo, code) => [p(what), p(h("strong", {}, t("todo")), " ", todo),
+  note("help", t("code"), " ", shown(code, "code"))];
+export function faultSaid(fault, advice = cure => cure) {
+  const [what, cure] = faultWords(fault);
+  return said(what, advice(cure), fault);
+}
 export function refusalWords(e) {
   if (!(e instanceof Refusal)) throw e;
   const { error, ...rest } = e.body;
@@ -123,12 +128,14 @@ export function refusalWords(e) {
   const values = { today: office.day };
   for (const [name, value] of Object.entries(rest)) values[name] = shown(value);
   if (rest.deposit) values.deposit = h("a", { href: "#/deposit/" + Number(rest.deposit) }, shown(rest.deposit));
-  const [what, todo] = words.refusal[key], [fault, cure] = rest.fault ? faultWords(rest.fault) : [];
+  const [what, todo] = words.refusal[key] ?? [error, ""], [fault, cure] = rest.fault ? faultWords(rest.fault) : [];
   return said([h("strong", {}, t("refused")), ": ", filled(what, values), fault && [" ", fault]],
     [filled(todo, values), cure && [" ", cure]], [e.status, error, rest.fault].filter(Boolean).join(" "));
 }
 export const refuse = (where, e) => alarm(where, refusalWords(e));
-// Does what may be refused, and says a refusal in its place. Whether it was done.
+// Does what may be refused, and says in its place that the office is asked, and a refusal. Whether it was done.
 export async function tried(where, action) {
-  try { await action(); return true; } catch (e) { refuse(where, e); return false; }
+  const wait = asking(where);
+  try { await action(); return true; } catch (e) { refuse(where, e); return false; } finally { wait.remove(); }
 }
+export const change = (where, action) => unanswered(() => tried(where, action));
