@@ -9,7 +9,7 @@ import subprocess
 import time
 
 import bags
-from room_stand import TOP, check, say
+from room_stand import ROOM, TOP, asked, check, lacking, say
 from room_work import BAG, DECLARED, ENTER, ESCAPE, folder
 
 TAB, SHIFT = "\ue004", "\ue008"
@@ -62,7 +62,7 @@ def seed(stand):
 
 
 def all_words():
-    code = f"import words from '{TOP}/room/words.js'; console.log(JSON.stringify(words))"
+    code = f"import words from '{ROOM}/words.js'; console.log(JSON.stringify(words))"
     return json.loads(
         subprocess.run(["node", "--input-type=module", "-e", code], capture_output=True, text=True, check=True).stdout
     )
@@ -83,11 +83,10 @@ def documented():
 
 
 def words(said):
-    """Each code of the documents has its sentences, each sentence a code, and each text is used."""
+    """Each code of the documents has its sentences, and each sentence a code; and each text that is asked for is there."""
     faults, refusals = documented()
     drift = faults ^ (set(said["fault"]) - {"other"})
     check(len(faults) >= 42 and not drift, f"the page has exactly the {len(faults)} faults of BAGS.md {sorted(drift)}")
-    # (The names that the other issue's proxies give are in their files.)
     drift = refusals ^ ({key.split(" ")[0] for key in said["refusal"]} - OWN)
     check(
         len(refusals) > 30 and not drift, f"and exactly the {len(refusals)} refusals of HTTP.md and of both proxies {sorted(drift)}"
@@ -99,20 +98,30 @@ def words(said):
         if len(it) != 2 or not all(it) or not it[1].endswith(".")
     ]
     check(not poor, f"each says what it is, and what to do {poor}")
-    code = "".join(it.read_text() for it in (TOP / "room").glob("*.js") if it.name != "words.js")
-    unused = [key for key in said if not re.search(rf'"{key}"|\bwords\.{key}\b', code)]
-    check(not unused, f"each of the {len(said)} texts is used {unused}")
-    long = [
-        (it.name, i + 1) for it in (TOP / "room").glob("*.[chjs]*") for i, line in enumerate(it.read_text().splitlines()) if len(line) > 120
-    ]
-    lines = sum(len(it.read_text().splitlines()) for it in (TOP / "room").glob("*.[chjs]*"))
+    code = "".join(it.read_text() for it in ROOM.glob("*.js") if it.name != "words.js")
+    named = set(re.findall(r"\bwords\.(?!js\b)(\w+)", code))
+    for words_ in re.findall(r"\b(?:t|nodes|field|button|notify|tick)\(([^(){}]*)", code):
+        named |= set(re.findall(r'(?:^|\? |: )"(\w+)"', words_))
+    check(len(named) > 100 and not named - set(said), f"each of {len(named)} texts asked for by name is there {named - set(said)}")
+
+
+def texts_asked_for(parts, all_parts):
+    """Of all parts: each text that a page asked for by name is in words.js, and each text there was asked for."""
+    check(not lacking, f"no page asked for a text that isn't there {sorted(lacking)}")
+    unasked = sorted(set(all_words()) - asked)
+    if set(parts) == set(all_parts):
+        check(not unasked, f"each of {len(asked)} texts was asked for by name {unasked}")
+    else:
+        say(f"not asked for by these parts: {', '.join(unasked)}")
+
+
+def page_itself():
+    """Its length, and that it is all here."""
+    files = {it.name: it.read_text() for it in ROOM.glob("*.[chjs]*")}
+    long = [(name, i + 1) for name, text in files.items() for i, line in enumerate(text.splitlines()) if len(line) > 120]
+    lines = sum(len(text.splitlines()) for text in files.values())
     check(lines <= 1500 and not long, f"the page has {lines} lines, of at most 120 columns {long[:3]}")
-    outside = [
-        it
-        for it in re.findall(
-            r"https?://[\w./-]+", code + (TOP / "room/index.html").read_text() + (TOP / "room/room.css").read_text()
-        )
-    ]
+    outside = [it for name, text in files.items() if name not in ("words.js", "icon.svg") for it in re.findall(r"https?://[\w./-]+", text)]
     check(not outside, f"and names no other origin {outside}")
 
 
@@ -130,7 +139,36 @@ def refusals_in_words(page, said):
         "B17 %ZZ <b>",
         *(f"{key} a b" for key in said["fault"]),
     ]
-    shown = page.driver.execute_async_script(
+    shown = shown_by_page(page, list(said["refusal"]), faults)
+    holes = [it for it in shown.values() if "{" in it or "undefined" in it or "null" in it or "What to do:" not in it]
+    check(
+        len(shown) == len(said["refusal"]) + len(set(faults)) and not holes,
+        f"{len(shown)} refusals are shown without a hole {holes[:2]}",
+    )
+    wrong = [(key, shown[key]) for key, part in SAID.items() if part not in shown[key]]
+    check(not wrong, f"each has its rule, its matter, its day, its number and its names {wrong[:2]}")
+
+
+# What some refusals say.
+SAID = {
+    "Denied": "Rule 6",
+    "Held matter": "Hold 5 forbids it: “Case <7>”",
+    "NotDue": "2025-01-01",
+    "Gone": "2024-03-01",
+    "Taken": "Deposit 4",
+    "ClosedAhead": "2024-03-01",
+    "Closed": "in 7 seconds",
+    "Other": "doesn't know",
+    "B17 manifest-sha256.txt data/a%20b%C3%A9": "data/a b\u00e9 was changed",
+    "B6 manifest-sha256.txt L3 5": "Line 5 of manifest-sha256.txt",
+    "S2 17": "byte 17",
+    "B99 x y": "doesn't know",
+    "B17 %ZZ <b>": "<b> was changed",
+}
+
+
+def shown_by_page(page, keys, faults):
+    return page.driver.execute_async_script(
         """const [keys, faults, done] = arguments;
         import(new URL('office.js', location.origin + location.pathname).href).then(o => {
           const out = {}, box = document.createElement('div');
@@ -142,34 +180,8 @@ def refusals_in_words(page, said):
             out[key] = say(new o.Refusal(409, body)) }
           for (const fault of faults) out[fault] = say(new o.Refusal(422, { error: 'BadBag', fault }));
           box.remove(); done(out) })""",
-        list(said["refusal"]),
+        keys,
         faults,
-    )
-    holes = [it for it in shown.values() if "{" in it or "undefined" in it or "null" in it or "What to do:" not in it]
-    check(
-        len(shown) == len(said["refusal"]) + len(set(faults)) and not holes,
-        f"{len(shown)} refusals are shown without a hole {holes[:2]}",
-    )
-    for key, words_ in (
-        ("Denied", "Rule 6"),
-        ("Held matter", "Hold 5 forbids it: “Case <7>”"),
-        ("NotDue", "2025-01-01"),
-        ("Gone", "2024-03-01"),
-        ("Taken", "Deposit 4"),
-        ("ClosedAhead", "2024-03-01"),
-        ("Closed", "in 7 seconds"),
-        ("Other", "doesn't know"),
-        ("B17 manifest-sha256.txt data/a%20b%C3%A9", "data/a b\u00e9 was changed"),
-        ("B6 manifest-sha256.txt L3 5", "Line 5 of manifest-sha256.txt"),
-        ("S2 17", "byte 17"),
-        ("B99 x y", "doesn't know"),
-        ("B17 %ZZ <b>", "<b> was changed"),
-    ):
-        if words_ not in shown[key]:
-            check(False, f"{key} isn't said with {words_!r}: {shown[key]!r}")
-    check(
-        "Rule 6" in shown["Denied"] and "Case <7>" in shown["Held matter"] and "2025-01-01" in shown["NotDue"],
-        "a denial says which rule, a hold which matter, a day which day",
     )
 
 
@@ -212,6 +224,51 @@ NAMED = (
 )
 
 
+# The papers and the dialogs: each brings the page there. (The word makes accessions of their own.)
+
+
+def receipt(page, word):
+    page.deposit(folder(page.stand, "small", {"x.txt": b"x"}), "R-" + word, "y0")
+    page.wait(lambda: page.text("h1") == page.mark("Receipt"))
+
+
+def certificate(page, word):
+    about = f"collection=maps&class=y0&accession=C-{word}&closed=2024-01-01"
+    number = page.stand.json("POST", "/deposits?" + about, form({"letter.txt": b"x"}))["deposit"]
+    page.go(f"deposit/{number}", f"Deposit {number}")
+    page.destroy("C-" + word)
+    page.wait(lambda: page.text("h1") == page.mark("Certificate of destruction"))
+
+
+def destroying(page, _):
+    page.go("deposit/2", "Deposit 2")
+    page.destroy()
+
+
+def refused(page, _):
+    page.go("deposit/2", "Deposit 2")
+    page.destroy("2024-002")
+    page.wait(lambda: page.all("dialog .refusal"))
+
+
+def releasing(page, _):
+    page.go("deposit/1", "Deposit 1")
+    page.wait(lambda: page.all("#holds table"))
+    page.dialog(page.button("Release hold 2"))
+
+
+def revising(page, _):
+    page.go("names", "Collections and classes")
+    klass, years = page.all("main form")[1].find_elements("css selector", "input:not([type=checkbox])")
+    klass.send_keys("y10")
+    years.send_keys("9")
+    page.dialog(page.all("main form")[1].find_element("css selector", "button"))
+
+
+PAPERS = {"receipt": receipt, "certificate": certificate}
+DIALOGS = {"destroy": destroying, "refused": refused, "release": releasing, "class": revising}
+
+
 def show(page, path, head):
     page.go(path, head)
     time.sleep(0.3)
@@ -226,82 +283,122 @@ def show(page, path, head):
         page.wait(lambda: all(page.all("#seen ." + kind) for kind in ("good", "warn", "refusal")))
 
 
-def looks(page, kind, width=None):
-    """Each page: names of controls, contrast, focus, width, size of controls, order of headings, and a picture."""
-    nameless, low, wide, small, jumps, unseen, odd = [], [], [], [], [], [], []
-    total, least, stops = 0, 99, 0
+def views(page, word):
+    """Each page, paper and dialog in turn, by its name, once it stands."""
     for path, head in PAGES.items():
         show(page, path, head)
-        for it in page.driver.execute_cdp_cmd("Accessibility.getFullAXTree", {})["nodes"]:
-            role = it.get("role", {}).get("value")
-            if not it["ignored"] and role in NAMED and not it.get("name", {}).get("value"):
-                nameless.append((path, role))
-        n, lowest, some = page.run(CONTRAST)
-        total, least, low = total + n, min(least, float(lowest)), low + [(path, *it) for it in some]
-        inner, outer = page.run(
-            "return [document.documentElement.scrollWidth, arguments[0] ?? document.documentElement.clientWidth]", width
-        )
-        wide += [(path, inner, outer)] if inner > outer else []
-        small += [
-            (path, *it)
-            for it in page.run(
-                "return [...document.querySelectorAll('button, input, select, nav a')].filter(e => e.checkVisibility())"
-                ".map(e => [e.textContent || e.id, e.getBoundingClientRect()])"
-                ".filter(([, r]) => r.height < 24 || r.width < 20).map(([t, r]) => [t, r.width, r.height])"
-            )
-        ]
-        levels = page.run("return [...document.querySelectorAll('h1, h2, h3')].map(h => +h.tagName[1])")
-        jumps += [(path, levels)] if levels[0] != 1 or any(b - a > 1 for a, b in zip(levels, levels[1:])) else []
-        # Each control that has the focus by the keyboard shows it, and is on the screen.
-        page.run("document.activeElement.blur(); document.querySelector('h1').focus()")
-        for _ in range(12):
-            page.press(TAB)
-            shown = page.run(
-                "const e = document.activeElement, r = e.getBoundingClientRect(), s = getComputedStyle(e);"
-                "return [e.tagName + ' ' + e.textContent.slice(0, 20), e === document.body || "
-                "(s.outlineStyle !== 'none' && parseFloat(s.outlineWidth) >= 2"
-                " && r.bottom > 0 && r.top < innerHeight)]"
-            )
-            stops += 1
-            unseen += [] if shown[1] else [(path, shown[0])]
-        odd += [(path, it) for it in re.findall(r"\b(?:undefined|null|NaN|false|true|\[object \w+\])\b", page.text("body"))]
-        page.run("scrollTo(0, 0)")
-        page.shot(f"{kind}-{path.replace('/', '-')}", full=bool(width))
-    check(not nameless, f"{kind}: each control, table and region has a name {nameless[:4]}")
-    check(not low, f"{kind}: {total} texts and borders have their contrast, texts at least {least} {low[:4]}")
-    check(not unseen, f"{kind}: the focus is seen at each of {stops} stops {unseen[:4]}")
-    check(not wide, f"{kind}: no page is wider than the window {wide}")
-    check(not small, f"{kind}: no control is lower than 24 px {small[:4]}")
-    check(not jumps, f"{kind}: headings skip no level {jumps}")
-    check(not odd, f"{kind}: no page shows a value of the program's own {odd[:4]}")
+        yield path.replace("/", "-")
+    for name, reach in (PAPERS | DIALOGS).items():
+        reach(page, word)
+        time.sleep(0.3)
+        yield name
+        if name in DIALOGS:
+            page.press(ESCAPE)
+            page.wait(lambda: not page.all("dialog"))
+
+
+def looks(page, kind, width=None):
+    """Each view: names of controls, contrast, focus, width, size of controls, order of headings, and a picture."""
+    found = {kind: [] for kind in ("nameless", "low", "wide", "small", "jumps", "unseen", "odd", "outside")}
+    total, least, stops, seen = 0, 99, 0, 0
+    for view in views(page, kind):
+        n, lowest, low = page.run(CONTRAST)
+        found["low"] += [(view, *it) for it in low]
+        total, least, seen = total + n, min(least, float(lowest)), seen + 1
+        for name, some in (*laid_out(page, width), *structure(page)):
+            found[name] += [(view, it) for it in some]
+        page.shot(f"{kind}-{view}", full=bool(width))
+        some = [focus_shown(page) for _ in range(12)]
+        stops += len(some)
+        found["unseen"] += [(view, it) for it in some if it]
+    nameless = found["nameless"]
+    check(seen == 13 and not nameless, f"{kind}: in {seen} views each control, table and region has a name {nameless[:4]}")
+    check(not found["low"], f"{kind}: {total} texts and borders have their contrast, texts at least {least} {found['low'][:4]}")
+    check(not found["unseen"], f"{kind}: the focus is seen at each of {stops} stops {found['unseen'][:4]}")
+    check(not found["wide"], f"{kind}: no page is wider than the window {found['wide'][:4]}")
+    check(not found["outside"], f"{kind}: each dialog fits the window {found['outside'][:4]}")
+    check(not found["small"], f"{kind}: no control is lower than 24 px {found['small'][:4]}")
+    check(not found["jumps"], f"{kind}: headings skip no level {found['jumps'][:4]}")
+    check(not found["odd"], f"{kind}: no page shows a value of the program's own {found['odd'][:4]}")
+
+
+def laid_out(page, width):
+    """What is wider than the window, a dialog that doesn't fit it, and controls that are too small."""
+    inner, outer = page.run("return [document.documentElement.scrollWidth, arguments[0] ?? document.documentElement.clientWidth]", width)
+    yield "wide", [(inner, outer)] if inner > outer else []
+    yield "outside", page.run(
+        "return [...document.querySelectorAll('dialog')].map(e => [e, e.getBoundingClientRect()])"
+        ".filter(([e, r]) => r.left < 0 || r.right > innerWidth || r.top < 0 || r.bottom > innerHeight || e.scrollWidth > e.clientWidth)"
+        ".map(([e, r]) => [r.left, r.right, r.top, r.bottom, e.scrollWidth])"
+    )
+    yield "small", page.run(
+        "return [...document.querySelectorAll('button, input, select, nav a')].filter(e => e.checkVisibility())"
+        ".map(e => [e.textContent || e.id, e.getBoundingClientRect()])"
+        ".filter(([, r]) => r.height < 24 || r.width < 20).map(([t, r]) => [t, r.width, r.height])"
+    )
+
+
+def structure(page):
+    """Controls and regions without a name in the accessibility tree, headings that skip a level, and values of the program's own."""
+    tree = page.driver.execute_cdp_cmd("Accessibility.getFullAXTree", {})["nodes"]
+    roles = [(it.get("role", {}).get("value"), it.get("name", {}).get("value")) for it in tree if not it["ignored"]]
+    yield "nameless", [role for role, name in roles if role in NAMED and not name]
+    levels = page.run("return [...document.querySelectorAll('h1, h2, h3')].map(h => +h.tagName[1])")
+    yield "jumps", [levels] if levels[0] != 1 or any(b - a > 1 for a, b in zip(levels, levels[1:])) else []
+    yield "odd", re.findall(r"\b(?:undefined|null|NaN|false|true|\[object \w+\])\b", page.text("body"))
+
+
+def focus_shown(page):
+    """One step by Tab: what has the focus and doesn't show it, or isn't on the screen."""
+    page.press(TAB)
+    return page.run(
+        "const e = document.activeElement, r = e.getBoundingClientRect(), s = getComputedStyle(e);"
+        "return e === document.body || (s.outlineStyle !== 'none' && parseFloat(s.outlineWidth) >= 2"
+        " && r.bottom > 0 && r.top < innerHeight) ? null : e.tagName + ' ' + e.textContent.slice(0, 20)"
+    )
+
+
+def tab_to(page, name, most=90):
+    """Steps by Tab until what has this name has the focus. Gives how many."""
+    for i in range(most):
+        page.press(TAB)
+        it = page.focused()
+        if name in (it.text, it.get_attribute("aria-label"), page.run("return arguments[0].labels?.[0]?.textContent", it)):
+            return i + 1
+    raise AssertionError("no way by Tab to " + name)
 
 
 def keyboard(page, stand):
     """From the top of a page to a placed hold and to a disposal, by keyboard alone."""
-
-    def tab_to(name, most=90):
-        for i in range(most):
-            page.press(TAB)
-            it = page.focused()
-            if name in (it.text, it.get_attribute("aria-label"), page.run("return arguments[0].labels?.[0]?.textContent", it)):
-                return i + 1
-        raise AssertionError("no way by Tab to " + name)
-
     page.go("due", "Due today")
     page.run("document.querySelector('.skip').focus()")
     check(page.one(".skip").is_displayed() and page.one(".skip").size["height"] > 20, "the skip link shows when it has the focus")
     page.shot("skip")
     page.press(ENTER)
     check(page.focused().tag_name == "h1", "and leads to the heading")
-    steps = [tab_to("Review deposit 8")]
+    steps = [tab_to(page, "Review deposit 8")]
     page.press(ENTER)
     page.wait(lambda: page.text("h1") == "Deposit 8")
-    steps.append(tab_to("Matter"))
+    steps.append(tab_to(page, "Matter"))
     page.press("Case of the keys", ENTER)
     check(page.says("is placed", "#told"), f"a hold is placed by keyboard ({steps} steps)")
     page.wait(lambda: page.all("#holds table"))
+    released_by_keys(page)
+    steps = tab_to(page, "Destroy …")
+    page.press(ENTER)
+    page.wait(lambda: page.all("dialog[open]"))
+    steps += tab_to(page, "To confirm, type the accession KEYS")
+    page.press("KEYS", ENTER)
+    page.wait(lambda: page.text("h1") == "Certificate of destruction")
+    check(
+        page.focused().tag_name == "h1",
+        f"a deposit is destroyed by keyboard alone; the certificate's heading has the focus ({steps} steps)",
+    )
+
+
+def released_by_keys(page):
     page.run("document.querySelector('h1').focus()")
-    tab_to("Release hold 3")
+    tab_to(page, "Release hold 3")
     page.press(ENTER)
     page.wait(lambda: page.all("dialog[open]"))
     page.press(TAB)
@@ -313,16 +410,10 @@ def keyboard(page, stand):
     )
     page.run("document.querySelector('dialog .danger').focus()")
     page.press(ENTER)
-    page.says("was released", "#told")
-    steps = tab_to("Destroy …")
-    page.press(ENTER)
-    page.wait(lambda: page.all("dialog[open]"))
-    page.press("KEYS", ENTER)
-    page.wait(lambda: page.text("h1") == "Certificate of destruction")
-    check(
-        page.focused().tag_name == "h1",
-        f"a deposit is destroyed by keyboard alone; the certificate's heading has the focus ({steps} steps)",
-    )
+    page.awaits("was released", "#told")
+
+
+def revised_by_keys(page, stand):
     page.go("names", "Collections and classes")
     klass, years = page.all("main form")[1].find_elements("css selector", "input:not([type=checkbox])")
     klass.send_keys("y10")
@@ -340,6 +431,27 @@ def keyboard(page, stand):
 
 
 # ---- rules for bags
+
+
+SWAPS = (
+    (b"  ", b" *"),
+    (b"  ", b" "),
+    (b"\n", b"\r"),
+    (b"1.0", b"1.1"),
+    (b"0.97", b"1.0"),
+    (b"UTF-8", b"utf-8 "),
+    (b"data/", b"./data/"),
+    (b"data/", b"dat/"),
+    (b"Oxum: ", b"Oxum: 1"),
+    (b"Payload-Oxum", b"PAYLOAD-OXUM"),
+    (b"%25", b"%"),
+    (b"Bagging-Date:", b"Payload-Oxum:"),
+    (b"Bagging-Date:", b" x"),
+    (b"bagit.txt", b"data/a"),
+    (b"manifest-sha256.txt", b"tagmanifest-sha256.txt"),
+    (b"Tag-File", b"\nTag-File"),
+    (b": ", b""),
+)
 
 
 def broken(draw, files):
@@ -365,101 +477,109 @@ def broken(draw, files):
                 draw.sample(lines, len(lines)) + draw.choice([[], [b" more"], [b":x"], [b"nothing"], lines[:1]])
             )
         elif kind == 4:
-            files[path] = content.replace(
-                *draw.choice(
-                    [
-                        (b"  ", b" *"),
-                        (b"  ", b" "),
-                        (b"\n", b"\r"),
-                        (b"1.0", b"1.1"),
-                        (b"0.97", b"1.0"),
-                        (b"UTF-8", b"utf-8 "),
-                        (b"data/", b"./data/"),
-                        (b"data/", b"dat/"),
-                        (b"Oxum: ", b"Oxum: 1"),
-                        (b"Payload-Oxum", b"PAYLOAD-OXUM"),
-                        (b"%25", b"%"),
-                        (b"Bagging-Date:", b"Payload-Oxum:"),
-                        (b"Bagging-Date:", b" x"),
-                        (b"bagit.txt", b"data/a"),
-                        (b"manifest-sha256.txt", b"tagmanifest-sha256.txt"),
-                        (b"Tag-File", b"\nTag-File"),
-                        (b": ", b""),
-                    ]
-                )
-            )
+            files[path] = content.replace(*draw.choice(SWAPS))
         elif content:
             at = draw.randrange(len(content))
             files[path] = content[:at] + bytes([draw.randrange(256)]) * draw.choice([0, 1]) + content[at + draw.choice([0, 1]) :]
     return files
 
 
+# A change of a bag for each fault of bags.
+DIGEST = BAG["manifest-sha256.txt"][:64]
+TAG = hashlib.sha256(DECLARED).hexdigest().encode() + b"  bagit.txt\n"
+LISTED = hashlib.sha256(BAG["manifest-sha256.txt"]).hexdigest().encode() + b"  manifest-sha256.txt\n"
+CHANGES = [
+    {"bagit.txt": None},
+    {"bagit.txt": b"\xff"},
+    {"bagit.txt": b"\xef\xbb\xbf" + DECLARED},
+    {"bagit.txt": DECLARED + b"x"},
+    {"bagit.txt": DECLARED.replace(b"1.0", b"1")},
+    {"bagit.txt": DECLARED.replace(b"1.0", b"1.1")},
+    {"bagit.txt": DECLARED.replace(b" UTF-8", b"")},
+    {"bagit.txt": DECLARED.replace(b"8", b"16")},
+    {"fetch.txt": b""},
+    {"manifest-md5.txt": b""},
+    {"manifest-sha256.txt": None},
+    {"bag-info.txt": b"\xff"},
+    {"bag-info.txt": b"\xef\xbb\xbf"},
+    {"bag-info.txt": b"\nx"},
+    {"bag-info.txt": b" \n:x"},
+    {"bag-info.txt": b"\r\n x"},
+    {"bag-info.txt": b"payload-oxum: 3,1"},
+    {"bag-info.txt": b"Payload-Oxum: 3.1\nPAYLOAD-OXUM: 3.1"},
+    {"bag-info.txt": b"Payload-Oxum: 3.2"},
+    {"bag-info.txt": b"Payload-Oxum: 3\n .1"},
+    {"bag-info.txt": b"Payload-Oxum : 03.1 \t"},
+    {"data/b": b""},
+    {"data/a": b"abd"},
+]
+CHANGES += [
+    {"manifest-sha256.txt": it}
+    for it in (
+        b"\xff",
+        b"\xef\xbb\xbf",
+        b"x",
+        DIGEST,
+        DIGEST + b" ",
+        DIGEST + b"  *data/a",
+        DIGEST + b" data//a",
+        DIGEST + b" ./data/a",
+        BAG["manifest-sha256.txt"] * 2,
+        BAG["manifest-sha256.txt"] + DIGEST + b"  bagit.txt",
+        BAG["manifest-sha256.txt"] + DIGEST + b"\tdata/%0a",
+        b"\r\n \t\r" + BAG["manifest-sha256.txt"].upper().replace(b"DATA/A", b"data/a"),
+        DIGEST + b"  data/%61",
+    )
+]
+CHANGES += [
+    {"tagmanifest-sha256.txt": it}
+    for it in (
+        TAG,
+        TAG + LISTED,
+        TAG + LISTED + DIGEST + b"  data/a",
+        LISTED + DIGEST + b"  tagmanifest-md5.txt",
+        LISTED + DIGEST + b"  tagmanifest-a/b.txt",
+        LISTED + DIGEST + b"  tagmanifest-.txt",
+        b"",
+    )
+]
+
+
 def one_of_each():
-    """A bag for each fault of bags."""
-    digest = BAG["manifest-sha256.txt"][:64]
-    tag = hashlib.sha256(DECLARED).hexdigest().encode() + b"  bagit.txt\n"
-    listed = hashlib.sha256(BAG["manifest-sha256.txt"]).hexdigest().encode() + b"  manifest-sha256.txt\n"
-    changes = [
-        {"bagit.txt": None},
-        {"bagit.txt": b"\xff"},
-        {"bagit.txt": b"\xef\xbb\xbf" + DECLARED},
-        {"bagit.txt": DECLARED + b"x"},
-        {"bagit.txt": DECLARED.replace(b"1.0", b"1")},
-        {"bagit.txt": DECLARED.replace(b"1.0", b"1.1")},
-        {"bagit.txt": DECLARED.replace(b" UTF-8", b"")},
-        {"bagit.txt": DECLARED.replace(b"8", b"16")},
-        {"fetch.txt": b""},
-        {"manifest-md5.txt": b""},
-        {"manifest-sha256.txt": None},
-        {"bag-info.txt": b"\xff"},
-        {"bag-info.txt": b"\xef\xbb\xbf"},
-        {"bag-info.txt": b"\nx"},
-        {"bag-info.txt": b" \n:x"},
-        {"bag-info.txt": b"\r\n x"},
-        {"bag-info.txt": b"payload-oxum: 3,1"},
-        {"bag-info.txt": b"Payload-Oxum: 3.1\nPAYLOAD-OXUM: 3.1"},
-        {"bag-info.txt": b"Payload-Oxum: 3.2"},
-        {"bag-info.txt": b"Payload-Oxum: 3\n .1"},
-        {"bag-info.txt": b"Payload-Oxum : 03.1 \t"},
-        {"data/b": b""},
-        {"data/a": b"abd"},
-    ]
-    changes += [
-        {"manifest-sha256.txt": it}
-        for it in (
-            b"\xff",
-            b"\xef\xbb\xbf",
-            b"x",
-            digest,
-            digest + b" ",
-            digest + b"  *data/a",
-            digest + b" data//a",
-            digest + b" ./data/a",
-            BAG["manifest-sha256.txt"] * 2,
-            BAG["manifest-sha256.txt"] + digest + b"  bagit.txt",
-            BAG["manifest-sha256.txt"] + digest + b"\tdata/%0a",
-            b"\r\n \t\r" + BAG["manifest-sha256.txt"].upper().replace(b"DATA/A", b"data/a"),
-            digest + b"  data/%61",
-        )
-    ]
-    changes += [
-        {"tagmanifest-sha256.txt": it}
-        for it in (
-            tag,
-            tag + listed,
-            tag + listed + digest + b"  data/a",
-            listed + digest + b"  tagmanifest-md5.txt",
-            listed + digest + b"  tagmanifest-a/b.txt",
-            listed + digest + b"  tagmanifest-.txt",
-            b"",
-        )
-    ]
-    whole = [{path: it for path, it in {**BAG, **change}.items() if it is not None} for change in changes]
+    whole = [{path: it for path, it in {**BAG, **change}.items() if it is not None} for change in CHANGES]
     return [bags.form({path.encode(): content for path, content in sorted(it.items())}) for it in whole]
 
 
-def judged(page, stand):
-    """The page's judgment of bags and forms is that of `depot check`: bags whole, bags changed, forms changed."""
+# Forms that are cut short, or that a rule for forms forbids.
+FORMS = [
+    b"",
+    b"BAGSET",
+    b"BAGSET 1\n",
+    b"BAGSET 2\n",
+    b"BAGSET 1\nEND",
+    b"BAGSET 1\nEND\n",
+    b"BAGSET 1\nEND\nx",
+    b"BAGSET 1\nFILE",
+    b"BAGSET 1\nFILE 0",
+    b"BAGSET 1\nFILE 1025",
+    b"BAGSET 1\nFILE 102",
+    b"BAGSET 1\nFILE 01",
+    b"BAGSET 1\nFILE 1 1677721",
+    b"BAGSET 1\nFILE 1 16777217",
+    b"BAGSET 1\nFILE 1 16777216",
+    b"BAGSET 1\nFILE 1 0\na",
+    b"BAGSET 1\nFILE 1 0\na\n",
+    b"BAGSET 1\nFILE 1 0\n/\nEND\n",
+    b"BAGSET 1\nFILE 4 0\ndata\nEND\n",
+    b"BAGSET 1\nFILE 1 0\naxEND\n",
+    b"BAGSET 1\nFILE 1 0\nb\nFILE 1 0\na\nEND\n",
+    b"BAGSET 1\nFILE 1 0\na\nFILE 3 0\na/b\nEND\n",
+    b"BAGSET 1\n" + b"".join(b"FILE 4 0\n%04d\n" % i for i in range(2001)) + b"END\n",
+]
+
+
+def drawn_forms():
+    """Forms of bags that are whole, and of some that were changed; some forms are changed, too."""
     draw, forms = random.Random(54), []
     for number in range(700):
         files, _, _ = bags.drawn_bag(draw)
@@ -473,32 +593,12 @@ def judged(page, stand):
             )
         if len(text) < 60000:
             forms.append(text)
-    forms += [
-        b"",
-        b"BAGSET",
-        b"BAGSET 1\n",
-        b"BAGSET 2\n",
-        b"BAGSET 1\nEND",
-        b"BAGSET 1\nEND\n",
-        b"BAGSET 1\nEND\nx",
-        b"BAGSET 1\nFILE",
-        b"BAGSET 1\nFILE 0",
-        b"BAGSET 1\nFILE 1025",
-        b"BAGSET 1\nFILE 102",
-        b"BAGSET 1\nFILE 01",
-        b"BAGSET 1\nFILE 1 1677721",
-        b"BAGSET 1\nFILE 1 16777217",
-        b"BAGSET 1\nFILE 1 16777216",
-        b"BAGSET 1\nFILE 1 0\na",
-        b"BAGSET 1\nFILE 1 0\na\n",
-        b"BAGSET 1\nFILE 1 0\n/\nEND\n",
-        b"BAGSET 1\nFILE 4 0\ndata\nEND\n",
-        b"BAGSET 1\nFILE 1 0\naxEND\n",
-        b"BAGSET 1\nFILE 1 0\nb\nFILE 1 0\na\nEND\n",
-        b"BAGSET 1\nFILE 1 0\na\nFILE 3 0\na/b\nEND\n",
-        b"BAGSET 1\n" + b"".join(b"FILE 4 0\n%04d\n" % i for i in range(2001)) + b"END\n",
-    ]
-    forms += one_of_each()
+    return forms
+
+
+def judged(page, stand):
+    """The page's judgment of bags and forms is that of `depot check`."""
+    forms = drawn_forms() + FORMS + one_of_each()
     said = page.driver.execute_async_script(
         """const [texts, done] = arguments, at = name => new URL(name, location.origin + location.pathname).href;
         Promise.all([import(at('bags.js')), import(at('judging.js'))]).then(async ([b, j]) => { const out = [];
@@ -534,7 +634,7 @@ def damaged(page):
         Promise.resolve(new Response('{"deposit":2,"fault":"B17 manifest-sha256.txt data/letter%2000.txt","valid":false}')) : real(u, o)"""
     )
     page.button("Audit now").click()
-    page.says("This deposit is damaged", "#told-audit")
+    page.awaits("This deposit is damaged", "#told-audit")
     check(
         "data/letter 00.txt was changed" in page.text("#told-audit") and "Tell the administrator" in page.text("#told-audit"),
         "an audit that finds damage says which file, and what to do",
@@ -543,7 +643,7 @@ def damaged(page):
 
 
 def many(page, stand):
-    """A list of 100,000 deposits, through the proxy; and the largest bag that the page makes."""
+    """A list of 100,000 deposits, through the proxy."""
     rows = [
         {
             "accession": f"A-{i}",
@@ -567,42 +667,40 @@ def many(page, stand):
           }).observe(document.body, {subtree: true, childList: true})"""
     )
     page.go("deposits", "Deposits")
-    page.says("100,000 deposits are listed", "#count")
+    page.awaits("100,000 deposits are listed", "#count")
     took = page.run(
         "const all = performance.getEntriesByName(new URL('many.html', location.origin + location.pathname).href);"
         "return (stood - all[0].responseEnd) / 1000"
     )
     check(took <= 2, f"of 100,000 deposits the first rows stand {took:.2f} s after the answer's last byte")
-
-    def measured(label, kind, values):
-        """The longest of what a change to each value takes until it is painted, each tried three times."""
-        control = page.field(label)
-        return max(
-            min(
-                page.driver.execute_async_script(
-                    """const [control, kind, value, done] = arguments, from = performance.now();
-                    control.value = value; control.dispatchEvent(new Event(kind));
-                    requestAnimationFrame(() => setTimeout(() => done((performance.now() - from) / 1000)))""",
-                    control,
-                    kind,
-                    value,
-                )
-                for _ in range(3)
-            )
-            for value in values
-        )
-
-    took = measured("Accession contains", "input", ("9", "99", "999", "9999", "99999"))
-    check(page.text("#count") == "1 deposit is listed." and took <= 0.3, f"a search takes at most {took:.2f} s a key")
-    measured("Accession contains", "input", [""])
-    took = measured("Sorted by", "change", ("accession", "class", "due", "deposit"))
-    check(took <= 1, f"sorting takes at most {took:.2f} s")
+    searched_and_sorted(page)
     page.run("window.fetch = real")
+
+
+def measured(page, label, kind, values):
+    """The longest of what a change to each value takes until it is painted, each tried three times."""
+    change = """const [control, kind, value, done] = arguments, from = performance.now();
+        control.value = value; control.dispatchEvent(new Event(kind));
+        requestAnimationFrame(() => setTimeout(() => done((performance.now() - from) / 1000)))"""
+    control = page.field(label)
+    return max(min(page.driver.execute_async_script(change, control, kind, it) for _ in range(3)) for it in values)
+
+
+def searched_and_sorted(page):
+    took = measured(page, "Accession contains", "input", ("9", "99", "999", "9999", "99999"))
+    check(page.text("#count") == "1 deposit is listed." and took <= 0.3, f"a search takes at most {took:.2f} s a key")
+    measured(page, "Accession contains", "input", [""])
+    took = measured(page, "Sorted by", "change", ("accession", "class", "due", "deposit"))
+    check(took <= 1, f"sorting takes at most {took:.2f} s")
+
+
+def largest_bag(page, stand):
+    """The largest bag that the page makes, by its modules."""
     most = stand.folder / "work" / "most"
     folder(stand, "most", {f"{i:04}": os.urandom(8180) for i in range(1996)})
     page.go("new", "New deposit")
     page.one("#folder").send_keys(str(most))
-    page.says("plain folder", "#seen")
+    page.awaits("plain folder", "#seen")
     found = page.driver.execute_async_script(
         """const done = arguments[0], at = name => new URL(name, location.origin + location.pathname).href;
         Promise.all([import(at('bags.js')), import(at('judging.js')), import(at('zip.js'))]).then(async ([b, j, z]) => {
@@ -630,45 +728,49 @@ ENGLISH = """const out = [], walk = document.createTreeWalker(document.body, Nod
       if (e.closest('.others, datalist, #day')) continue;
       own.querySelectorAll('.others').forEach(x => x.remove());
       if (/[A-Za-z]{2}/.test(bare(own.textContent))) out.push(own.textContent) }
+    if (/[A-Za-z]{2}/.test(bare(document.title))) out.push(document.title);
     for (const e of document.querySelectorAll('[aria-label], [data-label]'))
       for (const x of [e.ariaLabel, e.dataset.label]) if (x && !x.includes('⟦')) out.push(x);
     return out"""
 
 
-def translated(page, stand, said):
-    def marked(it):
-        if isinstance(it, str):
-            return it if it in ("en", "ltr") else "⟦" + it + "⟧"
-        return {key: marked(value) for key, value in it.items()} if isinstance(it, dict) else [marked(value) for value in it]
+def in_brackets(it):
+    if isinstance(it, str):
+        return it if it in ("en", "ltr") else "⟦" + it + "⟧"
+    return {key: in_brackets(value) for key, value in it.items()} if isinstance(it, dict) else [in_brackets(value) for value in it]
 
+
+def translated(page, stand, said):
     original = (stand.room / "words.js").read_text()
-    other = {key: marked(value) for key, value in said.items()} | {"language": "ar", "direction": "rtl"}
+    other = in_brackets(said) | {"language": "ar", "direction": "rtl"}
     (stand.room / "words.js").write_text("export default " + json.dumps(other, ensure_ascii=False))
     page.driver.execute_cdp_cmd("Network.setCacheDisabled", {"cacheDisabled": True})
     page.driver.get(stand.url + "/room/?other")
     page.wait(lambda: page.text("h1"))
-    english = []
-    for path, head in PAGES.items():
-        page.go(path, f"⟦{head}⟧")
-        time.sleep(0.3)
-        if path == "deposit/2":
-            next(it for it in page.all("main button") if "Show the files" in it.text).click()
-            page.wait(lambda: page.all("#files table"))
-            page.one("#dispose").click()
-            page.wait(lambda: page.all("dialog[open]"))
-            page.one("dialog input").send_keys("2024-002" + ENTER)
-            page.wait(lambda: page.all("dialog .refusal"))
-        english += [(path, it) for it in page.run(ENGLISH)]
-        if path == "deposit/2":
-            page.press(ESCAPE)
-            page.wait(lambda: not page.all("dialog"))
+    page.mark = lambda text: f"⟦{text}⟧"
+    english, left = [], []
+    for view in views(page, "rtl"):
+        english += [(view, it) for it in page.run(ENGLISH)]
+        found = page.run(
+            "const there = document.querySelector('dialog') ?? document.querySelector('main'), all = document.documentElement;"
+            "return [getComputedStyle(there).direction, all.scrollWidth <= innerWidth]"
+        )
+        left += [] if found == ["rtl", True] else [(view, found)]
+        page.shot(f"rtl-{view}")
+        if view == "receipt":
+            page.button("Save as a text file").click()
+            named = page.becomes(lambda: [it.name for it in stand.downloads.iterdir() if "deposited-R-rtl" in it.name])
+            check(named and named[0].startswith("⟦"), f"a saved paper's name is translated, too {named}")
     check(not english, f"in another language no English is left {english[:5]}")
-    page.shot("rtl")
-    check(
-        page.run("return [document.documentElement.dir, document.documentElement.scrollWidth <= innerWidth]") == ["rtl", True],
-        "and it is laid out from right to left",
-    )
+    check(not left, f"and each page, paper and dialog is laid out from right to left {left}")
     (stand.room / "words.js").write_text(original)
+
+
+def by_phone(stand, width):
+    page = stand.chromium("anna", width, 844)
+    page.awaits("deposits are listed")
+    looks(page, f"phone-{width}", width)
+    page.quit()
 
 
 def all_looks(stand):
@@ -676,32 +778,22 @@ def all_looks(stand):
     seed(stand)
     said = all_words()
     words(said)
+    page_itself()
     page = stand.chromium()
-    page.says("deposits are listed")
+    page.awaits("deposits are listed")
     looks(page, "light")
     refusals_in_words(page, said)
     judged(page, stand)
     keyboard(page, stand)
+    revised_by_keys(page, stand)
     damaged(page)
     many(page, stand)
-    complaints = [it for it in page.complaints() if "a <b> fault" not in it]
-    check(not complaints, f"the console is silent {complaints[:2]}")
-    page.quit()
+    largest_bag(page, stand)
+    page.quit(["a <b> fault"])
     for width in (390, 320):
-        page = stand.chromium("anna", width, 844)
-        page.says("deposits are listed")
-        looks(page, f"phone-{width}", width)
-        page.go("deposit/2", "Deposit 2")
-        page.one("#dispose").click()
-        page.wait(lambda: page.all("dialog[open]"))
-        left, right, all_ = page.run(
-            "const r = document.querySelector('dialog').getBoundingClientRect(); return [r.left, r.right, innerWidth]"
-        )
-        check(left >= 0 and right <= all_, f"the dialog fits {width} pixels")
-        page.shot(f"phone-{width}-destroy")
-        page.quit()
+        by_phone(stand, width)
     page = stand.chromium(dark=True)
-    page.says("deposits are listed")
+    page.awaits("deposits are listed")
     looks(page, "dark")
     translated(page, stand, said)
     page.quit()

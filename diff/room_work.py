@@ -5,6 +5,7 @@ import random
 import re
 import subprocess
 import time
+import urllib.parse
 import zipfile
 
 import bags
@@ -28,6 +29,8 @@ ODD = [
     "javascript:alert(1)",
     ".hidden",
     "a+b.txt",
+    "<b>bold.txt",
+    "c%3Adrive.txt",
 ]
 SYSTEM = (".DS_Store", "Thumbs.db")
 MATTER = "<script>window.pwned=1</script> \"Case\" \u202e7\u202c \u05d3\u05d9\u05df & <b>"
@@ -74,13 +77,12 @@ def box_of_300(stand):
 def names(page, stand):
     page.wait(lambda: page.text("h1") == "Deposits")
     check(page.text("#day") == "2024-03-01" and page.text("#caller") == "anna", "the page says the office's day and who asks")
-    page.says("No deposit is listed.")
+    page.awaits("No deposit is listed.")
     check(page.focused().tag_name == "h1", "the focus is on the heading")
     page.go("names", "Collections and classes")
-    collections, classes = page.all("main form")
-    name = collections.find_element("css selector", "input")
+    name = page.all("main form")[0].find_element("css selector", "input")
     name.send_keys("Maps!" + ENTER)
-    page.says("Write 1 to 40 of")
+    page.awaits("Write 1 to 40 of")
     check(page.focused().get_attribute("aria-invalid") == "true", "a bad name is said beside its field, which has the focus")
     name.clear()
     name.send_keys("maps" + ENTER)
@@ -89,28 +91,36 @@ def names(page, stand):
     name.send_keys(".." + ENTER)
     check(page.says("A browser can't send this name."), "a name that a browser would take for a folder is refused in the page")
 
-    def define(klass, years):
-        for control, value in zip(classes.find_elements("css selector", "input:not([type=checkbox])"), (klass, years)):
+
+def define(page, klass, years=None):
+    """Types a class, and its years if it doesn't keep permanently."""
+    form = page.all("main form")[1]
+    for control, value in zip(form.find_elements("css selector", "input:not([type=checkbox])"), (klass, years)):
+        if value is not None:
             control.clear()
             control.send_keys(value)
-        control.send_keys(ENTER)
+    form.find_element("css selector", "button").click()
 
-    define("y1", "1")
-    check(page.says("The class y1 keeps its deposits for 1 year.", "#told"), "a class is defined, with a singular")
-    define("y0", "201")
+
+def classes(page, stand):
+    define(page, "y0", "201")
     check(page.says("whole number from 0 to 200"), "201 years are refused in the page")
+    define(page, "y1", "1")
+    check(page.says("No due day", "dialog") and page.says("hides from you", "dialog"), "a class is defined after a question")
+    page.one("dialog .danger").click()
+    check(page.says("The class y1 keeps its deposits for 1 year.", "#told"), "a class is defined, with a singular")
     page.one("#forever").click()
-    classes.find_element("css selector", "input").clear()
-    classes.find_element("css selector", "input").send_keys("good" + ENTER)
+    define(page, "good")
+    page.wait(lambda: page.all("dialog[open]"))
+    page.one("dialog .danger").click()
     check(page.says("The class good keeps its deposits permanently.", "#told"), "a class that keeps permanently is defined")
     stand.json("PUT", "/collections/tax")
     for klass, years in (("y0", 0), ("y10", 10)):
         stand.json("PUT", f"/classes/{klass}", {"years": years})
 
 
-def plain_folder(page, stand):
-    """A plain folder of 300 files, odd names among them, becomes a bag. Gives its form."""
-    box = box_of_300(stand)
+def box_seen(page, box):
+    """A plain folder of 300 files, odd names among them, is chosen, and then dropped."""
     page.go("new", "New deposit")
     page.button("Deposit").click()
     check(page.says("Choose a folder first.", "#told"), "without a folder nothing is sent")
@@ -120,13 +130,17 @@ def plain_folder(page, stand):
         "a chosen folder with a \\ in a name is refused: Chromium would change it",
     )
     page.drop(box)
-    page.says("plain folder", "#seen")
+    page.awaits("plain folder", "#seen")
     seen = page.text("#seen")
     check(
         " 300 files." in seen and "304 of 2,000 files" in seen and "Compare the number of files" in seen,
         "300 files are counted, to be compared: " + seen.replace("\n", " | "),
     )
     check("left out, 2:" in seen and "Thumbs.db" in seen, "the system's files are left out, and named")
+
+
+def asked_first(page, stand):
+    """The office is asked whether it would take it, before the bag is sent."""
     for name, value in (("Collection", "mapz"), ("Class", "y1"), ("Accession", "A-1"), ("Closed on", "2023-02-28")):
         page.put(name, value)
     page.shot("new")
@@ -138,10 +152,21 @@ def plain_folder(page, stand):
     )
     check(not stand.json("GET", "/deposits")["deposits"], "and nothing was deposited by asking")
     page.put("Collection", "maps")
+    page.put("Accession", "A/1")
+    page.button("Deposit").click()
+    check(page.says("Write 1 to 64 letters, digits"), "an accession with a / is refused in the page")
+    page.put("Accession", "A-1")
     page.put("Closed on", "2024-03-02")
     page.button("Deposit").click()
     check(page.says("Write a day that isn't after 2024-03-01"), "a closing day ahead is refused in the page")
     page.put("Closed on", "2023-02-28")
+
+
+def plain_folder(page, stand):
+    """The page makes a bag of the folder of 300 files. Gives its form."""
+    box = box_of_300(stand)
+    box_seen(page, box)
+    asked_first(page, stand)
     page.put("Description (optional)", 'Letters "of" the <b>harbour</b>')
     page.run(
         "window.heard = []; new MutationObserver(() => heard.push(document.querySelector('#told').textContent))"
@@ -157,6 +182,11 @@ def plain_folder(page, stand):
         "it is said that the office is asked first, and that it checks the bag",
     )
     check(stand.logged("POST", "/deposits?")[-2:] == [422, 201], "and by nginx's log it was: an empty body first, then the bag")
+    receipt_of_300(page, stand)
+    return unpacked(stand, box)
+
+
+def receipt_of_300(page, stand):
     page.shot("receipt")
     receipt, form = page.text(), stand.ask("GET", "/deposits/1/bag")[1]
     check(
@@ -179,7 +209,11 @@ def plain_folder(page, stand):
         "and is saved as a text",
     )
     check(page.printed("receipt") == 1, "and printed on one page")
-    back = stand.folder / "work" / "back"
+
+
+def unpacked(stand, box):
+    """The form that the office keeps, by `depot check` and `depot unpack`."""
+    back, form = stand.folder / "work" / "back", stand.ask("GET", "/deposits/1/bag")[1]
     (back.parent / "back.bagset").write_bytes(form)
     wanted = payload_below(box)
     found = program(stand, "check", back.parent / "back.bagset")
@@ -201,32 +235,36 @@ def plain_folder(page, stand):
 
 def one_record(page, stand, form):
     """The first deposit: its files, its audit, its downloads, holds on it, and a disposal that a hold forbids."""
+    files_shown(page, stand)
+    odd_files(page, stand)
+    downloads(page, stand, form)
+    held(page, stand)
+    parsed(page, stand)
+    held_disposal(page, stand)
+
+
+def files_shown(page, stand):
     small = folder(stand, "small", {"x.txt": b"x"})
     check("Deposit 1 already has this accession." in page.deposit(small, "A-1", "y1"), "Taken is said, with a link to the deposit")
     page.shot("taken")
     page.go("deposits", "Deposits")
-    page.says("1 deposit is listed.", "#count")
+    page.awaits("1 deposit is listed.", "#count")
     check(
         all(it in page.text("table") for it in ("A-1", "maps", "y1", "2024-02-28", "300")),
         "the list has it, due a year after it was closed",
     )
     page.go("deposit/1", "Deposit 1")
-    page.says("due since 2024-02-28", "#state")
+    page.awaits("due since 2024-02-28", "#state")
     page.button("Show the files").click()
-    page.says("300 files of the payload, 4 files beside it", "#files")
+    page.awaits("300 files of the payload, 4 files beside it", "#files")
     files = page.text("#files")
     check("data/photo[U+202E]gpj.exe" in files, "a right-to-left mark in a name is shown as [U+202E]")
-    check(
-        "<img src=x onerror=window.pwned=1>.txt" in files and "quo\"te's.txt" in files and "line[U+000A]break.txt" in files,
-        "markup, quotes and line ends in names are text",
-    )
     check(hashlib.sha256(b"odd 1\n").hexdigest() in files, "each file has its SHA-256 from the manifest")
-    check(
-        page.run("return window.pwned === undefined && !document.querySelector('main img, main script')"),
-        "no name became an element",
-    )
     page.run("document.querySelector('#files').scrollIntoView()")
     page.shot("files")
+
+
+def odd_files(page, stand):
     wrong = []
     for i, name in enumerate(ODD):
         before = set(os.listdir(stand.downloads))
@@ -240,8 +278,7 @@ def one_record(page, stand, form):
                     it
                     for it in set(os.listdir(stand.downloads)) - before
                     if not it.startswith(".org.chromium") and not it.endswith((".crdownload", ".tmp"))
-                ],
-                10,
+                ]
             )
             content = (stand.downloads / new[0]).read_bytes()
             if content != f"odd {i}\n".encode() or "\u202e" in new[0] or "/" in new[0]:
@@ -249,6 +286,9 @@ def one_record(page, stand, form):
         except AssertionError:
             wrong.append((name, "no download"))
     check(not wrong, f"each of the {len(ODD)} odd files is downloaded, under a name without marks {wrong[:2]}")
+
+
+def downloads(page, stand, form):
     page.run("document.querySelector('#files button[aria-label*=\"letter 003\"]').click()")
     check(
         page.download("letter 003.txt") == (stand.folder / "work/Box 12/letters/1950/letter 003.txt").read_bytes(),
@@ -266,6 +306,11 @@ def one_record(page, stand, form):
         "the ZIP has 304 files, good checksums, and no name with \\ or :",
     )
     check(page.says("for folders or drives: 3.", "#told-files"), "and the page says that three names were changed")
+    said = page.text("#told-files")
+    check("A-1.zip was handed to the browser" in said, "and that the browser got it, not that it was kept")
+    wanted = {"A-1/data/" + path for path in payload_below(stand.folder / "work" / "Box 12")}
+    found = {urllib.parse.unquote(it) for it in inside if it.startswith("A-1/data/")}
+    check(found == wanted, f"by what it says the names come back, each its own {sorted(found ^ wanted)[:3]}")
     check(
         packed.read("A-1/data/letters/1950/letter 003.txt")
         == (stand.folder / "work/Box 12/letters/1950/letter 003.txt").read_bytes(),
@@ -275,6 +320,9 @@ def one_record(page, stand, form):
     check(page.download("A-1.bagset") == form, "the transfer form is downloaded, byte for byte")
     page.button("Audit now").click()
     check(page.says("Valid: 300 files", "#told-audit"), "an audit: " + page.text("#told-audit"))
+
+
+def held(page, stand):
     page.put("Matter", "")
     page.button("Place a hold").click()
     check(page.says("Write 1 to 200 bytes"), "an empty matter is refused in the page")
@@ -283,27 +331,70 @@ def one_record(page, stand, form):
     check(page.says("Write 1 to 200 bytes") and not stand.json("GET", "/deposits/1/holds")["holds"], "202 bytes of 101 letters too")
     page.run("arguments[0].value = arguments[1]", page.field("Matter"), MATTER)
     page.button("Place a hold").click()
-    page.says("Hold 1 is placed.", "#told")
-    check(
-        page.says("<script>window.pwned=1</script> \"Case\" [U+202E]7[U+202C]", "#holds")
-        and page.run("return window.pwned === undefined"),
-        "a matter with markup and right-to-left marks is shown as text",
-    )
-    check("held, by 1 hold" in page.text("#state"), "the deposit is shown as held")
+    page.awaits("Hold 1 is placed.", "#told")
+    check(page.says("held, by 1 hold", "#state"), "the deposit is shown as held")
     check(stand.json("GET", "/deposits/1/holds")["holds"][0]["matter"] == MATTER, "and the office has the matter as it was written")
     page.run("scrollTo(0, 0)")
     page.shot("deposit")
-    page.one("#dispose").click()
-    page.wait(lambda: page.all("dialog[open]"))
+
+
+# The page as it would be if it parsed its texts as HTML: by the way that the policy of content lets through, and by the old one.
+PARSING = """const parsed = text => { const box = document.createElement("div"); box.WAY; return [...box.childNodes] };
+for (const name of ["append", "prepend", "replaceChildren"]) {
+  const real = Element.prototype[name];
+  Element.prototype[name] = function (...parts) {
+    real.apply(this, parts.flatMap(part => typeof part === "string" ? parsed(part) : [part])) };
+}
+"""
+
+
+def texts_alone(page):
+    """What holds if names and matters are shown as text, with whether it does."""
+    files, holds = page.text("#files"), page.text("#holds")
+    odd = "<img src=x onerror=window.pwned=1>.txt", "<b>bold.txt", "quo\"te's.txt", "line[U+000A]break.txt"
+    yield all(it in files for it in odd), "markup, quotes and line ends in names are text"
+    yield "<script>window.pwned=1</script> \"Case\" [U+202E]7[U+202C]" in holds, "a matter with markup and marks is shown as text"
+    found = page.run("return [...document.querySelectorAll('.others *, main :is(img, script, b)')].map(e => e.outerHTML)")
+    yield not found, f"no name and no matter became an element {found[:2]}"
+    yield page.run("return window.pwned === undefined"), "nothing that stands in them ran"
+
+
+def parsed(page, stand):
+    """Names and matters as text; and the control, the page parsing them as HTML, in which the very same checks fail."""
+    page.awaits("Case", "#holds")
+    for holds, text in texts_alone(page):
+        check(holds, text)
+    there = stand.room / "dom.js"
+    whole = there.read_text()
+    try:
+        for way, policy, fewest in (("setHTML(text)", True, 3), ("innerHTML = text", False, 4)):
+            stand.nginx(lambda text: text if policy else text.replace("add_header Content-Security-Policy $room_policy always;", ""))
+            there.write_text(PARSING.replace("WAY", way) + whole)
+            other = stand.chromium()
+            other.go("deposit/1", "Deposit 1")
+            other.button("Show the files").click()
+            other.wait(lambda: other.all("#files table") and other.all("#holds table"))
+            time.sleep(0.5)
+            failed = [text for holds, text in texts_alone(other) if not holds]
+            failed += ["the console is silent"] if other.complaints() else []
+            check(len(failed) >= fewest, f"with markup parsed by {way}, these checks fail: {'; '.join(failed)}")
+            other.quit()
+    finally:
+        there.write_text(whole)
+        stand.nginx()
+
+
+def held_disposal(page, stand):
+    page.destroy()
     shown = page.text("dialog")
     check(
         "Destroy deposit 1?" in shown and "300 files of the payload" in shown and "It is held." in shown and "2024-02-28" in shown,
         "a disposal shows the record and the files first, and that it is held",
     )
-    check(page.focused().tag_name == "input", "its field has the focus")
+    check(page.focused().get_attribute("id") == "dialog-title", "its heading has the focus")
     page.shot("destroy")
-    page.focused().send_keys("A-2" + ENTER)
-    page.says("That isn't the accession A-1.", "dialog")
+    page.one("dialog input").send_keys("A-2" + ENTER)
+    page.awaits("That isn't the accession A-1.", "dialog")
     check(stand.json("GET", "/deposits/1").get("deposit") == 1, "a wrong accession destroys nothing")
     page.one("dialog input").clear()
     page.one("dialog input").send_keys("A-1" + ENTER)
@@ -312,7 +403,7 @@ def one_record(page, stand, form):
         "the office refuses: Held, with the hold's matter",
     )
     page.shot("held")
-    page.focused().send_keys(ESCAPE)
+    page.press(ESCAPE)
     page.wait(lambda: not page.all("dialog"))
     check(page.focused().get_attribute("id") == "dispose", "Escape closes it, and the focus is back")
 
@@ -324,14 +415,13 @@ def all_holds(page, stand):
         "what the routes don't tell of holds the page says, with where it is found",
     )
     page.button("Look through the deposits").click()
-    page.says("1 of 1 deposits asked", "#live")
+    page.awaits("1 of 1 deposits asked", "#live")
     check(
         "deposit 1" in page.text("#live table") and "[U+202E]7" in page.text("#live"),
         "the page finds the hold by asking each deposit",
     )
     page.shot("holds")
-    page.button("Release hold 1").click()
-    page.wait(lambda: page.all("dialog[open]"))
+    page.dialog(page.button("Release hold 1"))
     check(
         "Case" in page.text("dialog") and page.focused().text == "Cancel",
         "a release asks first, and shows the matter; Cancel has the focus",
@@ -339,10 +429,13 @@ def all_holds(page, stand):
     page.button("Release", "dialog").click()
     check(page.says("Hold 1 was released on 2024-03-01.", "#told"), "it is released")
     page.put("Number of the hold", "1")
-    page.all("main form")[1].find_element("css selector", "button").click()
-    page.wait(lambda: page.all("dialog[open]"))
+    page.dialog(page.all("main form")[1].find_element("css selector", "button"))
     page.button("Release", "dialog").click()
     check(page.says("This hold was released on 2024-03-01.", "#told"), "a hold that was released: with its day")
+
+
+def placed_holds(page, stand):
+    """Holds on a collection and a class, and on what isn't there."""
 
     def hold(on, name, matter):
         page.put("Hold on", on)
@@ -370,7 +463,7 @@ def refused_bags(page, stand):
     """Faults are said before the bag is sent; it is sent all the same where the officer says so, and the office's answer is shown."""
     page.go("new", "New deposit")
     page.one("#folder").send_keys(str(folder(stand, "b17", {**BAG, "data/a": b"abd"})))
-    page.says("By the rules for bags, the office will refuse this:", "#seen")
+    page.awaits("By the rules for bags, the office will refuse this:", "#seen")
     check(
         "data/a was changed: its digest is not the checksum in manifest-sha256.txt" in page.text("#seen")
         and "Copy this file again" in page.text("#seen"),
@@ -403,7 +496,7 @@ def refused_bags(page, stand):
     page.shot("b17")
 
 
-def more_deposits(page, stand, form):
+def bags_and_forms(page, stand, form):
     check(
         "The office has checked the bag" in page.deposit(folder(stand, "bag", BAG), "A-2"),
         "a folder that is a bag is sent as it is",
@@ -424,6 +517,10 @@ def more_deposits(page, stand, form):
     )
     (work / "other.bagset").write_bytes(b"PK\3\4" + bytes(100))
     check("This is no transfer form" in page.deposit(work / "other.bagset", "A-4", how="form"), "and a file that is no form")
+
+
+def progress(page, stand):
+    """As many files, and as many bytes, as a deposit may have; with what is said meanwhile."""
     many = folder(stand, "many", {str(i): b"" for i in range(1997)})
     check("It has 2,001 files with those that describe the bag" in page.deposit(many, "A-4"), "1,997 files are too many")
     (many / "1996").unlink()
@@ -450,6 +547,9 @@ def more_deposits(page, stand, form):
         "Receipt" in said and 0 < size - LARGEST < 2000,
         f"a form of {size:,} bytes, of at most 16,777,216, is deposited, in {time.time() - began:.1f} s",
     )
+
+
+def refused_folders(page, stand):
     deep = folder(stand, "deep", {"/".join(["d" * 200] * 5) + "/" + "f" * 20: b"1"})
     check("too long (over 1,024 bytes" in page.deposit(deep, "A-6"), "a path of 1,030 bytes is refused in the page")
     clash = folder(stand, "clash", {"x": b"1"})
@@ -465,6 +565,9 @@ def more_deposits(page, stand, form):
         "has a name that isn't Unicode text" in page.deposit(latin, "A-6", how="drop"),
         "a dropped name in Latin-1 is refused in the page",
     )
+
+
+def changed_file(page, stand):
     changed = folder(stand, "changed", {f"{i % 7}/{i}": b"1" for i in range(300)})
     page.go("new", "New deposit")
     page.one("#folder").send_keys(str(changed))
@@ -522,12 +625,16 @@ def callers(page, stand):
 
 
 def sorted_and_soon(page, stand):
-    page.go("deposits", "Deposits")
-    page.says("deposits are listed", "#count")
-
     def column(k):
         return [it.text for it in page.all(f"main tbody td:nth-child({k})")]
 
+    sorted_list(page, stand, column)
+    due_soon(page, stand, column)
+
+
+def sorted_list(page, stand, column):
+    page.go("deposits", "Deposits")
+    page.awaits("deposits are listed", "#count")
     page.put("Sorted by", "accession")
     check(column(2) == sorted(column(2)) and len(column(2)) > 4, "the list is sorted by accession")
     check(
@@ -547,8 +654,11 @@ def sorted_and_soon(page, stand):
     page.put("Class", "y1")
     page.button("Show").click()
     check(page.says("1 deposit is listed.", "#count"), "it is listed by collection and class")
+
+
+def due_soon(page, stand, column):
     page.go("soon", "Due soon")
-    page.says("deposit is listed.", "#count")
+    page.awaits("deposit is listed.", "#count")
     check(
         column(6) == ["2024-02-28"] and "Holds are not considered here" in page.text(),
         "due soon: those within 90 days, and what isn't considered",
@@ -566,19 +676,13 @@ def sorted_and_soon(page, stand):
     stand.json("PUT", "/classes/y10", {"years": 10})
 
 
-def dispose(page, accession):
-    page.one("#dispose").click()
-    page.wait(lambda: page.all("dialog[open]"))
-    page.one("dialog input").send_keys(accession + ENTER)
-
-
 def denied(page, stand):
     """Disposals that a rule forbids, that a hold forbids whose matter may not be seen, and of files that may not be seen."""
     number = stand.json(
         "POST", "/deposits?collection=tax&class=y0&accession=TAX&closed=2024-01-01", (TOP / "examples/bag-a.bagset").read_bytes()
     )["deposit"]
     page.go(f"deposit/{number}", f"Deposit {number}")
-    dispose(page, "TAX")
+    page.destroy("TAX")
     check(page.says("Rule 1 of the policy forbids you this.", "dialog"), "a denial says which rule")
     page.press(ESCAPE)
     number = stand.json(
@@ -588,7 +692,7 @@ def denied(page, stand):
     other = stand.chromium("dora")
     other.wait(lambda: other.text("h1"))
     other.go(f"deposit/{number}", f"Deposit {number}")
-    dispose(other, "DORA")
+    other.destroy("DORA")
     check(
         other.says(f"Hold {hold} forbids it. The policy doesn't let you see its matter.", "dialog")
         and "The policy doesn't let you see the files; there are 1 file, 3 bytes." in other.text("dialog"),
@@ -605,14 +709,14 @@ def denied(page, stand):
     other.quit()
 
 
-def disposal(page, stand):
+def due_today(page, stand):
     page.go("due", "Due today")
     check(page.says("On 2024-03-01, 1 deposit may be destroyed.", "#count"), "the due list of the first day")
     check("no list of what was destroyed" in page.text(), "what the routes don't tell of destroyed deposits the page says")
     stand.json("PUT", "/classes/y10", {"years": 0})
     stand.office.serve("2024-03-04")
     page.go("due", "Due today")
-    page.says("On 2024-03-04,", "#count")
+    page.awaits("On 2024-03-04,", "#count")
     check(
         page.text("#day") == "2024-03-04" and len(page.all("main tbody tr")) == len(stand.json("GET", "/due")["deposits"]),
         "the page sees the new day: " + page.text("#count"),
@@ -623,11 +727,12 @@ def disposal(page, stand):
     )
     page.shot("due")
     page.printed("due")
+
+
+def disposal(page, stand):
     page.one("main td a").click()
     page.wait(lambda: page.text("h1") == "Deposit 1")
-    page.one("#dispose").click()
-    page.wait(lambda: page.all("dialog[open]"))
-    page.focused().send_keys("A-1" + ENTER)
+    page.destroy("A-1")
     page.wait(lambda: page.text("h1") == "Certificate of destruction")
     certificate = page.text()
     check(
@@ -648,14 +753,14 @@ def disposal(page, stand):
         "This deposit was destroyed on 2024-03-04." in page.text() and stand.json("GET", "/deposits/1")["error"] == "Gone",
         "afterwards the page and the office say that it is gone, with the day",
     )
-    denied(page, stand)
+
+
+def not_due(page, stand):
     page.go("deposit/2", "Deposit 2")
     stand.json("PUT", "/classes/y10", {"years": 10})
-    page.one("#dispose").click()
-    page.wait(lambda: page.all("dialog[open]"))
-    page.focused().send_keys("A-2" + ENTER)
+    page.destroy("A-2")
     check(page.says("It is due on 2034-02-28, and not before.", "dialog"), "a deposit that isn't due: with its day")
-    page.focused().send_keys(ESCAPE)
+    page.press(ESCAPE)
     stand.office.stop()
     page.run("location.hash = '#/due'")
     check(page.says("The office isn't running."), "an office that is stopped is said in words")
@@ -666,15 +771,21 @@ def work(stand):
     stand.office.serve("2024-03-01")
     page = stand.chromium()
     names(page, stand)
+    classes(page, stand)
     form = plain_folder(page, stand)
     one_record(page, stand, form)
     all_holds(page, stand)
+    placed_holds(page, stand)
     refused_bags(page, stand)
-    more_deposits(page, stand, form)
+    bags_and_forms(page, stand, form)
+    progress(page, stand)
+    refused_folders(page, stand)
+    changed_file(page, stand)
     callers(page, stand)
     sorted_and_soon(page, stand)
+    due_today(page, stand)
     disposal(page, stand)
+    denied(page, stand)
+    not_due(page, stand)
     twenty_bags(page, stand)
-    complaints = page.complaints()
-    check(not complaints, f"no error and no violation of the policy of content in the console {complaints[:2]}")
     page.quit()
