@@ -181,14 +181,17 @@ impl<S: Alter> Office<S> {
         // The same of whatever rows an office of a known version has, where no history pictures them.
         ensures upgraded_rows { IfTaken S.Store result (rows.Upgrades (state S.Store conn)) }
         ensures found_rows { IfTaken S.Store result (rows.TakesUp (state S.Store conn)) }
+        ensures is_open_rows { IfTaken S.Store result (rows.OpensOlder (state S.Store conn)) }
         ensures survives_rows { IfOk result (λ office.
             Survives (state S.Store conn) (state S.Store office)
             (IsUpgrade (state S.Store conn).now)) }
         ensures durable_rows { IfTaken S.Store result (rows.UpgradeLasts (state S.Store conn)) }
+        ensures leaves_rows { IfTaken S.Store result (rows.LeavesOffice (state S.Store conn)) }
 
         ensures refused_same { IfRefused S.Store result (λ s _. KeepsTables (state S.Store conn) s) }
         ensures refused { IfRefused S.Store result (λ s _. StaysAt (state S.Store conn) s) }
         ensures goes_back { IfRefused S.Store result (λ s _. GoesBackAt (state S.Store conn) s) }
+        ensures goes_back_rows { IfRefused S.Store result (λ s _. rows.GoesBack (state S.Store conn) s) }
         ensures refused_outside { IfErr result (λ e. (state S.Store e.0).in_transaction ≡ false) }
         ensures refused_survives { IfErr result (λ e.
             Survives (state S.Store conn) (state S.Store e.0)
@@ -203,6 +206,8 @@ impl<S: Alter> Office<S> {
             (faults.IsFailure e.1 → ⊥)
             → Survives (state S.Store conn) (state S.Store e.0) (λ _. ⊥)) }
         ensures refused_leaves { IfRefused S.Store result (λ s _. LeavesAt (state S.Store conn) s) }
+        ensures refused_leaves_rows { IfRefused S.Store result (λ s _.
+            rows.LeavesOffice (state S.Store conn) s) }
         ensures not_office { IfRefused S.Store result (λ _ fault.
             fault ≡ NotAnOffice → opening.NotAnOffice (state S.Store conn).now) }
         ensures other_version { IfRefused S.Store result (λ _ fault.

@@ -4,6 +4,7 @@
 
 mod altered;
 mod altering;
+mod bodies;
 mod files;
 mod offices;
 mod parts;
@@ -25,8 +26,8 @@ pub use tables::tests::{
 pub use tables::tests_stops::each_stop_leaves_an_office_or_none;
 pub use tests::{
     a_content_counts_once_and_while_it_is_kept, altered_rows_are_met_where_an_answer_rests_on_them,
-    an_older_office_goes_on_once_it_is_upgraded, each_office_answers_alike,
-    only_an_office_of_this_version_is_taken_up,
+    an_older_office_goes_on_once_it_is_upgraded, answers_have_their_bodies,
+    each_office_answers_alike, only_an_office_of_this_version_is_taken_up,
 };
 pub use tests_stops::{
     a_stop_leaves_the_office_after_its_last_request, a_stop_leaves_the_office_after_the_run,

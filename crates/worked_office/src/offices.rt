@@ -1,6 +1,7 @@
 //! Rows, put to an office. What is answered otherwise than a row says is told as a text, which is empty
 //! where nothing is; `None` is a row that asks nothing, or want of memory.
 
+use crate::bodies::put_for_bodies;
 use crate::policies::policy_named;
 use crate::rows::rows;
 use office_core::{Answer, Day, Limits, Sequence};
@@ -307,6 +308,21 @@ pub fn adopt_and_install<S: Alter + Drop>(
         Ok(mut office) => {
             let differs = install_named(alloc, &mut office, name);
             look_behind(alloc, office, differs)
+        }
+        Err(told) => told,
+    }
+}
+
+/// Adopts the connection as an office and compares the bodies of its answers. The connection is handed back.
+pub fn adopt_and_compare<S: Alter + Drop>(
+    alloc: Global,
+    conn: Connection<S>,
+    text: &'static str,
+) -> (Option<String>, Connection<S>) {
+    match adopt(alloc, conn) {
+        Ok(mut office) => {
+            let differs = put_for_bodies(alloc, &mut office, text);
+            (differs, office.into_connection())
         }
         Err(told) => told,
     }

@@ -2,8 +2,8 @@
 
 use crate::altering::{alter_for_good, case, make};
 use crate::offices::{
-    Way, adopt_and_install, adopt_and_look, adopt_and_put, ask_stock, create_and_equip,
-    put_and_look, upgrade_and_look,
+    Way, adopt_and_compare, adopt_and_install, adopt_and_look, adopt_and_put, ask_stock,
+    create_and_equip, put_and_look, upgrade_and_look,
 };
 use crate::tables::steps::steps;
 use sqlite::{Alter, Connection};
@@ -20,6 +20,8 @@ use std::test::Fail;
 /// | `policy` | the name of a policy, which is installed in the place of the one before (`policies.rt`) |
 /// | `asks` | rows, which are put to the office; after each what is kept beside the rows of the tables is compared with what the rows give |
 /// | `asks altered` | the same without that: rows of the tables are altered |
+/// | `bodies` | rows that are put to the office one after the other; their answers are compared as bodies |
+/// | `bodies altered` | the same of an office over its tables: rows of these are altered |
 /// | `stock` | how much the office keeps |
 /// | `found` | what is kept beside the rows otherwise than they give, where rows of the tables are altered |
 /// | `steps` | steps with the tables |
@@ -59,6 +61,7 @@ pub fn take_part<S: Alter + Drop>(
         "policy" => adopt_and_install(alloc, conn, text),
         "asks" => put_and_look(alloc, conn, way, text),
         "asks altered" => adopt_and_put(alloc, conn, way, text),
+        "bodies" | "bodies altered" => adopt_and_compare(alloc, conn, text),
         "stock" => ask_stock(alloc, conn, text),
         "found" => {
             let (told, conn) = adopt_and_look(alloc, conn);

@@ -1,5 +1,6 @@
 //! Sessions over each store, and rows put to the plain office.
 
+use crate::bodies::put_for_bodies;
 use crate::files::take_once;
 use crate::offices::{Way, equip, install_named, limits, other_stock, put};
 use crate::parts::{Part, agree, take_part};
@@ -22,6 +23,7 @@ fn take_plain(alloc: Global, office: &mut plain::Office, way: Way, part: Part) -
     match kind {
         "policy" => install_named(alloc, office, text),
         "asks" => put(alloc, office, way, text),
+        "bodies" => put_for_bodies(alloc, office, text),
         "stock" => other_stock(alloc, office, text),
         _ => Some(String::new(alloc)),
     }
@@ -69,6 +71,15 @@ pub fn over_tables(alloc: Global, way: Way, sessions: &[&[Part]]) -> Result<(), 
     for parts in sessions {
         let _files = in_files(alloc, way, parts)?;
         in_memory(alloc, way, parts)?;
+    }
+    Ok(())
+}
+
+/// Takes each session with a plain office and in a new database in memory, by steps.
+pub fn to_both_in_memory(alloc: Global, sessions: &[&[Part]]) -> Result<(), Fail> {
+    for parts in sessions {
+        in_plain(alloc, Way::Steps, parts)?;
+        in_memory(alloc, Way::Steps, parts)?;
     }
     Ok(())
 }

@@ -3,18 +3,25 @@
 use crate::altered::{
     AS_BEFORE, BESIDE, CLASSES, DEPOSITS, DUES, FILES, FOUND, HOLDS, OPENINGS, PREPARED, RULES,
 };
+use crate::bodies::BODIES;
 use crate::offices::Way;
 use crate::parts::Part;
 use crate::sessions::{CONTENTS, DECIDING, KEEPING};
-use crate::stores::{in_memory, over_tables, to_offices};
+use crate::stores::{in_memory, over_tables, to_both_in_memory, to_offices};
 use crate::upgrades::{NOT_UPGRADED, UPGRADES, WHOLE_SESSIONS};
 use std::alloc::Global;
 use std::test::Fail;
 
-/// Each session is answered alike by each office, by steps and in one run.
+/// Answers have the bodies that a peer gets, of the plain office and of one over its tables.
+pub fn answers_have_their_bodies(alloc: Global) -> Result<(), Fail> {
+    to_both_in_memory(alloc, &BODIES)
+}
+
+/// Each session is answered alike by each office, by steps and in one run; answers have their bodies.
 pub fn each_office_answers_alike(alloc: Global) -> Result<(), Fail> {
     to_offices(alloc, &DECIDING)?;
-    to_offices(alloc, &KEEPING)
+    to_offices(alloc, &KEEPING)?;
+    answers_have_their_bodies(alloc)
 }
 
 /// What an office has in stock, the plain one and the one over its tables: a content counts once, and as long

@@ -109,9 +109,12 @@ const THIRD_RENEWED: &str = "open\n\
      1|0|archivist|dispose|tax|*|-25567|2859848;2|1|archivist|*|*|*|-25567|2859848;\
      3|1|clerk|list|*|y10|-25567|2859848;--;y1|1;y10|10;--;maps;tax;--;\
      1|A-1|maps|y1|19782|19785|1|3||20147|2;--;\
-     1|bagit.txt|BagIt-Version: 1.0;Tag-File-Character-Encoding: UTF-8;;1|data/a|abc;\
-     1|manifest-sha256.txt|ba7816bf8f01cfea414140de5dae2223b00361a396177a9cb410ff61f20015ad  data/a;;--;\
-     1||maps||Case 7|19784|;2|1|||Case 8|21915|;--;1|54;2|3;3|73;--;\n\
+     1|bagit.txt|1|BagIt-Version: 1.0;Tag-File-Character-Encoding: UTF-8;;1|data/a|2|abc;\
+     1|manifest-sha256.txt|3|ba7816bf8f01cfea414140de5dae2223b00361a396177a9cb410ff61f20015ad  data/a;;--;\
+     1||maps||Case 7|19784|;2|1|||Case 8|21915|;--;\
+     1|1712ECFB074BF29C4188AD3421032509159A09739FD604F8FE57038B4DDEFCC9|54;\
+     2|BA7816BF8F01CFEA414140DE5DAE2223B00361A396177A9CB410FF61F20015AD|3;\
+     3|229B690BB74C455DCF323FBF029F56AF1D20B126231AA2B2047923926E7D99FE|73;--;\n\
      show|SELECT place FROM rule > \n\
      show|SELECT number FROM hold > \n\
      show|SELECT name FROM sqlite_schema > office;caller;sqlite_autoindex_caller_1;rule;class;\
@@ -148,10 +151,12 @@ const FOURTH_RENEWED: &str = "open\n\
      1|0|archivist|dispose|tax|*|-25567|2859848;2|1|archivist|*|*|*|-25567|2859848;\
      3|1|clerk|list|*|y10|-25567|2859848;--;y1|1;y10|10;--;maps;tax;--;\
      1|A-1|maps|y1|19782|19785|1|3||20147|3;--;\
-     1|bagit.txt|BagIt-Version: 1.0;Tag-File-Character-Encoding: UTF-8;;1|data/a|abc;\
-     1|manifest-sha256.txt|ba7816bf8f01cfea414140de5dae2223b00361a396177a9cb410ff61f20015ad  data/a;;--;\
+     1|bagit.txt|1|BagIt-Version: 1.0;Tag-File-Character-Encoding: UTF-8;;1|data/a|2|abc;\
+     1|manifest-sha256.txt|3|ba7816bf8f01cfea414140de5dae2223b00361a396177a9cb410ff61f20015ad  data/a;;--;\
      1||maps||Case 7|19784|;2|1|||Case 8|21915|;3|||y1|Case 9|21915|;4|||y1|Case 10|21915|21916;--;\
-     1|54;2|3;3|73;--;\n\
+     1|1712ECFB074BF29C4188AD3421032509159A09739FD604F8FE57038B4DDEFCC9|54;\
+     2|BA7816BF8F01CFEA414140DE5DAE2223B00361A396177A9CB410FF61F20015AD|3;\
+     3|229B690BB74C455DCF323FBF029F56AF1D20B126231AA2B2047923926E7D99FE|73;--;\n\
      show|SELECT place FROM rule > \n\
      show|SELECT number FROM hold > \n\
      show|SELECT name FROM sqlite_schema > office;caller;sqlite_autoindex_caller_1;rule;class;\

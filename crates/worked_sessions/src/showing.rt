@@ -4,7 +4,7 @@ use sqlite::types::ValueRef;
 use sqlite::{Alter, Connection, Row};
 use std::alloc::Global;
 
-/// What shows the rows of each table; a file with the bytes of its content, a content without them.
+/// What shows the rows of each table; a file with the bytes of its content, a content with its mark in their place.
 static QUERIES: [&str; 9] = [
     "SELECT id, version, max_deposits, max_holds FROM office ORDER BY id",
     "SELECT name, role FROM caller ORDER BY name",
@@ -12,9 +12,9 @@ static QUERIES: [&str; 9] = [
     "SELECT name, years FROM class ORDER BY name",
     "SELECT name FROM collection ORDER BY name",
     "SELECT number, accession, collection, class, closed, deposited, files, bytes, gone, due, holds FROM deposit ORDER BY number",
-    "SELECT deposit, path, bytes FROM file JOIN content ON content.id = file.content ORDER BY deposit, path",
+    "SELECT deposit, path, content, bytes FROM file JOIN content ON content.id = file.content ORDER BY deposit, path",
     "SELECT number, deposit, collection, class, matter, placed, released FROM hold_4 ORDER BY number",
-    "SELECT id, size FROM content ORDER BY id",
+    "SELECT id, hex(mark), size FROM content ORDER BY id",
 ];
 
 /// Adds the value of a column to the text, as the `sqlite3` command prints it.

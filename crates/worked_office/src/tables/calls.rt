@@ -3,7 +3,7 @@
 use crate::parts::Part;
 
 /// Each call once.
-pub static CALLS: [&[Part]; 9] = [
+pub static CALLS: [&[Part]; 10] = [
     // An office lasts.
     &[
         (
@@ -106,8 +106,10 @@ pub static CALLS: [&[Part]; 9] = [
             "read|content|2|data/b > Some([98, 98])\n\
              read|files|2 > [FileRow { deposit: 2, path: \"bagit.txt\", content: [116, 101, 120, \
              116] }, FileRow { deposit: 2, path: \"data/b\", content: [98, 98] }]\n\
-             held > 1|5|10|20;--;--;--;--;--;--;1|data/b|one;2|bagit.txt|text;2|data/b|bb;--;--;\
-             1|2;2|4;3|3;--;",
+             held > 1|5|10|20;--;--;--;--;--;--;1|data/b|3|one;2|bagit.txt|2|text;2|data/b|1|bb;--;--;\
+             1|3B64DB95CB55C763391C707108489AE18B4112D783300DE38E033B4C98C3DEAF|2;\
+             2|982D9E3EB996F559E633F4D194DEF3761D909F5A3B647D1A851FEAD67C32C9D1|4;\
+             3|7692C3AD3540BB803C020B3AEE66CD8887123234EA0C6E7143C0ADD73FF431ED|3;--;",
         ),
     ],
     // Holds last.
@@ -169,6 +171,27 @@ pub static CALLS: [&[Part]; 9] = [
              read|content|2|data/c > Some([97, 98, 99])\n\
              do|drop files|2\n\
              read|contents > []",
+        ),
+    ],
+    // A content that another program left without a file stays where files are dropped, its own deposit's too.
+    &[
+        (
+            "steps",
+            "create\n\
+             do|file|1|data/a|abc\n\
+             do|file|3|data/c|one\n\
+             do|file|2|data/b|bb\n\
+             run|DELETE FROM file WHERE deposit = 3\n\
+             do|drop files|1\n\
+             do|drop files|3\n\
+             held > 1|5|10|20;--;--;--;--;--;--;2|data/b|3|bb;--;--;\
+             2|7692C3AD3540BB803C020B3AEE66CD8887123234EA0C6E7143C0ADD73FF431ED|3;\
+             3|3B64DB95CB55C763391C707108489AE18B4112D783300DE38E033B4C98C3DEAF|2;--;",
+        ),
+        (
+            "steps",
+            "do|drop files|2\n\
+             read|contents > [ContentSize { id: 2, size: 3 }]",
         ),
     ],
     // Due days and counts of holds last.

@@ -41,12 +41,14 @@ pub static REFUSALS: [&[Part]; 4] = [
              do|drop files|3\n\
              do|end hold|3|9\n\
              held > 1|5|10|20;--;--;--;y2|2;--;maps;--;1|2026/1|maps|y2|10|11|2|300|||0;--;\
-             1|data/a|abc;--;1|1|||suit|100|;--;1|3;--;",
+             1|data/a|1|abc;--;1|1|||suit|100|;--;\
+             1|BA7816BF8F01CFEA414140DE5DAE2223B00361A396177A9CB410FF61F20015AD|3;--;",
         ),
         (
             "steps",
             "held > 1|5|10|20;--;--;--;y2|2;--;maps;--;1|2026/1|maps|y2|10|11|2|300|||0;--;\
-             1|data/a|abc;--;1|1|||suit|100|;--;1|3;--;",
+             1|data/a|1|abc;--;1|1|||suit|100|;--;\
+             1|BA7816BF8F01CFEA414140DE5DAE2223B00361A396177A9CB410FF61F20015AD|3;--;",
         ),
         ("steps", ABSENT),
         (
@@ -67,8 +69,8 @@ pub static REFUSALS: [&[Part]; 4] = [
              keeper * * * > Q4\n\
              held > 1|5|10|20;--;ada|keeper;ben|keeper;--;1|1|keeper|*|*|*|-25567|2859848;\
              2|1|keeper|*|*|*|-25567|2859848;--;\
-             y2|2;--;maps;--;1|2026/1|maps|y2|10|11|2|300|||0;--;1|data/a|abc;--;1|1|||suit|100|;\
-             --;1|3;--;",
+             y2|2;--;maps;--;1|2026/1|maps|y2|10|11|2|300|||0;--;1|data/a|1|abc;--;1|1|||suit|100|;\
+             --;1|BA7816BF8F01CFEA414140DE5DAE2223B00361A396177A9CB410FF61F20015AD|3;--;",
         ),
         (
             "steps",

@@ -40,3 +40,15 @@ returns-in-Ok-clause-durable_rows g c clean = c.in-Ok.ensures.durable clean
 
 pub returns-in-Err-clause-left_failure : goal.returns-in-Err-clause-left_failure
 returns-in-Err-clause-left_failure g c clean = c.in-Err.ensures.left_failure clean
+
+pub returns-in-Ok-clause-is_open_rows : goal.returns-in-Ok-clause-is_open_rows
+returns-in-Ok-clause-is_open_rows g c clean = c.in-Ok.ensures.is_open clean
+
+pub returns-in-Ok-clause-leaves_rows : goal.returns-in-Ok-clause-leaves_rows
+returns-in-Ok-clause-leaves_rows g c clean = c.in-Ok.ensures.leaves clean
+
+pub returns-in-Err-clause-goes_back_rows : goal.returns-in-Err-clause-goes_back_rows
+returns-in-Err-clause-goes_back_rows g c clean = c.in-Err.ensures.goes_back clean
+
+pub returns-in-Err-clause-refused_leaves_rows : goal.returns-in-Err-clause-refused_leaves_rows
+returns-in-Err-clause-refused_leaves_rows g c clean = c.in-Err.ensures.refused_leaves clean
