@@ -27,7 +27,7 @@ PIECES = ["a", "b", "Z", "0", "-", "_", ".", " ", "  ", "%", "%%", "%2", "%41", 
 def call(*words):
     """What the program prints on standard output, and how it ends. It says why on standard error where it refuses, and nothing else."""
     run = subprocess.run([DEPOT, *words], capture_output=True, timeout=60)
-    if bool(run.stderr) != run.stdout.startswith((b"invalid ", b"unreadable ", b"unpackable ")):
+    if bool(run.stderr) != run.stdout.startswith((b"invalid ", b"unreadable ", b"unpackable ", b"exists")):
         sys.exit(f"{words}: {run.stderr!r}")
     return run.stdout, run.returncode
 

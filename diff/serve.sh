@@ -269,21 +269,24 @@ no_rule() {
 days_and_faults() {
     local missing='the option --day DAY is missing: the policy has version 2, in which rules may count on certain days alone'
     local no_day='DAY is a date such as 2024-03-01, from 1900-01-01 to 9799-12-31' asked
+    local tax='rule 1 of the policy denies it: role archivist, action dispose, collection tax, any class'
+    local drawn='rule 4 of the policy denies it: role archivist, action release, any collection, class drawn'
+    local none='no rule of the policy matches, so it is denied by default'
     prints $'allow rule 5\n' '' 0 explain --day 2023-12-31 "$dated" anna dispose tax drawn
-    prints $'deny rule 1\n' '' 1 explain --day 2024-01-01 "$dated" anna dispose tax drawn
-    prints $'deny rule 1\n' '' 1 explain --day 2024-12-31 "$dated" anna dispose tax drawn
+    prints $'deny rule 1\n' "$tax, from 2024-01-01 to 2024-12-31"$'\n' 1 explain --day 2024-01-01 "$dated" anna dispose tax drawn
+    prints $'deny rule 1\n' "$tax, from 2024-01-01 to 2024-12-31"$'\n' 1 explain --day 2024-12-31 "$dated" anna dispose tax drawn
     prints $'allow rule 5\n' '' 0 explain --day 2025-01-01 "$dated" anna dispose tax drawn
     prints $'allow rule 2\n' '' 0 explain --day 1900-01-01 "$dated" carl list maps drawn
     prints $'allow rule 2\n' '' 0 explain --day 2024-03-01 "$dated" carl list maps drawn
-    prints $'deny default\n' '' 1 explain --day 2024-03-02 "$dated" carl list maps drawn
-    prints $'deny default\n' '' 1 explain --day 2024-12-30 "$dated" carl record maps drawn
+    prints $'deny default\n' "$none"$'\n' 1 explain --day 2024-03-02 "$dated" carl list maps drawn
+    prints $'deny default\n' "$none"$'\n' 1 explain --day 2024-12-30 "$dated" carl record maps drawn
     prints $'allow rule 3\n' '' 0 explain --day 2024-12-31 "$dated" carl record maps drawn
     prints $'allow rule 3\n' '' 0 explain --day 9799-12-31 "$dated" carl record maps drawn
     prints $'allow rule 5\n' '' 0 explain --day 2024-02-29 "$dated" anna release - drawn
-    prints $'deny rule 4\n' '' 1 explain --day 2024-03-01 "$dated" anna release - drawn
+    prints $'deny rule 4\n' "$drawn, from 2024-03-01 to 2024-03-01"$'\n' 1 explain --day 2024-03-01 "$dated" anna release - drawn
     prints $'allow rule 5\n' '' 0 explain --day 2024-03-01 "$dated" anna release maps -
     prints $'allow rule 5\n' '' 0 explain --day 2024-03-02 "$dated" anna release - drawn
-    prints $'deny rule 1\n' '' 1 explain --day 2025-01-01 "$policy" anna dispose tax drawn
+    prints $'deny rule 1\n' "$tax"$'\n' 1 explain --day 2025-01-01 "$policy" anna dispose tax drawn
     prints '' "$missing"$'\n' 2 explain "$dated" anna dispose tax drawn
     for asked in 2024-02-30 1899-12-31 9800-01-01 2024-3-1 ''; do
         prints '' "$no_day"$'\n' 2 explain --day "$asked" "$dated" anna dispose tax drawn

@@ -12,7 +12,7 @@ import sys
 from pathlib import Path
 
 top = Path(sys.argv[1])
-PLACES = {"{manifest}": "NAME", "{path}": "PATH", "{line}": "LINE", "{offset}": "OFFSET", "{number}": "N", "{caller}": "CALLER"}
+PLACES = {"{manifest}": "NAME", "{path}": "PATH", "{line}": "LINE", "{offset}": "OFFSET", "{number}": "N", "{cause}": "CAUSE", "{caller}": "CALLER"}
 CODE = re.compile(r"\((?:[A-Z]+\d* )?([A-Z]+\d*)\)$")
 
 

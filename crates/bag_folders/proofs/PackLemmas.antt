@@ -1,7 +1,8 @@
 -- What is told of a folder that is refused.
-use Rattle.std.proofs.Common.{◌≡◌, inl, inr, ℕ, List, [], ◌∷◌, length, replicate, map, refl, ◌∙◌}
-use Rattle.std.specs.Prelude.{None, Result, Ok, Err, IfErr, IfOk, string_bytes}
+use Rattle.std.proofs.Common.{◌≡◌, inl, inr, ℕ, List, [], ◌∷◌, length, replicate, map, refl, ◌∙◌, ap, sym}
+use Rattle.std.specs.Prelude.{◌||◌, Bool, bytes_eq, None, Result, Ok, Err, IfErr, IfOk, string_bytes}
 use Rattle.std.proofs.Math.ListN.{length-replicate}
+use Rattle.bag_check.specs.Contents.{declaration_path}
 use Rattle.bag_text.specs.TransferForm.{File, IsFormOf}
 use Rattle.bag_folders.specs.declared.failed.Failed.{Failed}
 use Rattle.bag_folders.specs.declared.failed.Failed.TheVariants as failures
@@ -11,7 +12,7 @@ use Rattle.bag_folders.specs.declared.listed.Listed.{Listed}
 use Rattle.bag_folders.specs.declared.packing.Packed.{Packed}
 use Rattle.bag_folders.specs.declared.pack_fault.PackFault.{PackFault}
 use Rattle.bag_folders.specs.declared.pack_fault.PackFault.TheVariants.{Name, Set, Size, Device, Memory}
-use Rattle.bag_folders.specs.Packing.{AreFilesOf, AllFilesOf, AreInPathOrder, HasNoForm, HasNoFormOf, IsFoundUnder, IsPacked, IsPackedOf, IsUnpackable, IsRefusedOf, IsRefusedUnder, MayBeRefused, pack_failed}
+use Rattle.bag_folders.specs.Packing.{AreFilesOf, AllFilesOf, AreInPathOrder, HasNoForm, HasNoFormOf, IsFoundUnder, IsPacked, IsPackedOf, IsUnpackable, IsRefusedOf, IsRefusedUnder, MayBeRefused, pack_failed, is_any_declared, is_declared, paths_found}
 use Rattle.bag_folders.proofs.LoadLemmas.{same_count}
 
 -- ---- files that could be the ones that are listed
@@ -27,7 +28,7 @@ some_files (l ∷ ls) = (refl, length-replicate l.size 0, some_files ls)
 -- ---- what is refused
 
 pub plan_refused : (found : Found) (listed : List Listed) (fault : PackFault) → found.odd ≡ None → AreInPathOrder found.files.items listed → AllFilesOf listed (λ files. HasNoForm files fault) → IsUnpackable found fault
-plan_refused found listed (Name path) odd order none = absurd (none (map filled listed) (some_files listed))
+plan_refused found listed (Name entry) odd order none = absurd (none (map filled listed) (some_files listed))
 plan_refused found listed (Set fault path) odd order none = (odd, (listed, order, none))
 plan_refused found listed Size odd order none = (odd, (listed, order, none))
 plan_refused found listed (Device trouble) odd order none = none (map filled listed) (some_files listed)
@@ -38,7 +39,7 @@ failed_has_none listed (failures.Device trouble) = tt
 failed_has_none listed failures.Memory = tt
 
 has_none : (listed : List Listed) (files : List File) (fault : PackFault) → AreFilesOf listed files → HasNoForm files fault → HasNoFormOf listed fault
-has_none listed files (Name path) are h = absurd h
+has_none listed files (Name odd) are h = absurd h
 has_none listed files (Set fault path) are h = (files, are, h)
 has_none listed files Size are h = (files, are, h)
 has_none listed files (Device trouble) are h = tt
@@ -53,7 +54,7 @@ failed_under lists (failures.Device trouble) = tt
 failed_under lists failures.Memory = tt
 
 refused_under : (lists : List ℕ → List Entry → Type 0) (found : Found) (fault : PackFault) → IsFoundUnder lists found → IsRefusedOf found fault → IsRefusedUnder lists fault
-refused_under lists found (Name path) under h = (found, under, h)
+refused_under lists found (Name odd) under h = (found, under, h)
 refused_under lists found (Set fault path) under h = (found, under, h)
 refused_under lists found Size under h = (found, under, h)
 refused_under lists found (Device trouble) under h = tt
@@ -68,9 +69,16 @@ form_under lists found listed fault under order h = refused_under lists found fa
 
 -- ---- what is packed
 
+same_declared : (ls : List Listed) (fs : List File) → AreFilesOf ls fs → is_any_declared ls ≡ is_declared (paths_found fs)
+same_declared [] [] are = refl
+same_declared [] (f ∷ fs) are = absurd are
+same_declared (l ∷ ls) [] are = absurd are
+same_declared (l ∷ ls) (f ∷ fs) are =
+    ap (λ (path : List ℕ). bytes_eq path declaration_path || is_any_declared ls) (sym are.0) ∙ ap (λ (rest : Bool). bytes_eq f.path declaration_path || rest) (same_declared ls fs are.2)
+
 pub is_packed_of : (found : Found) (packed : Packed) (listed : List Listed) (text : List ℕ) → (found.odd ≡ None) × AreInPathOrder found.files.items listed → packed.files ≡ length listed → packed.bytes ≡ length text
-    → (files : List File) × AreFilesOf listed files × IsFormOf files text → IsPackedOf found packed
-is_packed_of found packed listed text order count bytes h = record {
+    → packed.is_declared ≡ is_any_declared listed → (files : List File) × AreFilesOf listed files × IsFormOf files text → IsPackedOf found packed
+is_packed_of found packed listed text order count bytes declared h = record {
   listed = listed;
   files = h.0;
   text = text;
@@ -80,28 +88,29 @@ is_packed_of found packed listed text order count bytes h = record {
   form = h.2;
   count = count ∙ same_count listed h.0 h.1;
   bytes = bytes;
+  declared = declared ∙ same_declared listed h.0 h.1;
 }
 
 -- ---- whatever is found
 
 pub some_packed : (lists : List ℕ → List Entry → Type 0) (result : Result Packed PackFault) → IfOk result (λ packed. (found : Found) × IsFoundUnder lists found × IsPackedOf found packed) → IfOk result IsPacked
-some_packed lists (Ok packed) h = let it = h.2 in (it.files, it.text, it.form, it.count, it.bytes)
+some_packed lists (Ok packed) h = let it = h.2 in (it.files, it.text, it.form, it.count, it.bytes, it.declared)
 some_packed lists (Err fault) h = tt
 
 of_refused : (found : Found) (fault : PackFault) → IsRefusedOf found fault → MayBeRefused fault
-of_refused found (Name path) (inl h) = inl (found, h)
+of_refused found (Name odd) (inl h) = inl (found, h)
 of_refused found (Set fault path) (inl h) = inl (found, h)
 of_refused found Size (inl h) = inl (found, h)
 of_refused found (Device trouble) (inl h) = tt
 of_refused found Memory (inl h) = inl (found, h)
-of_refused found (Name path) (inr h) = let it = h.3 in inr (it.0, it.2)
+of_refused found (Name odd) (inr h) = let it = h.3 in inr (it.0, it.2)
 of_refused found (Set fault path) (inr h) = let it = h.3 in inr (it.0, it.2)
 of_refused found Size (inr h) = let it = h.3 in inr (it.0, it.2)
 of_refused found (Device trouble) (inr h) = tt
 of_refused found Memory (inr h) = inr ([], tt)
 
 under_refused : (lists : List ℕ → List Entry → Type 0) (fault : PackFault) → IsRefusedUnder lists fault → MayBeRefused fault
-under_refused lists (Name path) h = of_refused h.0 (Name path) h.2
+under_refused lists (Name odd) h = of_refused h.0 (Name odd) h.2
 under_refused lists (Set fault path) h = of_refused h.0 (Set fault path) h.2
 under_refused lists Size h = of_refused h.0 Size h.2
 under_refused lists (Device trouble) h = tt

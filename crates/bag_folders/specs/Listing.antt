@@ -1,5 +1,5 @@
 -- What is found under a folder: the files among the entries that are listed in it and in each folder below it.
-use Rattle.std.specs.Prelude.{◌≡◌, ◌⊎◌, ℕ, List, [], ◌∷◌, ◌++◌, length, ◌==◌, if◌then◌else◌, Option, Some, None, Result, Ok, Err, String, codes, filter_map, flat_map, slice_get, string_bytes}
+use Rattle.std.specs.Prelude.{◌≡◌, ◌≢◌, ◌⊎◌, ℕ, List, [], ◌∷◌, ◌++◌, length, ◌==◌, if◌then◌else◌, Option, Some, None, Result, Ok, Err, String, codes, filter_map, flat_map, slice_get, string_bytes}
 use Rattle.std.specs.Fs.{dir_entry_name}
 use Rattle.std.specs.IoError.{error_kind}
 use Rattle.std.specs.Iterator.{Drains}
@@ -15,6 +15,8 @@ use Rattle.bag_folders.specs.declared.listed.Found.{Found}
 use Rattle.bag_folders.specs.declared.listed.Kind.{Kind}
 use Rattle.bag_folders.specs.declared.listed.Kind.TheVariants.{File, Folder, Odd}
 use Rattle.bag_folders.specs.declared.listed.Listed.{Listed}
+use Rattle.bag_folders.specs.declared.listed.Odd.{Odd as OddEntry}
+use Rattle.fault_words.specs.declared.folder.OddCause.TheVariants.{NotUtf8}
 
 -- the path of a name in a folder, of which either may be empty
 abbrev pub joined : List ℕ → List ℕ → List ℕ
@@ -22,10 +24,10 @@ joined folder name = if length folder == 0 then name else if length name == 0 th
 
 -- ---- one folder
 
--- An entry is told of what the system gave for a name: the name; or that it isn't UTF-8, and then `?` stands for it.
+-- An entry is told of what the system gave for a name: the name; or that it isn't UTF-8, and then, and then alone, that is why the entry is odd, and `?` stands for the name.
 abbrev pub IsToldOf : {R A F D : Type 0} → List ℕ → Result (DirEntry R A F D) Error → Entry → Type 0
-IsToldOf folder (Ok name) entry = string_bytes entry.path ≡ joined folder (dir_entry_name name)
-IsToldOf folder (Err error) entry = (error_kind error ≡ InvalidFilename) × (entry.kind ≡ Odd) × (string_bytes entry.path ≡ joined folder (codes "?"))
+IsToldOf folder (Ok name) entry = (string_bytes entry.path ≡ joined folder (dir_entry_name name)) × (entry.kind ≢ Odd NotUtf8)
+IsToldOf folder (Err error) entry = (error_kind error ≡ InvalidFilename) × (entry.kind ≡ Odd NotUtf8) × (string_bytes entry.path ≡ joined folder (codes "?"))
 
 -- an entry is told of each name that the calls from here give, in this order
 abbrev pub AreToldOf : {S R A F D : Type 0} → (S → Option (Result (DirEntry R A F D) Error) → S → Type 0) → List ℕ → S → List Entry → Type 0
@@ -65,12 +67,12 @@ entry_file path kind = None
 abbrev pub file_listed : Entry → Option Listed
 file_listed entry = entry_file entry.path entry.kind
 
--- the path of an entry that has no place in a form
-abbrev pub odd_of : String Global → Kind → Option (String Global)
-odd_of path Odd = Some path
+-- an entry that has no place in a form
+abbrev pub odd_of : String Global → Kind → Option OddEntry
+odd_of path (Odd cause) = Some (record { path = path; cause = cause })
 odd_of path kind = None
 
-abbrev pub odd_in : Entry → Option (String Global)
+abbrev pub odd_in : Entry → Option OddEntry
 odd_in entry = odd_of entry.path entry.kind
 
 -- the files among the entries, and the first that is odd

@@ -1,7 +1,9 @@
 -- What packing a folder comes to: its files in the order of their paths, and of these the form, or
 -- the first fault.
-use Rattle.std.specs.Prelude.{◌≡◌, ◌≢◌, ◌⊎◌, ℕ, ◌<◌, List, [], ◌∷◌, Option, Some, None, length, map, option_and_then, option_map, slice_get, string_bytes}
+use Rattle.std.specs.Prelude.{◌≡◌, ◌≢◌, ◌⊎◌, ℕ, ◌<◌, Bool, bytes_eq, List, [], ◌∷◌, Option, Some, None, length, map, option_and_then, option_map, slice_get, string_bytes}
+use Rattle.std.specs.List.{list_any}
 use Rattle.std.specs.List.Sorted.{IsPermutation, IsSortedBy}
+use Rattle.bag_check.specs.Contents.{declaration_path}
 use Rattle.bag_text.specs.Paths.{comes_before}
 use Rattle.bag_text.specs.TransferForm.{File, IsBag, IsFormOf, max_form, set_text}
 use Rattle.bag_text.specs.BagList.{ListFault}
@@ -50,6 +52,14 @@ paths_found = map (λ f. f.path)
 abbrev pub listed_paths : List Listed → List (List ℕ)
 listed_paths = map (λ l. string_bytes l.path)
 
+-- a bag's declaration is among files of these paths
+abbrev pub is_declared : List (List ℕ) → Bool
+is_declared paths = list_any (λ path. bytes_eq path declaration_path) paths
+
+-- and among files that are listed
+abbrev pub is_any_declared : List Listed → Bool
+is_any_declared listed = list_any (λ l. bytes_eq (string_bytes l.path) declaration_path) listed
+
 -- ---- what comes of them
 
 -- why there is no form of these files in this order: the first fault of the list, with the path of the file at fault, or else its length
@@ -66,7 +76,7 @@ AllFilesOf listed P = (files : List File) → AreFilesOf listed files → P file
 -- why a folder in which this was found isn't packed, as far as the paths and sizes tell: an odd entry comes
 -- first, by its path
 abbrev pub IsUnpackable : Found → PackFault → Type 0
-IsUnpackable found (Name path) = found.odd ≡ Some path
+IsUnpackable found (Name odd) = found.odd ≡ Some odd
 IsUnpackable found Memory = Unit {0}
 IsUnpackable found (Device trouble) = ⊥
 IsUnpackable found fault =
@@ -78,7 +88,7 @@ IsUnpackable found fault =
 abbrev pub IsFoundUnder : (List ℕ → List Entry → Type 0) → Found → Type 0
 IsFoundUnder lists found = (entries : List Entry) × AreListed lists entries × IsFoundIn entries found
 
--- all that was found are files; and so many files and bytes has the form of them, in the order of their paths
+-- all that was found are files; so many files and bytes has the form of them, in the order of their paths; and it is said whether a declaration is among them
 pub record IsPackedOf (found : Found) (packed : Packed) : Type 0 where
   pub listed : List Listed
   pub files : List File
@@ -89,6 +99,7 @@ pub record IsPackedOf (found : Found) (packed : Packed) : Type 0 where
   pub form : IsFormOf files text
   pub count : packed.files ≡ length files
   pub bytes : packed.bytes ≡ length text
+  pub declared : packed.is_declared ≡ is_declared (paths_found files)
 
 -- what was read of the files that are listed has no form; a device may fail
 abbrev pub HasNoFormOf : List Listed → PackFault → Type 0
@@ -110,9 +121,9 @@ IsRefusedUnder lists fault = (found : Found) × IsFoundUnder lists found × IsRe
 
 -- ---- what is told of a folder, of which no contract says what it holds
 
--- so many files and bytes have some bag and its form
+-- so many files and bytes have some list of files and its form, and a declaration is among them or isn't
 abbrev pub IsPacked : Packed → Type 0
-IsPacked packed = (files : List File) × (text : List ℕ) × IsFormOf files text × (packed.files ≡ length files) × (packed.bytes ≡ length text)
+IsPacked packed = (files : List File) × (text : List ℕ) × IsFormOf files text × (packed.files ≡ length files) × (packed.bytes ≡ length text) × (packed.is_declared ≡ is_declared (paths_found files))
 
 -- something that may be found under a folder is refused so, or files that may be read there have no form; a
 -- device may fail

@@ -1,9 +1,9 @@
 -- What the program says of a folder that was packed and of a form that was unpacked.
-use Rattle.std.specs.Prelude.{◌≡◌, ℕ, ◌++◌, ◌∷◌, [], true, false, List, Option, Some, None, Result, Ok, Err, codes, decimal, option_map, string_bytes}
+use Rattle.std.specs.Prelude.{◌≡◌, ℕ, ◌++◌, ◌∷◌, [], true, false, List, Option, Some, None, Result, Ok, Err, codes, decimal, if◌then◌else◌, option_map, string_bytes}
 use Rattle.bag_text.specs.FaultTexts.{set_fault_text}
 use Rattle.bag_text.specs.declared.set_fault.SetFault.{SetFault}
 use Rattle.bag_check.specs.FaultTexts.{printed_text}
-use Rattle.fault_words.specs.FaultWords.{folder_words, too_large_words, too_long_words, words_of_odd_entry}
+use Rattle.fault_words.specs.FaultWords.{exists_words, folder_words, too_large_words, too_long_words, undeclared_words, words_of_odd_entry}
 use Rattle.fault_words.specs.OtherFiles.{form_lines}
 use Rattle.bag_folders.specs.declared.failed.Failed.{Failed}
 use Rattle.bag_folders.specs.declared.failed.Failed.TheVariants as failures
@@ -19,6 +19,10 @@ use Rattle.bag_folders.specs.declared.unpack_fault.UnpackFault.TheVariants as un
 
 abbrev pub packed_text : Packed → List ℕ
 packed_text packed = codes "packed " ++ decimal packed.files ++ codes " files " ++ (decimal packed.bytes ++ (codes " bytes" ++ 10 ∷ []))
+
+-- that what was packed is no bag yet, a line with its end, where that is so
+abbrev pub packed_reason : Packed → Option (List ℕ)
+packed_reason packed = if packed.is_declared then None else Some (undeclared_words ++ 10 ∷ [])
 
 abbrev pub unpackable_text : List ℕ → List ℕ
 unpackable_text fault = codes "unpackable " ++ fault ++ 10 ∷ []
@@ -48,28 +52,27 @@ files_reason fault (Some path) = file_reason fault path
 
 -- ---- which is said
 
--- this line, and that the work was done
-abbrev pub SaysDone : List ℕ → Said → Type 0
-SaysDone text said = (string_bytes said.text ≡ text) × (said.reason ≡ None) × (said.is_done ≡ true)
+-- this line, this reason where there is one, and that the work was done
+abbrev pub SaysDone : List ℕ → Option (List ℕ) → Said → Type 0
+SaysDone text reason said = (string_bytes said.text ≡ text) × (option_map string_bytes said.reason ≡ reason) × (said.is_done ≡ true)
 
 -- this line, this reason, and that the work wasn't done
 abbrev pub SaysWhy : List ℕ → List ℕ → Said → Type 0
 SaysWhy text reason said = (string_bytes said.text ≡ text) × (option_map string_bytes said.reason ≡ Some reason) × (said.is_done ≡ false)
 
 abbrev pub SaysOfPack : Result Packed PackFault → Said → Type 0
-SaysOfPack (Ok packed) said = SaysDone (packed_text packed) said
-SaysOfPack (Err (packing.Name path)) said = SaysWhy (unpackable_text (codes "NAME")) (line_of (words_of_odd_entry (string_bytes path))) said
+SaysOfPack (Ok packed) said = SaysDone (packed_text packed) (packed_reason packed) said
+SaysOfPack (Err (packing.Name odd)) said = SaysWhy (unpackable_text (codes "NAME")) (line_of (words_of_odd_entry (string_bytes odd.path) odd.cause)) said
 SaysOfPack (Err (packing.Set fault path)) said =
     SaysWhy (unpackable_text (set_fault_text fault)) (files_reason fault (option_map string_bytes path)) said
 SaysOfPack (Err packing.Size) said = SaysWhy (unpackable_text (codes "SIZE")) (line_of too_large_words) said
 SaysOfPack (Err fault) said = ⊥
 
--- that something stands where the folder is to be made needs no other words
 abbrev pub SaysOfUnpack : Result Unpacked UnpackFault → Said → Type 0
-SaysOfUnpack (Ok unpacked) said = SaysDone (unpacked_text unpacked) said
+SaysOfUnpack (Ok unpacked) said = SaysDone (unpacked_text unpacked) None said
 SaysOfUnpack (Err (unpacking.Set fault other)) said = SaysWhy (unread_form_text (set_fault_text fault)) (form_lines fault other) said
 SaysOfUnpack (Err unpacking.Size) said = SaysWhy (unread_form_text (codes "SIZE")) (line_of too_long_words) said
-SaysOfUnpack (Err unpacking.Exists) said = (string_bytes said.text ≡ exists_text) × (said.reason ≡ None) × (said.is_done ≡ false)
+SaysOfUnpack (Err unpacking.Exists) said = SaysWhy exists_text (line_of exists_words) said
 SaysOfUnpack (Err fault) said = ⊥
 
 -- ---- what failed: the device that is told of, or memory

@@ -1,16 +1,18 @@
 //! Folders, and the entries that are listed in them.
 
-ghost use Rattle.std.specs.Prelude.{◌≡◌, ◌++◌, ◌∷◌, ℕ, List, [], ⊤, IsErr, IfErr, IfOk, OnOk, codes, string_bytes};
+ghost use Rattle.std.specs.Prelude.{◌≡◌, ◌≢◌, ◌++◌, ◌∷◌, ℕ, List, [], ⊤, IsErr, IfErr, IfOk, OnOk, codes, string_bytes};
 ghost use Rattle.std.specs.Fs.{IsDir, IsFile, dir_entry_name, file_type, metadata_len};
 ghost use Rattle.std.specs.Iterator.{IsFinite};
 ghost use Rattle.std.specs.IoError.{error_kind};
 ghost use Rattle.std.specs.declared.io.ErrorKind.TheVariants.{InvalidFilename};
+ghost use Rattle.fault_words.specs.declared.folder.OddCause.TheVariants.{NoFile, NotUtf8};
 ghost use Rattle.bag_folders.specs.Listing.{AreToldOf, AreToldOfSome, IsToldOf, joined};
 ghost use Rattle.bag_folders.specs.declared.failed.Failed.{Failed};
 ghost use Rattle.bag_folders.specs.declared.listed.Entry.{Entry};
 
 use crate::failed::{Failed, Tried, failed_at};
 use crate::listed::{Entry, Kind};
+use fault_words::OddCause;
 use std::alloc::{AllocError, Global};
 use std::fs::{DirEntry, Metadata, ReadDir};
 use std::io::ErrorKind;
@@ -57,14 +59,15 @@ fn kind_of(metadata: &Metadata) -> Kind
     ensures file { IsFile (file_type metadata.now)
         → result ≡ Kind.File (metadata_len metadata.now) }
     ensures odd { ¬ (IsDir (file_type metadata.now)) → ¬ (IsFile (file_type metadata.now))
-        → result ≡ Kind.Odd }
+        → result ≡ Kind.Odd NoFile }
+    ensures named { result ≢ Kind.Odd NotUtf8 }
 {
     if metadata.is_dir() {
         Kind::Folder
     } else if metadata.is_file() {
         Kind::File(metadata.len())
     } else {
-        Kind::Odd
+        Kind::Odd(OddCause::NoFile)
     }
 }
 
@@ -74,8 +77,9 @@ fn entry_of<R: Files>(
     folder: &str,
     name: &DirEntry<R, Global>,
 ) -> Result<Entry, Failed>
-    ensures { IfOk result (λ entry.
+    ensures path { IfOk result (λ entry.
         string_bytes entry.path ≡ joined folder.now (dir_entry_name name.now)) }
+    ensures named { IfOk result (λ entry. entry.kind ≢ Kind.Odd NotUtf8) }
 {
     match name.metadata() {
         Ok(metadata) => Ok(Entry {
@@ -90,14 +94,14 @@ fn entry_of<R: Files>(
 /// for it.
 fn unnamed_entry(alloc: Global, path: &str, folder: &str, error: io::Error) -> Result<Entry, Failed>
     ensures { IfOk result (λ entry. (error_kind error ≡ InvalidFilename)
-        × (entry.kind ≡ Kind.Odd) × (string_bytes entry.path ≡ joined folder.now (codes "?"))) }
+        × (entry.kind ≡ Kind.Odd NotUtf8) × (string_bytes entry.path ≡ joined folder.now (codes "?"))) }
 {
     if error.kind() != ErrorKind::InvalidFilename {
         return Err(failed_at(alloc, Tried::List, path, error));
     }
     Ok(Entry {
         path: path_in(alloc, folder, "?")?,
-        kind: Kind::Odd,
+        kind: Kind::Odd(OddCause::NotUtf8),
     })
 }
 

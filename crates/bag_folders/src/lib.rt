@@ -23,7 +23,7 @@ mod unpacking;
 pub use failed::{Failed, Tried, Trouble};
 pub use folders::Folders;
 pub use form::form_of;
-pub use listed::{Entry, Found, Kind, Listed};
+pub use listed::{Entry, Found, Kind, Listed, Odd};
 pub use listing::found_under;
 pub use making::{Maker, folders_of};
 pub use pack_fault::PackFault;

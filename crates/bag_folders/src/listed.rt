@@ -1,5 +1,7 @@
 //! What is found under a folder.
 
+use fault_words::OddCause;
+
 /// An entry of a folder: its path from the first folder on, and what it is.
 #[derive(Debug, Drop)]
 pub struct Entry {
@@ -13,8 +15,15 @@ pub enum Kind {
     /// A file, and how many bytes it has.
     File(u64),
     Folder,
-    /// Neither, or one whose name isn't UTF-8: it has no place in a form.
-    Odd,
+    /// It has no place in a form.
+    Odd(OddCause),
+}
+
+/// An entry that has no place in a form: its path from the first folder on, and why.
+#[derive(Debug, Drop)]
+pub struct Odd {
+    pub path: String,
+    pub cause: OddCause,
 }
 
 /// A file that was found under a folder: its path from the folder on, and how many bytes it has.
@@ -29,6 +38,6 @@ pub struct Listed {
 pub struct Found {
     /// The files, in no order.
     pub files: Vec<Listed>,
-    /// The path of the first entry that has no place in a form.
-    pub odd: Option<String>,
+    /// The first entry that has no place in a form.
+    pub odd: Option<Odd>,
 }

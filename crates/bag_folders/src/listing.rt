@@ -9,7 +9,7 @@ ghost use Rattle.bag_folders.specs.declared.listed.Entry.{Entry};
 
 use crate::failed::Failed;
 use crate::folders::Folders;
-use crate::listed::{Entry, Found, Kind, Listed};
+use crate::listed::{Entry, Found, Kind, Listed, Odd};
 use std::alloc::{AllocError, Global};
 
 /// The entries that an entry leads to: those of a folder.
@@ -21,7 +21,7 @@ fn entries_at<F: Folders>(alloc: Global, folders: &F, entry: &Entry) -> Result<V
 {
     match entry.kind {
         Kind::Folder => folders.list(entry.path.as_str()),
-        Kind::File(_) | Kind::Odd => Ok(Vec::new(alloc)),
+        Kind::File(_) | Kind::Odd(_) => Ok(Vec::new(alloc)),
     }
 }
 
@@ -41,12 +41,12 @@ fn all_entries<F: Folders>(alloc: Global, folders: &F) -> Result<Vec<Entry>, Fai
     Ok(entries)
 }
 
-/// Keeps the first path.
-fn keep_first(odd: &mut Option<String>, path: String)
-    ensures { odd.new ≡ option_or odd.old (Some path) }
+/// Keeps the first entry.
+fn keep_first(odd: &mut Option<Odd>, entry: Odd)
+    ensures { odd.new ≡ option_or odd.old (Some entry) }
 {
     if odd.is_none() {
-        *odd = Some(path);
+        *odd = Some(entry);
     }
 }
 
@@ -63,8 +63,8 @@ fn take_up(found: &mut Found, entry: Entry) -> Result<(), AllocError>
             Ok(())
         }
         Kind::Folder => Ok(()),
-        Kind::Odd => {
-            keep_first(&mut found.odd, path);
+        Kind::Odd(cause) => {
+            keep_first(&mut found.odd, Odd { path, cause });
             Ok(())
         }
     }

@@ -4,15 +4,16 @@ ghost use Rattle.std.specs.Prelude.{◌≡◌, IfOk, option_copied, option_map, 
 ghost use Rattle.bag_folders.specs.Packing.{IsNamedAs, pack_failed, fault_place};
 
 use crate::failed::{Failed, Trouble};
+use crate::listed::Odd;
 use bag_text::SetFault;
 use std::alloc::{AllocError, Global};
 
 /// Why a folder isn't packed.
 #[derive(Debug, Drop, thiserror::Error)]
 pub enum PackFault {
-    /// The entry of this path is neither a file nor a folder, or has a name that isn't UTF-8.
+    /// The entry has no place in a form.
     #[error("NAME")]
-    Name(String),
+    Name(Odd),
     /// The files, in the order of their paths, are no bag. The path is that of the file at fault, where
     /// the fault is one file's.
     #[error("{fault}")]

@@ -3,7 +3,7 @@
 ghost use Rattle.std.specs.Prelude.{◌≡◌, IfOk, IfErr, length, List, ℕ};
 ghost use Rattle.bag_text.specs.TransferForm.{File, IsFormOf, set_text};
 ghost use Rattle.bag_folders.specs.Listing.{AreToldOfSome};
-ghost use Rattle.bag_folders.specs.Packing.{AreFilesOf, HasNoFormOf, IsFoundUnder, IsPacked, IsPackedOf, IsRefusedUnder, MayBeRefused};
+ghost use Rattle.bag_folders.specs.Packing.{AreFilesOf, is_any_declared, HasNoFormOf, IsFoundUnder, IsPacked, IsPackedOf, IsRefusedUnder, MayBeRefused};
 ghost use Rattle.bag_folders.specs.declared.listed.Found.{Found};
 
 use crate::failed::Failed;
@@ -26,6 +26,15 @@ pub struct Packed {
     pub files: usize,
     /// How many bytes the form has.
     pub bytes: usize,
+    /// Whether a `bagit.txt` is among them, without which no bag is.
+    pub is_declared: bool,
+}
+
+/// Whether a bag's declaration is among the files that are listed.
+fn is_declared(files: &[Listed]) -> bool
+    ensures { result ≡ is_any_declared files.now }
+{
+    files.iter().any(|file| file.path.as_str() == "bagit.txt")
 }
 
 /// The form of the files that are listed.
@@ -66,6 +75,7 @@ fn pack_listed<R: Files + AllocGlobal, F: Folders>(
     Ok(Packed {
         files: files.len(),
         bytes: form.len(),
+        is_declared: is_declared(files.as_slice()),
     })
 }
 
@@ -76,7 +86,8 @@ pub fn pack<'a, R: Files + AllocGlobal>(
     folder: &'a str,
     file: &str,
 ) -> Result<Packed, PackFault>
-    // What is packed is the form of some bag, of so many files and bytes.
+    // What is packed is the form of some list of files, of so many files and bytes, and it is said whether
+    // a declaration is among them.
     ensures packed { IfOk result IsPacked }
     // It has all that the system lists under the folder.
     ensures listed { IfOk result (λ packed. (found : Found)

@@ -23,7 +23,7 @@ pub fn plan(alloc: Global, found: Found) -> Result<Vec<Listed>, PackFault>
 {
     let Found { files, odd } = found;
     match odd {
-        Some(path) => return Err(PackFault::Name(path)),
+        Some(entry) => return Err(PackFault::Name(entry)),
         None => {}
     }
     let files = in_order(files);

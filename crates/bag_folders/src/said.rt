@@ -1,16 +1,20 @@
 //! What the program says of a folder that was packed, and of a form that was unpacked.
 
 ghost use Rattle.std.specs.Prelude.{◌≡◌, IfOk, IfErr, None, codes, option_map, string_bytes};
-ghost use Rattle.bag_folders.specs.Saying.{SaysOfPack, SaysOfUnpack, SaysWhy, PackFails, UnpackFails, file_reason, files_reason, line_of, packed_text, unpackable_text, unpacked_text};
+ghost use Rattle.bag_folders.specs.Saying.{SaysOfPack, SaysOfUnpack, SaysWhy, PackFails, UnpackFails, file_reason, files_reason, line_of, packed_reason, packed_text, unpackable_text, unpacked_text};
 ghost use Rattle.fault_words.specs.FaultWords.{words_of_odd_entry};
 
 use crate::failed::Failed;
+use crate::listed::Odd;
 use crate::pack_fault::PackFault;
 use crate::packing::Packed;
 use crate::unpack_fault::UnpackFault;
 use crate::unpacking::Unpacked;
 use bag_text::SetFault;
-use fault_words::{Escaped, OddEntry, folder_words, form_lines, too_large_words, too_long_words};
+use fault_words::{
+    Escaped, OddEntry, exists_words, folder_words, form_lines, too_large_words, too_long_words,
+    undeclared_words,
+};
 use std::alloc::{AllocError, Global};
 use std::fmt::Write;
 
@@ -27,10 +31,21 @@ pub struct Said {
 fn packed_line(alloc: Global, packed: Packed) -> Result<String, AllocError>
     ensures { IfOk result (λ line. string_bytes line ≡ packed_text packed) }
 {
-    let Packed { files, bytes } = packed;
+    let Packed { files, bytes, .. } = packed;
     let mut line = format!(in alloc; "packed {files} files ")?;
     write!(line, "{bytes} bytes\n")?;
     Ok(line)
+}
+
+/// That what was packed is no bag yet, where that is so.
+fn packed_reason(alloc: Global, packed: Packed) -> Result<Option<String>, AllocError>
+    ensures { IfOk result (λ reason. option_map string_bytes reason ≡ packed_reason packed) }
+{
+    if packed.is_declared {
+        return Ok(None);
+    }
+    let words = undeclared_words();
+    Ok(Some(format!(in alloc; "{words}\n")?))
 }
 
 /// The line of a form that was unpacked.
@@ -78,11 +93,14 @@ fn refusal_said(alloc: Global, line: &str, words: &str) -> Result<Said, AllocErr
 }
 
 /// What is said of a folder with an entry that has no place in a form.
-fn odd_entry_said(alloc: Global, path: &str) -> Result<Said, AllocError>
+fn odd_entry_said(alloc: Global, odd: &Odd) -> Result<Said, AllocError>
     ensures { IfOk result (SaysWhy (unpackable_text (codes "NAME"))
-        (line_of (words_of_odd_entry path.now))) }
+        (line_of (words_of_odd_entry (string_bytes odd.now.path) odd.now.cause))) }
 {
-    let entry = OddEntry(path);
+    let entry = OddEntry {
+        path: odd.path.as_str(),
+        cause: odd.cause,
+    };
     Ok(Said {
         text: String::from_str(alloc, "unpackable NAME\n")?,
         reason: Some(format!(in alloc; "{entry}\n")?),
@@ -100,10 +118,10 @@ pub fn pack_said(alloc: Global, packing: Result<Packed, PackFault>) -> Result<Sa
     match packing {
         Ok(packed) => Ok(Said {
             text: packed_line(alloc, packed)?,
-            reason: None,
+            reason: packed_reason(alloc, packed)?,
             is_done: true,
         }),
-        Err(PackFault::Name(path)) => Ok(odd_entry_said(alloc, path.as_str())?),
+        Err(PackFault::Name(odd)) => Ok(odd_entry_said(alloc, &odd)?),
         Err(PackFault::Set { fault, path }) => Ok(Said {
             text: format!(in alloc; "unpackable {fault}\n")?,
             reason: Some(files_reason(alloc, fault, &path)?),
@@ -134,11 +152,7 @@ pub fn unpack_said(alloc: Global, unpacking: Result<Unpacked, UnpackFault>) -> R
             is_done: false,
         }),
         Err(UnpackFault::Size) => Ok(refusal_said(alloc, "unreadable SIZE\n", too_long_words())?),
-        Err(UnpackFault::Exists) => Ok(Said {
-            text: String::from_str(alloc, "exists\n")?,
-            reason: None,
-            is_done: false,
-        }),
+        Err(UnpackFault::Exists) => Ok(refusal_said(alloc, "exists\n", exists_words())?),
         Err(UnpackFault::Device(trouble)) => Err(Failed::Device(trouble)),
         Err(UnpackFault::Memory) => Err(Failed::Memory),
     }

@@ -20,6 +20,7 @@ pub mod ManifestLineLemmas
 pub mod ManifestEntryLemmas
 pub mod ManifestReadLemmas
 pub mod ManifestLaws
+pub mod PathCauseLemmas
 pub mod FaultLemmas
 pub mod TableLemmas
 pub mod RefusalLemmas

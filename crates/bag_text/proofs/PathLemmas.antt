@@ -24,14 +24,14 @@ none_any p [] each = refl
 none_any p (y ∷ ys) each = or_from (p y) (list_any p ys) (each y (zero, omega arith, refl)) (none_any p ys (λ x h. each x (suc h.0, omega (arith, h.1), h.2)))
 
 -- no row of the faults stands
-record NoRow (path : List ℕ) : Type 0 where
-  some : path_has path Empty ≡ false
-  short : path_has path TooLong ≡ false
-  full : path_has path EmptySegment ≡ false
-  no_dots : path_has path DotSegment ≡ false
-  no_nul : path_has path Nul ≡ false
+pub record NoRow (path : List ℕ) : Type 0 where
+  pub some : path_has path Empty ≡ false
+  pub short : path_has path TooLong ≡ false
+  pub full : path_has path EmptySegment ≡ false
+  pub no_dots : path_has path DotSegment ≡ false
+  pub no_nul : path_has path Nul ≡ false
 
-rows_none : (path : List ℕ) → path_fault path ≡ None → NoRow path
+pub rows_none : (path : List ℕ) → path_fault path ≡ None → NoRow path
 rows_none path e = by_rows (path_has path Empty) (path_has path TooLong) (path_has path EmptySegment) (path_has path DotSegment) (path_has path Nul) refl refl refl refl refl e
   where
     by_rows : (a b c d f : Bool) → path_has path Empty ≡ a → path_has path TooLong ≡ b → path_has path EmptySegment ≡ c → path_has path DotSegment ≡ d → path_has path Nul ≡ f
@@ -43,7 +43,7 @@ rows_none path e = by_rows (path_has path Empty) (path_has path TooLong) (path_h
     by_rows false false false false true p q r s t e = absurd cc
     by_rows false false false false false p q r s t e = record { some = p; short = q; full = r; no_dots = s; no_nul = t }
 
-none_rows : (path : List ℕ) → NoRow path → path_fault path ≡ None
+pub none_rows : (path : List ℕ) → NoRow path → path_fault path ≡ None
 none_rows path h = rw (h.some, h.short, h.full, h.no_dots, h.no_nul) refl
 
 apart : (a b : List ℕ) → bytes_eq a b ≡ false → a ≢ b

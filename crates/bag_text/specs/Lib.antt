@@ -7,6 +7,7 @@ pub mod Declaration
 pub mod DeclarationReading
 pub mod Manifest
 pub mod ManifestReading
+pub mod PathCauses
 pub mod BagInfo
 pub mod InfoReading
 pub mod TransferForm

@@ -1,6 +1,6 @@
 -- The lines of a text, as of each tag file (RFC 8493, section 2.3): a line ends at LF, at CR or at
 -- CRLF, which is one end. After the last end an empty rest is no line, so the last line may lack its end.
-use Rattle.std.specs.Prelude.{◌≡◌, ℕ, Bool, false, List, [], ◌∷◌, ◌++◌, ◌==◌, ◌&&◌, ◌||◌, ◌⊎◌, ◌≢◌, if◌then◌else◌}
+use Rattle.std.specs.Prelude.{◌≡◌, ℕ, ◌-◌, Bool, false, Option, None, slice_get, List, [], ◌∷◌, ◌++◌, ◌==◌, ◌&&◌, ◌||◌, ◌⊎◌, ◌≢◌, if◌then◌else◌}
 use Rattle.std.specs.List.{list_any, onto_first}
 use Rattle.bag_text.specs.Text.{begins_with}
 
@@ -38,3 +38,7 @@ lines (b ∷ t) =
     if b == 13 && begins_with 10 t then lines t
     else if is_end b then [] ∷ lines t
     else onto_first b (lines t)
+
+-- the line of this number, from 1, where the text has so many
+abbrev pub numbered_line : List ℕ → ℕ → Option (List ℕ)
+numbered_line text number = if number == 0 then None else slice_get (lines text) (number - 1)

@@ -135,6 +135,10 @@ path_text line = skip_blanks (drop (position_or_len is_blank line) line)
 abbrev pub has_checksum : Algorithm → List ℕ → Bool
 has_checksum a line = is_ok (decode_sized (sum_text line) (size_of a))
 
+-- the spelled path begins with `*`, or the path that it spells isn't good
+abbrev pub IsNoGoodPath : Version → List ℕ → Type 0
+IsNoGoodPath v spelled = (begins_with 42 spelled ≡ true) ⊎ ((path : List ℕ) × Spells v spelled path × (GoodPath path → ⊥))
+
 -- a line that is reached: the text is UTF-8 without a byte order mark, and no line before is at fault
 pub record IsReached (v : Version) (a : Algorithm) (text : List ℕ) (number : ℕ) (line : List ℕ) : Type 0 where
   pub utf8 : is_utf8 text ≡ true
@@ -150,8 +154,7 @@ ManifestFault v a text ByteOrderMark = (is_utf8 text ≡ true) × (has_mark text
 ManifestFault v a text (BadChecksum number) = (line : List ℕ) × IsReached v a text number line × (has_checksum a line ≡ false)
 ManifestFault v a text (NoPath number) = (line : List ℕ) × IsReached v a text number line × (has_checksum a line ≡ true) × (path_text line ≡ [])
 ManifestFault v a text (BadPath number) =
-    (line : List ℕ) × IsReached v a text number line × (has_checksum a line ≡ true) × (path_text line ≢ [])
-    × ((begins_with 42 (path_text line) ≡ true) ⊎ ((path : List ℕ) × Spells v (path_text line) path × (GoodPath path → ⊥)))
+    (line : List ℕ) × IsReached v a text number line × (has_checksum a line ≡ true) × (path_text line ≢ []) × IsNoGoodPath v (path_text line)
 ManifestFault v a text (ListedTwice number) =
     (line : List ℕ) × IsReached v a text number line
     × ((first : ℕ) × (path : List ℕ) × (one : List ℕ) × (two : List ℕ) × (first < number) × ListsOn (as_manifest v a text) first path one × IsEntry v a line path two)

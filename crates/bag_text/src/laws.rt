@@ -1,12 +1,12 @@
 //! Laws of the definitions alone.
 
-ghost use Rattle.std.specs.Prelude.{◌≡◌, ℕ, Bool, List, [], ◌++◌, ◌⊎◌, ◌↔◌, true, Some, None, Ok, Err, Contains};
+ghost use Rattle.std.specs.Prelude.{◌≡◌, ℕ, Bool, List, [], ◌++◌, ◌⊎◌, ◌↔◌, true, false, Some, None, Ok, Err, Contains};
 ghost use Rattle.std.specs.Str.{is_utf8};
 ghost use Rattle.bag_text.specs.Lines.{AreLines, lines};
 ghost use Rattle.bag_text.specs.Paths.{GoodPath, is_good, path_fault};
 ghost use Rattle.bag_text.specs.Declaration.{Declares, declaration_fault};
 ghost use Rattle.bag_text.specs.DeclarationReading.{declaration_of};
-ghost use Rattle.bag_text.specs.Manifest.{Spells, decode, IsManifest, ManifestFault, as_manifest, LineLists};
+ghost use Rattle.bag_text.specs.Manifest.{Spells, decode, has_coded, IsManifest, ManifestFault, as_manifest, LineLists};
 ghost use Rattle.bag_text.specs.ManifestReading.{Entries, manifest_of};
 ghost use Rattle.bag_text.specs.BagInfo.{Pair, SaysInfo, InfoFaultIs};
 ghost use Rattle.bag_text.specs.InfoReading.{info_of};
@@ -19,6 +19,7 @@ ghost use Rattle.bag_text.specs.declared.checksum.Algorithm.{Algorithm};
 ghost use Rattle.bag_text.specs.declared.checksum.Checksum.{Checksum};
 ghost use Rattle.bag_text.specs.declared.declaration.DeclFault.{DeclFault};
 ghost use Rattle.bag_text.specs.declared.declaration.Version.{Version};
+ghost use Rattle.bag_text.specs.declared.declaration.Version.TheVariants.{V0_97};
 ghost use Rattle.bag_text.specs.declared.listing.LineFault.{LineFault};
 ghost use Rattle.bag_text.specs.declared.set_fault.SetFault.{SetFault};
 
@@ -77,6 +78,12 @@ pub fn good_paths()
 /// A text spells a path exactly where it is decoded to it, so each spells one.
 pub fn one_path()
     ensures { (v : Version) (s p : List ℕ) → Spells v s p ↔ (decode v s ≡ p) }
+{}
+
+/// A path that a manifest of version 0.97 lists has no `%0A` or `%0D` in it: there these three characters always stand
+/// for the end of a line.
+pub fn coded_names()
+    ensures { (s p : List ℕ) → Spells V0_97 s p → has_coded V0_97 p ≡ false }
 {}
 
 /// A text declares a version exactly where reading it answers that version, and where it declares none, reading answers

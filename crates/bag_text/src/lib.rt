@@ -3,6 +3,7 @@
 
 mod bag_info;
 mod bag_list;
+mod causes;
 mod checksum;
 mod clash;
 mod declaration;
@@ -22,11 +23,13 @@ mod transfer;
 mod write;
 
 pub use bag_info::{BagInfo, InfoFault};
+pub use causes::{PathCause, path_cause};
 pub use checksum::{Algorithm, Checksum};
 pub use declaration::{DeclFault, Version, read_declaration};
 pub use info::read_bag_info;
+pub use lines::line_at;
 pub use listing::{LineFault, Listing, Manifest};
-pub use manifest::read_manifest;
+pub use manifest::{has_coded, read_manifest};
 pub use path::{BagPath, MAX_PATH, PathFault};
 pub use set::{BagSet, read_bagset};
 pub use set_fault::SetFault;

@@ -60,7 +60,7 @@ fn read_char<'a>(version: Version, spelled: &'a [u8]) -> Option<(u8, &'a [u8])>
 }
 
 /// The path that is spelled so.
-fn decode(alloc: Global, version: Version, spelled: &[u8]) -> Result<Vec<u8>, AllocError>
+pub fn decode(alloc: Global, version: Version, spelled: &[u8]) -> Result<Vec<u8>, AllocError>
     ensures { IfOk result (λ v. v.items ≡ decode version spelled.now) }
 {
     let mut path = Vec::new(alloc);
@@ -72,8 +72,8 @@ fn decode(alloc: Global, version: Version, spelled: &[u8]) -> Result<Vec<u8>, Al
     Ok(path)
 }
 
-/// Whether some place of a text begins a coded triple.
-fn has_coded(version: Version, text: &[u8]) -> bool
+/// Whether some place of a text begins a coded triple: `%0A`, `%0D`, or in version 1.0 `%25`.
+pub fn has_coded(version: Version, text: &[u8]) -> bool
     ensures { result ≡ has_coded version text.now }
 {
     let mut rest = text;
@@ -86,7 +86,7 @@ fn has_coded(version: Version, text: &[u8]) -> bool
     false
 }
 
-fn is_starred(text: &[u8]) -> bool
+pub fn is_starred(text: &[u8]) -> bool
     ensures { result ≡ begins_with 42 text.now }
 {
     matches!(text, [b'*', ..])
@@ -154,7 +154,7 @@ fn read_checksum(algorithm: Algorithm, digits: &[u8]) -> Option<Checksum>
 }
 
 /// How many bytes stand before the first blank.
-fn sum_len(line: &[u8]) -> usize
+pub fn sum_len(line: &[u8]) -> usize
     ensures { result ≡ position_or_len is_blank line.now }
 {
     line.iter()

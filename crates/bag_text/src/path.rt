@@ -47,7 +47,7 @@ fn is_dots(segment: &[u8]) -> bool
     matches!(segment, b"." | b"..")
 }
 
-fn has_empty_segment(path: &[u8]) -> bool
+pub fn has_empty_segment(path: &[u8]) -> bool
     ensures { result ≡ list_any (λ s. length s == 0) (segments path.now) }
 {
     path.split(|b| *b == b'/').any(|s| s.is_empty())
@@ -59,7 +59,7 @@ fn has_dot_segment(path: &[u8]) -> bool
     path.split(|b| *b == b'/').any(|s| is_dots(s))
 }
 
-fn has_nul(path: &[u8]) -> bool
+pub fn has_nul(path: &[u8]) -> bool
     ensures { result ≡ list_any (λ b. b == 0) path.now }
 {
     path.iter().any(|b| *b == 0)

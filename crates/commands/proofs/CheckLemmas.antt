@@ -35,7 +35,7 @@ says_valid files report (Ok outcome) is counts prints =
     valid report.version is (subst (λ (counted : Report). SaysValid counted outcome) counts prints)
 
 pub says_invalid : (files : List File) (fault : BagFault) (r : Answer) → (fault ≡ faults.Memory) ⊎ NamesFirst files fault
-    → (fault ≡ faults.Memory → IsErr r) → IfOk r (λ outcome. (first : Fault) → named_fault fault ≡ Some first → SaysInvalid first outcome)
+    → (fault ≡ faults.Memory → IsErr r) → IfOk r (λ outcome. (first : Fault) → named_fault fault ≡ Some first → SaysInvalid files first outcome)
     → IfOk r (SaysOfBag files)
 says_invalid files fault (Err e) named memory prints = tt
 says_invalid files fault (Ok outcome) (inl is) memory prints = let refused = memory is in absurd cc
@@ -62,10 +62,10 @@ valid_here files v outcome is ok (valid w ok_too prints) =
 valid_here files v outcome is ok (invalid fault first prints) = absurd (none_stands files is v ok fault first.0)
 
 invalid_here : (files : List File) (fault : Fault) (outcome : Outcome) → IsBag files → FirstFault files fault → SaysOfBag files outcome
-    → SaysInvalid fault outcome
+    → SaysInvalid files fault outcome
 invalid_here files fault outcome is first (valid w ok prints) = absurd (none_stands files is w ok fault first.0)
 invalid_here files fault outcome is first (invalid other first_too prints) =
-    subst (λ (f : Fault). SaysInvalid f outcome) (one_first_fault files is other fault first_too first) prints
+    subst (λ (f : Fault). SaysInvalid files f outcome) (one_first_fault files is other fault first_too first) prints
 
 -- bytes are the form of one bag
 one_bag : (bytes : List ℕ) (a b : List File) → IsFormOf a bytes → IsFormOf b bytes → a ≡ b
@@ -83,7 +83,7 @@ valid_is_said bytes (Ok outcome) (of_bag found found_of says) files v of ok =
     valid_here files v outcome of.bag ok (subst (λ (bag : List File). SaysOfBag bag outcome) (one_bag bytes found files found_of of) says)
 
 pub invalid_is_said : (bytes : List ℕ) (r : Answer) → IfOk r (SaysOfBytes bytes) → (files : List File) (fault : Fault) → IsFormOf files bytes → FirstFault files fault
-    → IfOk r (SaysInvalid fault)
+    → IfOk r (SaysInvalid files fault)
 invalid_is_said bytes (Err e) says files fault of first = tt
 invalid_is_said bytes (Ok outcome) (too_long long prints) files fault of first = let short = of.short in absurd (omega arith)
 invalid_is_said bytes (Ok outcome) (unreadable other few is prints) files fault of first = absurd (never_both bytes files other of is)

@@ -23,12 +23,12 @@ Answer = Result Outcome AllocError
 
 -- what is said on a policy where this decides
 abbrev SaysOn : PolicyValue → Asked → Option Decision → Outcome → Type 0
-SaysOn policy asked decision outcome = SaysDecision (unlisted_line policy asked.caller.now) decision outcome
+SaysOn policy asked decision outcome = SaysDecision policy (unlisted_line policy asked.caller.now) decision outcome
 
 -- ---- what the steps say
 
 by_rule : (bytes : List ℕ) (asked : Asked) (outcome : Outcome) (policy : PolicyValue) (day : Date) (rule : ℕ) (effect : Effect) → SpellsPolicyBytes bytes policy → IsOnDay bytes asked day
-    → decision_on policy asked day ≡ Some (record { rule = rule; effect = effect }) → SaysRule (unlisted_line policy asked.caller.now) rule effect outcome → Explains bytes asked outcome
+    → decision_on policy asked day ≡ Some (record { rule = rule; effect = effect }) → SaysRule policy (unlisted_line policy asked.caller.now) rule effect outcome → Explains bytes asked outcome
 by_rule bytes asked outcome policy day rule Allow spells on by says = allowed policy day rule spells on by says
 by_rule bytes asked outcome policy day rule Deny spells on by says = denied policy day rule spells on by says
 

@@ -10,7 +10,8 @@ use Rattle.bag_text.specs.declared.set_fault.SetFault.{SetFault}
 use Rattle.bag_check.specs.Validity.{Report, Valid, report_of}
 use Rattle.bag_check.specs.Faults.{Fault, FirstFault}
 use Rattle.bag_check.specs.FaultTexts.{fault_text}
-use Rattle.fault_words.specs.FaultWords.{bag_words, too_long_words}
+use Rattle.fault_words.specs.BagReasons.{bag_lines}
+use Rattle.fault_words.specs.FaultWords.{too_long_words}
 use Rattle.fault_words.specs.OtherFiles.{form_lines, hint_for}
 use Rattle.commands.specs.declared.ending.Ending.TheVariants.{Accepted, Refused}
 use Rattle.commands.specs.declared.outcome.Outcome.{Outcome}
@@ -40,10 +41,10 @@ unreadable_text fault = codes "unreadable " ++ set_fault_text fault ++ 10 ∷ []
 abbrev pub too_long_text : List ℕ
 too_long_text = codes "unreadable SIZE" ++ 10 ∷ []
 
--- ---- the reasons that standard error is told: the fault in words, each a line with its end
+-- ---- the reasons that standard error is told: the fault in words, each in lines with their ends
 
-abbrev pub invalid_reason : Fault → List ℕ
-invalid_reason fault = bag_words fault ++ 10 ∷ []
+abbrev pub invalid_reason : List File → Fault → List ℕ
+invalid_reason files fault = bag_lines files fault
 
 abbrev pub unreadable_reason : List ℕ → SetFault → List ℕ
 unreadable_reason bytes fault = form_lines fault (hint_for fault bytes)
@@ -57,9 +58,9 @@ too_long_reason = too_long_words ++ 10 ∷ []
 abbrev pub SaysValid : Report → Outcome → Type 0
 SaysValid report outcome = Prints outcome (valid_text report) None Accepted
 
--- of a bag with this fault
-abbrev pub SaysInvalid : Fault → Outcome → Type 0
-SaysInvalid fault outcome = Prints outcome (invalid_text fault) (Some (invalid_reason fault)) Refused
+-- of a bag of these files with this fault
+abbrev pub SaysInvalid : List File → Fault → Outcome → Type 0
+SaysInvalid files fault outcome = Prints outcome (invalid_text fault) (Some (invalid_reason files fault)) Refused
 
 -- of bytes that are no form, and have this fault
 abbrev pub SaysUnreadable : List ℕ → SetFault → Outcome → Type 0
@@ -74,7 +75,7 @@ SaysTooLong outcome = Prints outcome too_long_text (Some too_long_reason) Refuse
 -- What is said of a bag: that it is valid, or its first fault.
 pub data SaysOfBag (files : List File) (outcome : Outcome) : Type 0 where
   valid : (v : Version) → Valid files v → SaysValid (report_of v files) outcome → SaysOfBag files outcome
-  invalid : (fault : Fault) → FirstFault files fault → SaysInvalid fault outcome → SaysOfBag files outcome
+  invalid : (fault : Fault) → FirstFault files fault → SaysInvalid files fault outcome → SaysOfBag files outcome
 
 -- What is said of bytes: that they are too many, that they are no form and why, or what is said of the bag.
 pub data SaysOfBytes (bytes : List ℕ) (outcome : Outcome) : Type 0 where

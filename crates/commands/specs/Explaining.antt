@@ -1,6 +1,8 @@
 -- What `explain` prints of a policy file, what it tells standard error, and how it ends.
-use Rattle.std.specs.Prelude.{◌≡◌, ◌⊎◌, ℕ, Bool, true, false, List, [], ◌∷◌, ◌++◌, Option, Some, None, Ok, Err, IsUtf8, bytes_eq, codes, decimal, if◌then◌else◌}
+use Rattle.std.specs.Prelude.{◌≡◌, ◌⊎◌, ℕ, ◌-◌, slice_get, Bool, true, false, List, [], ◌∷◌, ◌++◌, Option, Some, None, Ok, Err, IsUtf8, bytes_eq, codes, decimal, if◌then◌else◌}
 use Rattle.std.specs.List.{list_any}
+use Rattle.std.specs.Option.{option_map_or}
+use Rattle.fault_words.specs.Denials.{denial_words, undecided_words}
 use Rattle.fault_words.specs.FaultWords.{missing_day_words, unlisted_words}
 use Rattle.fault_words.specs.PolicyReasons.{IsPolicyReason}
 use Rattle.jiff.specs.Types.{Date}
@@ -41,6 +43,28 @@ is_caller_listed policy name = list_any (λ caller. bytes_eq caller.name name) p
 -- that the policy doesn't list the caller, where that is so
 abbrev pub unlisted_line : PolicyValue → List ℕ → Option (List ℕ)
 unlisted_line policy name = if is_caller_listed policy name then None else Some (unlisted_words name ++ 10 ∷ [])
+
+-- ---- what standard error is told of a denial, a line with its end
+
+-- the rule of this number, from 1
+abbrev pub denial_line : PolicyValue → ℕ → List ℕ
+denial_line policy number = option_map_or (λ rule. denial_words number rule ++ 10 ∷ []) (slice_get policy.rules (number - 1)) []
+
+-- that no rule matches
+abbrev pub default_line : List ℕ
+default_line = undecided_words ++ 10 ∷ []
+
+-- a line after the one before it, where there is one
+abbrev pub with_line : Option (List ℕ) → List ℕ → List ℕ
+with_line None line = line
+with_line (Some before) line = before ++ line
+
+-- the same after what is told of the caller
+abbrev pub denied_lines : PolicyValue → List ℕ → ℕ → List ℕ
+denied_lines policy caller rule = with_line (unlisted_line policy caller) (denial_line policy rule)
+
+abbrev pub default_lines : PolicyValue → List ℕ → List ℕ
+default_lines policy caller = with_line (unlisted_line policy caller) default_line
 
 -- ---- the file
 
@@ -85,15 +109,15 @@ IsUndecided policy asked day = decision_on policy asked day ≡ None
 
 -- ---- what is said
 
--- what is said where a rule with this number decides by this effect, with what standard error is told
-abbrev pub SaysRule : Option (List ℕ) → ℕ → Effect → Outcome → Type 0
-SaysRule told rule Allow outcome = Prints outcome (allow_text rule) told Accepted
-SaysRule told rule Deny outcome = Prints outcome (deny_text rule) told Refused
+-- what is said where the policy's rule with this number decides by this effect, with what standard error is told anyway
+abbrev pub SaysRule : PolicyValue → Option (List ℕ) → ℕ → Effect → Outcome → Type 0
+SaysRule policy told rule Allow outcome = Prints outcome (allow_text rule) told Accepted
+SaysRule policy told rule Deny outcome = Prints outcome (deny_text rule) (Some (with_line told (denial_line policy rule))) Refused
 
 -- what is said where this rule decides, or none
-abbrev pub SaysDecision : Option (List ℕ) → Option Decision → Outcome → Type 0
-SaysDecision told None outcome = Prints outcome default_text told Refused
-SaysDecision told (Some decision) outcome = SaysRule told decision.rule decision.effect outcome
+abbrev pub SaysDecision : PolicyValue → Option (List ℕ) → Option Decision → Outcome → Type 0
+SaysDecision policy told None outcome = Prints outcome default_text (Some (with_line told default_line)) Refused
+SaysDecision policy told (Some decision) outcome = SaysRule policy told decision.rule decision.effect outcome
 
 -- what is said of the bytes of a file that is none: their fault, with its reason
 abbrev pub SaysBadPolicy : List ℕ → PolicyFault → Outcome → Type 0
@@ -106,7 +130,7 @@ SaysDayMissing outcome = Prints outcome [] (Some (missing_day_words ++ 10 ∷ []
 -- What is said of a file: the rule that decides, that none does, that a day is missing, or the file's fault.
 pub data Explains (bytes : List ℕ) (asked : Asked) (outcome : Outcome) : Type 0 where
   allowed : (policy : PolicyValue) (day : Date) (rule : ℕ) → SpellsPolicyBytes bytes policy → IsOnDay bytes asked day → IsAllowedBy policy asked day rule → Prints outcome (allow_text rule) (unlisted_line policy asked.caller.now) Accepted → Explains bytes asked outcome
-  denied : (policy : PolicyValue) (day : Date) (rule : ℕ) → SpellsPolicyBytes bytes policy → IsOnDay bytes asked day → IsDeniedBy policy asked day rule → Prints outcome (deny_text rule) (unlisted_line policy asked.caller.now) Refused → Explains bytes asked outcome
-  by_default : (policy : PolicyValue) (day : Date) → SpellsPolicyBytes bytes policy → IsOnDay bytes asked day → IsUndecided policy asked day → Prints outcome default_text (unlisted_line policy asked.caller.now) Refused → Explains bytes asked outcome
+  denied : (policy : PolicyValue) (day : Date) (rule : ℕ) → SpellsPolicyBytes bytes policy → IsOnDay bytes asked day → IsDeniedBy policy asked day rule → Prints outcome (deny_text rule) (Some (denied_lines policy asked.caller.now rule)) Refused → Explains bytes asked outcome
+  by_default : (policy : PolicyValue) (day : Date) → SpellsPolicyBytes bytes policy → IsOnDay bytes asked day → IsUndecided policy asked day → Prints outcome default_text (Some (default_lines policy asked.caller.now)) Refused → Explains bytes asked outcome
   undated : (policy : PolicyValue) → SpellsPolicyBytes bytes policy → WantsDay bytes asked → SaysDayMissing outcome → Explains bytes asked outcome
   refused : (fault : PolicyFault) → HasFault bytes fault → SaysBadPolicy bytes fault outcome → Explains bytes asked outcome

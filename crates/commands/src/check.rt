@@ -17,7 +17,7 @@ use crate::outcome::Outcome;
 use crate::trouble::Trouble;
 use bag_check::{BagFault, BagReport, check_bag};
 use bag_text::{BagSet, MAX_FORM, SetFault, read_bagset};
-use fault_words::{InWords, form_lines, hint_for, too_long_words};
+use fault_words::{bag_lines, form_lines, hint_for, too_long_words};
 use std::alloc::{AllocError, Global};
 use std::fmt::Write;
 use std::io::Read;
@@ -44,19 +44,22 @@ fn valid_outcome(alloc: Global, report: BagReport) -> Result<Outcome, AllocError
 }
 
 /// The line of a bag that isn't valid.
-fn invalid_outcome(alloc: Global, fault: &BagFault<'_>) -> Result<Outcome, AllocError>
+fn invalid_outcome(
+    alloc: Global,
+    bag: &BagSet<'_>,
+    fault: &BagFault<'_>,
+) -> Result<Outcome, AllocError>
     ensures memory { fault.now ≡ Memory → IsErr result }
     ensures says { IfOk result (λ outcome. (first : Fault) → named_fault fault.now ≡ Some first
-        → SaysInvalid first outcome) }
+        → SaysInvalid bag.now first outcome) }
 {
     if matches!(fault, BagFault::Memory) {
         return Err(AllocError);
     }
     let text = format!(in alloc; "invalid {fault}\n")?;
-    let words = InWords(fault);
     Ok(Outcome {
         text,
-        reason: Some(format!(in alloc; "{words}\n")?),
+        reason: Some(bag_lines(alloc, bag, fault)?),
         ending: Ending::Refused,
     })
 }
@@ -96,7 +99,7 @@ fn bag_outcome(alloc: Global, bag: &BagSet<'_>) -> Result<Outcome, AllocError>
 {
     match check_bag(alloc, bag) {
         Ok(report) => valid_outcome(alloc, report),
-        Err(fault) => invalid_outcome(alloc, &fault),
+        Err(fault) => invalid_outcome(alloc, bag, &fault),
     }
 }
 
@@ -126,10 +129,11 @@ pub fn check_outcome(alloc: Global, bytes: &[u8]) -> Result<Outcome, AllocError>
     // what is said.
     ensures valid { (files : List File) (v : Version) → IsFormOf files bytes.now → Valid files v
         → IfOk result (SaysValid (report_of v files)) }
-    // A bag that isn't valid is refused with its first fault, and standard error is told it in words.
+    // A bag that isn't valid is refused with its first fault, and standard error is told it in words, by
+    // what stands in the bag.
     ensures invalid { (files : List File) (fault : Fault)
         → IsFormOf files bytes.now → FirstFault files fault
-        → IfOk result (SaysInvalid fault) }
+        → IfOk result (SaysInvalid files fault) }
     // Bytes that are no form are refused with their fault, likewise.
     ensures unreadable { (fault : SetFault)
         → length bytes.now ≤ max_form → FaultIs bytes.now fault

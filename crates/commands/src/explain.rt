@@ -6,7 +6,7 @@ ghost use Rattle.office_core.specs.Days.{IsDay};
 ghost use Rattle.office_core.specs.Policies.{PolicyValue, may_have_days};
 ghost use Rattle.office_core.specs.declared.policy_fault.PolicyFault.{PolicyFault};
 ghost use Rattle.commands.specs.Printing.{Prints};
-ghost use Rattle.commands.specs.Explaining.{Explains, HasFault, IsAllowedBy, IsDeniedBy, IsOnDay, IsUndecided, SaysBadPolicy, SaysDayMissing, SaysDecision, SpellsPolicyBytes, WantsDay, allow_text, bad_policy_text, decision_on, deny_text, default_text, is_caller_listed, unlisted_line};
+ghost use Rattle.commands.specs.Explaining.{Explains, HasFault, IsAllowedBy, IsDeniedBy, IsOnDay, IsUndecided, SaysBadPolicy, SaysDayMissing, SaysDecision, SpellsPolicyBytes, WantsDay, allow_text, bad_policy_text, decision_on, default_line, default_lines, default_text, denial_line, denied_lines, deny_text, is_caller_listed, unlisted_line, with_line};
 ghost use Rattle.commands.specs.PolicyFiles.{IsAllOf};
 ghost use Rattle.commands.specs.declared.ending.Ending.TheVariants.{Accepted, Refused};
 
@@ -15,7 +15,7 @@ use crate::ending::Ending;
 use crate::outcome::Outcome;
 use crate::policy_file::{RefusedPolicy, policy_in};
 use crate::trouble::Trouble;
-use fault_words::{Unlisted, missing_day_words};
+use fault_words::{DenyingRule, Unlisted, missing_day_words, undecided_words};
 use office_core::{Ask, Day, Decision, Effect, Name, Policy, decide, may_have_days};
 use std::alloc::{AllocError, Global};
 use std::io::Read;
@@ -50,39 +50,68 @@ fn unlisted_line(alloc: Global, policy: &Policy, caller: &str) -> Result<Option<
     Ok(Some(format!(in alloc; "{words}\n")?))
 }
 
-/// What is said where this rule decides, or none, with what standard error is told.
+/// The line after the one before it, where there is one.
+fn with_line(before: Option<String>, line: String) -> Result<String, AllocError>
+    ensures { IfOk result (λ lines.
+        string_bytes lines ≡ with_line (option_map string_bytes before) (string_bytes line)) }
+{
+    let Some(before) = before else {
+        return Ok(line);
+    };
+    let mut lines = before;
+    lines.push_str(line.as_str())?;
+    Ok(lines)
+}
+
+/// What standard error is told of the rule of this number, which denies.
+fn denial_line(alloc: Global, policy: &Policy, number: usize) -> Result<String, AllocError>
+    ensures { IfOk result (λ line. string_bytes line ≡ denial_line policy.now number) }
+{
+    match policy.rules().get(number.saturating_sub(1)) {
+        Some(rule) => {
+            let words = DenyingRule { number, rule };
+            format!(in alloc; "{words}\n")
+        }
+        None => Ok(String::new(alloc)),
+    }
+}
+
+/// What standard error is told where no rule matches.
+fn default_line(alloc: Global) -> Result<String, AllocError>
+    ensures { IfOk result (λ line. string_bytes line ≡ default_line) }
+{
+    let words = undecided_words();
+    format!(in alloc; "{words}\n")
+}
+
+/// What is said where this rule of the policy decides, or none. Standard error is told why it is denied,
+/// and before that what it is told anyway.
 fn decision_outcome(
     alloc: Global,
+    policy: &Policy,
     decision: Option<Decision>,
-    reason: Option<String>,
+    told: Option<String>,
 ) -> Result<Outcome, AllocError>
-    ensures { IfOk result (SaysDecision (option_map string_bytes reason) decision) }
+    ensures { IfOk result (SaysDecision policy.now (option_map string_bytes told) decision) }
 {
     let Some(Decision { rule, effect }) = decision else {
-        let text = String::from_str(alloc, "deny default\n")?;
         return Ok(Outcome {
-            text,
-            reason,
+            text: String::from_str(alloc, "deny default\n")?,
+            reason: Some(with_line(told, default_line(alloc)?)?),
             ending: Ending::Refused,
         });
     };
     match effect {
-        Effect::Allow => {
-            let text = format!(in alloc; "allow rule {rule}\n")?;
-            Ok(Outcome {
-                text,
-                reason,
-                ending: Ending::Accepted,
-            })
-        }
-        Effect::Deny => {
-            let text = format!(in alloc; "deny rule {rule}\n")?;
-            Ok(Outcome {
-                text,
-                reason,
-                ending: Ending::Refused,
-            })
-        }
+        Effect::Allow => Ok(Outcome {
+            text: format!(in alloc; "allow rule {rule}\n")?,
+            reason: told,
+            ending: Ending::Accepted,
+        }),
+        Effect::Deny => Ok(Outcome {
+            text: format!(in alloc; "deny rule {rule}\n")?,
+            reason: Some(with_line(told, denial_line(alloc, policy, rule)?)?),
+            ending: Ending::Refused,
+        }),
     }
 }
 
@@ -93,12 +122,13 @@ fn policy_outcome(
     asked: &Asked<'_>,
     day: Day,
 ) -> Result<Outcome, AllocError>
-    ensures says { IfOk result (SaysDecision (unlisted_line policy.now asked.now.caller.now)
+    ensures says { IfOk result (SaysDecision policy.now
+        (unlisted_line policy.now asked.now.caller.now)
         (decision_on policy.now asked.now day)) }
     ensures day { IsDay day }
 {
     let _date = day.date();
-    let reason = unlisted_line(alloc, policy, asked.caller)?;
+    let told = unlisted_line(alloc, policy, asked.caller)?;
     let ask = Ask {
         role: policy.role_of(asked.caller),
         action: asked.action,
@@ -106,7 +136,7 @@ fn policy_outcome(
         class: text_of(&asked.class),
         day,
     };
-    decision_outcome(alloc, decide(policy.rules(), &ask), reason)
+    decision_outcome(alloc, policy, decide(policy.rules(), &ask), told)
 }
 
 /// Whether the rules of the policy that the bytes are may have days.
@@ -206,18 +236,18 @@ pub fn explain_outcome(
         → IsAllowedBy policy asked.now day rule
         → IfOk result (λ outcome. Prints outcome (allow_text rule)
         (unlisted_line policy asked.now.caller.now) Accepted) }
-    // And likewise where it denies.
+    // And likewise where it denies: then standard error is told the rule in words too.
     ensures denied { (policy : PolicyValue) (day : Date) (rule : ℕ)
         → SpellsPolicyBytes bytes.now policy → IsOnDay bytes.now asked.now day
         → IsDeniedBy policy asked.now day rule
         → IfOk result (λ outcome. Prints outcome (deny_text rule)
-        (unlisted_line policy asked.now.caller.now) Refused) }
-    // Where no rule matches, it is denied by default.
+        (Some (denied_lines policy asked.now.caller.now rule)) Refused) }
+    // Where no rule matches, it is denied by default, of which standard error is told.
     ensures by_default { (policy : PolicyValue) (day : Date)
         → SpellsPolicyBytes bytes.now policy → IsOnDay bytes.now asked.now day
         → IsUndecided policy asked.now day
         → IfOk result (λ outcome. Prints outcome default_text
-        (unlisted_line policy asked.now.caller.now) Refused) }
+        (Some (default_lines policy asked.now.caller.now)) Refused) }
     // Where rules of the policy may have days and none is named, nothing is printed, standard error is
     // told that a day is missing and why, and it ends as misused.
     ensures undated { (policy : PolicyValue) → SpellsPolicyBytes bytes.now policy

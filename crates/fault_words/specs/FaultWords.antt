@@ -14,6 +14,8 @@ use Rattle.bag_check.specs.declared.rule.Rule.TheVariants as rules_of
 use Rattle.bag_check.specs.Answers.{named_fault}
 use Rattle.bag_check.specs.Faults.{Fault, NoDeclaration, Declaration, FetchNotSupported, UnsupportedAlgorithm, NoPayloadManifest, ManifestText, Breaks, InfoText, OxumForm, OxumTwice, OxumWrong}
 use Rattle.bag_check.specs.FaultTexts.{printed_text}
+use Rattle.fault_words.specs.declared.folder.OddCause.{OddCause}
+use Rattle.fault_words.specs.declared.folder.OddCause.TheVariants.{NoFile, NotUtf8}
 use Rattle.office_core.specs.declared.policy_fault.PolicyFault.{PolicyFault}
 use Rattle.office_core.specs.declared.policy_fault.PolicyFault.TheVariants as policies
 
@@ -45,13 +47,22 @@ folder_words forms.TooManyFiles = codes "the folder has more files than the 2,00
 folder_words forms.PathClash = codes "a path of the folder is data, or names both a file and a folder (S8)"
 folder_words fault = codes "the files of the folder are no bag"
 
--- of the entry with this path, that has no place in a form
-abbrev pub words_of_odd_entry : List ℕ → List ℕ
-words_of_odd_entry path = codes "the entry " ++ printed_text path ++ codes " of the folder is neither a file nor a folder, such as a link, or has a name that is not UTF-8 (NAME)"
+-- of the entry with this path, that has no place in a form for this cause
+abbrev pub words_of_odd_entry : List ℕ → OddCause → List ℕ
+words_of_odd_entry path NoFile = codes "the entry " ++ printed_text path ++ codes " of the folder is neither a file nor a folder, such as a link (NAME)"
+words_of_odd_entry path NotUtf8 = codes "the entry " ++ printed_text path ++ codes " of the folder has a name that is not UTF-8 (NAME)"
 
 -- of files whose form is longer than any that is written
 abbrev pub too_large_words : List ℕ
 too_large_words = codes "the form of the folder is longer than 16,777,216 bytes, the most that is written (SIZE)"
+
+-- of a folder that was packed, in which no declaration of a bag is
+abbrev pub undeclared_words : List ℕ
+undeclared_words = codes "the folder has no bagit.txt, so what was packed is no bag yet"
+
+-- of a folder that was to be made, where something has its name
+abbrev pub exists_words : List ℕ
+exists_words = codes "something has the name of the folder already, so nothing was unpacked"
 
 -- ---- of the tag files of a bag
 
@@ -70,7 +81,7 @@ manifest_words name manifests.NotUtf8 = printed_text name ++ codes " is not UTF-
 manifest_words name manifests.ByteOrderMark = printed_text name ++ codes " begins with a byte order mark, and must not (B6 L2)"
 manifest_words name (manifests.BadChecksum line) = codes "line " ++ decimal line ++ codes " of " ++ printed_text name ++ codes " does not begin with a checksum of the right number of hex digits (B6 L3)"
 manifest_words name (manifests.NoPath line) = codes "line " ++ decimal line ++ codes " of " ++ printed_text name ++ codes " has no path after its checksum (B6 L4)"
-manifest_words name (manifests.BadPath line) = codes "line " ++ decimal line ++ codes " of " ++ printed_text name ++ codes " has no good path: it begins with *, has more than 1,024 bytes or a NUL, or has a segment that is empty, . or .. (B6 L5)"
+manifest_words name (manifests.BadPath line) = codes "line " ++ decimal line ++ codes " of " ++ printed_text name ++ codes " has no good path (B6 L5)"
 manifest_words name (manifests.ListedTwice line) = codes "line " ++ decimal line ++ codes " of " ++ printed_text name ++ codes " lists a path that an earlier line lists (B6 L6)"
 manifest_words name manifests.Memory = codes "memory ran out (B6 L7)"
 

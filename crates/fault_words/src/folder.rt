@@ -1,7 +1,7 @@
 //! Why a folder is not packed, in words.
 
 ghost use Rattle.std.specs.Prelude.{◌≡◌, Some};
-ghost use Rattle.fault_words.specs.FaultWords.{folder_words, too_large_words, words_of_odd_entry};
+ghost use Rattle.fault_words.specs.FaultWords.{exists_words, folder_words, too_large_words, undeclared_words, words_of_odd_entry};
 
 use crate::escaped::Escaped;
 use bag_text::SetFault;
@@ -30,20 +30,38 @@ pub fn folder_words(fault: SetFault) -> &'static str
     }
 }
 
-/// An entry of a folder that has no place in a form, by its path, to be printed as a sentence that
-/// says so.
+/// Why an entry of a folder has no place in a form.
+#[derive(Clone, Copy, Debug, PartialEq, Eq)]
+pub enum OddCause {
+    /// It is neither a file nor a folder.
+    NoFile,
+    /// Its name isn't UTF-8.
+    NotUtf8,
+}
+
+/// An entry of a folder that has no place in a form, by its path, and why, to be printed as a sentence
+/// that says so.
 #[derive(Clone, Copy)]
-pub struct OddEntry<'a>(pub &'a str);
+pub struct OddEntry<'a> {
+    pub path: &'a str,
+    pub cause: OddCause,
+}
 
 impl<'a> fmt::Display for OddEntry<'a> {
-    ghost output = { λ entry. Some (words_of_odd_entry entry.0.now) };
+    ghost output = { λ entry. Some (words_of_odd_entry entry.path.now entry.cause) };
 
     fn fmt<W: fmt::Write>(&self, f: &mut fmt::Formatter<W>) -> fmt::Result {
-        let path = Escaped(self.0);
-        write!(
-            f,
-            "the entry {path} of the folder is neither a file nor a folder, such as a link, or has a name that is not UTF-8 (NAME)"
-        )
+        let path = Escaped(self.path);
+        match self.cause {
+            OddCause::NoFile => write!(
+                f,
+                "the entry {path} of the folder is neither a file nor a folder, such as a link (NAME)"
+            ),
+            OddCause::NotUtf8 => write!(
+                f,
+                "the entry {path} of the folder has a name that is not UTF-8 (NAME)"
+            ),
+        }
     }
 }
 
@@ -52,4 +70,18 @@ pub fn too_large_words() -> &'static str
     ensures { result.now ≡ too_large_words }
 {
     "the form of the folder is longer than 16,777,216 bytes, the most that is written (SIZE)"
+}
+
+/// What is said of a folder that was packed without the declaration of a bag.
+pub fn undeclared_words() -> &'static str
+    ensures { result.now ≡ undeclared_words }
+{
+    "the folder has no bagit.txt, so what was packed is no bag yet"
+}
+
+/// What is said of a folder that was to be made, where something has its name.
+pub fn exists_words() -> &'static str
+    ensures { result.now ≡ exists_words }
+{
+    "something has the name of the folder already, so nothing was unpacked"
 }

@@ -3,11 +3,15 @@
 #![tactic(auto)]
 
 mod bag;
+mod bag_reason;
+mod denial;
 mod escaped;
 mod folder;
 mod form;
 mod in_words;
+mod manifest_line;
 mod other_file;
+mod path_note;
 mod place;
 mod policy;
 mod reason;
@@ -15,8 +19,12 @@ mod rule_place;
 mod tag_files;
 mod toml_line;
 
+pub use bag_reason::bag_lines;
+pub use denial::{DenyingRule, undecided_words};
 pub use escaped::Escaped;
-pub use folder::{OddEntry, folder_words, too_large_words};
+pub use folder::{
+    OddCause, OddEntry, exists_words, folder_words, too_large_words, undeclared_words,
+};
 pub use form::{form_lines, hint_for, too_long_words};
 pub use in_words::InWords;
 pub use other_file::OtherFile;

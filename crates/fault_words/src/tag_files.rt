@@ -54,15 +54,27 @@ pub fn write_manifest<W: fmt::Write>(
             f,
             "line {line} of {manifest} has no path after its checksum (B6 L4)"
         ),
-        LineFault::BadPath(line) => write!(
-            f,
-            "line {line} of {manifest} has no good path: it begins with *, has more than 1,024 bytes or a NUL, or has a segment that is empty, . or .. (B6 L5)"
-        ),
+        LineFault::BadPath(line) => write!(f, "line {line} of {manifest} has no good path (B6 L5)"),
         LineFault::ListedTwice(line) => write!(
             f,
             "line {line} of {manifest} lists a path that an earlier line lists (B6 L6)"
         ),
         LineFault::Memory => f.write_str("memory ran out (B6 L7)"),
+    }
+}
+
+/// Why the text of a manifest is refused, to be printed as a sentence.
+#[derive(Clone, Copy)]
+pub struct ManifestWords<'a> {
+    pub manifest: &'a str,
+    pub fault: LineFault,
+}
+
+impl<'a> fmt::Display for ManifestWords<'a> {
+    ghost output = { λ words. Some (manifest_words words.manifest.now words.fault) };
+
+    fn fmt<W: fmt::Write>(&self, f: &mut fmt::Formatter<W>) -> fmt::Result {
+        write_manifest(f, Escaped(self.manifest), &self.fault)
     }
 }
 

@@ -38,17 +38,27 @@ static MARKS: &str = r#"
 {rule-tax} [[rule]]\neffect = "deny"\nrole = "archivist"\naction = "dispose"\ncollection = "tax"\nclass = "*"\n
 {rule-archivist} [[rule]]\neffect = "allow"\nrole = "archivist"\naction = "*"\ncollection = "*"\nclass = "*"\n
 {rule-clerk} [[rule]]\neffect = "allow"\nrole = "clerk"\naction = "list"\ncollection = "*"\nclass = "y10"\n
+{line-end} in this path %0A or %0D is the end of a line; a name with %0A or %0D in it is listed with %250A or %250D in version 1.0, and cannot be listed in version 0.97\n
+{percent} in this path %25 is a percent sign; a name with %0A or %0D in it is listed with %250A or %250D in version 1.0, and cannot be listed in version 0.97\n
+{denied-tax} rule 1 of the policy denies it: role archivist, action dispose, collection tax, any class
+{denied-all} rule 1 of the policy denies it: any role, any action, any collection, any class\n
+{undecided} no rule of the policy matches, so it is denied by default\n
+{long} {205}{205}{205}{205}{205}
+{205} {41}{41}{41}{41}{41}
+{41} aaaaaaaaaaaaaaaaaaaaaaaaaaaaaaaaaaaaaaaaa
 {no-day} the option --day DAY is missing: the policy has version 2, in which rules may count on certain days alone\n
 {strangers} version = 1\n\n[callers]\nbert = "stranger"\n\n[[rule]]\neffect = "deny"\nrole = "stranger"\naction = "download"\ncollection = "-"\nclass = "*"\n\n[[rule]]\neffect = "allow"\nrole = "stranger"\naction = "download"\ncollection = "*"\nclass = "*"\n
 {uses} depot {version}\nUsage: depot check FILE\n       depot pack DIR FILE\n       depot unpack FILE DIR\n       depot explain [--day DAY] POLICY CALLER ACTION COLLECTION CLASS\n       depot policy STORE POLICY\n       depot ask STORE DAY\n       depot replay [--policy POLICY] STORE\n       depot serve --port P --count N STORE DAY\n\nDepot checks and keeps BagIt bags, serves them by a policy, and destroys them when due.\ndepot COMMAND --help says what each command takes.\n
 "#;
 
 /// Marks of bytes. Two of them stand for a byte that no text has.
-static BYTES: [(&str, &str); 9] = [
+static BYTES: [(&str, &str); 11] = [
     ("{ff}", "\u{1}"),
     ("{bom}", "\u{feff}"),
     ("{nbsp}", "\u{a0}"),
     ("{del}", "\u{7f}"),
+    ("{nul}", "\0"),
+    ("{accent}", "\u{301}"),
     ("{zip}", "PK\u{3}\u{4}\u{14}\0"),
     ("{gzip}", "\u{1f}\u{2}\u{8}\0"),
     ("\\n", "\n"),

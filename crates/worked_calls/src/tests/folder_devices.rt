@@ -3,7 +3,8 @@
 use crate::tests::failing::{Failing, Fault};
 use crate::tests::folders::{BAG_FILES, begin, begin_with, compare, finish, is_bag, pack_here};
 use crate::tests::rows::holds;
-use bag_folders::{PackFault, Packed, UnpackFault, Unpacked, pack, unpack};
+use bag_folders::{Odd, PackFault, Packed, UnpackFault, Unpacked, pack, unpack};
+use fault_words::OddCause;
 use std::fs;
 use std::test::*;
 use worked_bags::bytes_of;
@@ -176,7 +177,14 @@ fn odd_name(rt: &HostRuntime) -> Result<String, Fail> {
         "found/found",
         "found/found.bagset",
     ) {
-        Err(PackFault::Name(path)) => Ok(path),
+        Err(
+            PackFault::Name(
+                Odd {
+                    path,
+                    cause: OddCause::NotUtf8,
+                },
+            ),
+        ) => Ok(path),
         _ => Err(Fail::new("a name that isn't UTF-8")),
     }
 }

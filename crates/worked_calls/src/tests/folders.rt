@@ -263,7 +263,7 @@ fn refuse_link(rt: &HostRuntime, target: &str) -> Result<(), Fail> {
         "links/linked",
         NOT_LINKED,
         "unpackable NAME\n",
-        "the entry folder/link of the folder is neither a file nor a folder, such as a link, or has a name that is not UTF-8 (NAME)\n",
+        "the entry folder/link of the folder is neither a file nor a folder, such as a link (NAME)\n",
     )?;
     fs::remove_file(rt, "links/linked/folder/link")?;
     Ok(())

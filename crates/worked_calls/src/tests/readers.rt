@@ -212,7 +212,7 @@ static DAYS: [(&str, &str, &str); 7] = [
     ("{policy}", "", "deny rule 1\n"),
 ];
 
-/// Whether the question is answered so on that day; without a line, standard error is told that a day
+/// Whether the question is answered so on that day, and why where that is no; without a line, that a day
 /// is missing.
 fn is_answered_on(alloc: Global, row: &(&str, &str, &str)) -> Result<bool, AllocError> {
     let (policy, day, line) = *row;
@@ -221,7 +221,7 @@ fn is_answered_on(alloc: Global, row: &(&str, &str, &str)) -> Result<bool, Alloc
         let is_told = told(&outcome) == text_of(alloc, "{no-day}")?.as_str();
         return Ok(is_told && outcome.text.is_empty() && outcome.ending == Ending::Misused);
     }
-    Ok(outcome.text.as_str() == line && outcome.reason.is_none())
+    Ok(outcome.text.as_str() == line && outcome.reason.is_some() == line.starts_with("deny "))
 }
 
 #[test]

@@ -4,7 +4,7 @@ use crate::tests::rows::{holds, rows_of};
 use bag_check::BagFault;
 use bag_text::{InfoFault, LineFault, SetFault};
 use fault_words::{
-    InWords, OddEntry, OtherFile, folder_words, form_lines, hint_for, missing_day_words,
+    InWords, OddCause, OddEntry, OtherFile, folder_words, form_lines, hint_for, missing_day_words,
     policy_reason, too_large_words,
 };
 use office_core::{PolicyFault, read_policy};
@@ -201,13 +201,31 @@ fn a_fault_without_a_place(rt: HostRuntime) -> Result<(), AllocError> {
     Ok(())
 }
 
+/// Why an entry of a folder is odd, and what is told of it.
+static ODD_ENTRIES: [(OddCause, &str); 2] = [
+    (
+        OddCause::NoFile,
+        "the entry a%20b/link of the folder is neither a file nor a folder, such as a link (NAME)",
+    ),
+    (
+        OddCause::NotUtf8,
+        "the entry a%20b/link of the folder has a name that is not UTF-8 (NAME)",
+    ),
+];
+
 #[test]
 fn an_odd_entry_by_its_path(rt: HostRuntime) -> Result<(), Fail> {
-    let said = OddEntry("a b/link").to_string(rt.alloc())?;
-    assert!(rt;
-        said.as_str()
-            == "the entry a%20b/link of the folder is neither a file nor a folder, such as a link, or has a name that is not UTF-8 (NAME)"
-    );
+    for (cause, wanted) in &ODD_ENTRIES {
+        let entry = OddEntry {
+            path: "a b/link",
+            cause: *cause,
+        };
+        holds(
+            &rt,
+            entry.to_string(rt.alloc())?.as_str() == *wanted,
+            wanted,
+        );
+    }
     Ok(())
 }
 

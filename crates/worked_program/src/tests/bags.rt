@@ -35,8 +35,8 @@ fn rows_of(rt: &HostRuntime, table: &str) -> Result<usize, Fail> {
 fn small_bags_are_judged(rt: HostRuntime) -> Result<(), Fail> {
     for (table, wanted) in [
         (DECLARATIONS, 34),
-        (MANIFESTS, 33),
-        (PAYLOADS, 22),
+        (MANIFESTS, 41),
+        (PAYLOADS, 26),
         (INFOS, 37),
         (ENTRIES, 30),
     ] {

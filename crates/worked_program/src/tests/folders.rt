@@ -9,7 +9,7 @@ use std::os::unix::fs::symlink;
 use std::test::Fail;
 
 /// A bag, folders that are none, and other files. Two of them get the length of what is too long.
-static FILES: [(&str, &str); 10] = [
+static FILES: [(&str, &str); 11] = [
     ("t/bag/data/a", "abc"),
     ("t/bag/bagit.txt", "~declared~"),
     ("t/bag/manifest-sha256.txt", "~listed~"),
@@ -18,20 +18,23 @@ static FILES: [(&str, &str); 10] = [
     ("t/whole/a", ""),
     ("t/clash/data", ""),
     ("t/linked/a", ""),
+    ("t/plain/a", "abc"),
     ("t/zip", "PK\x03\x04"),
     ("t/policy", "version = 1\n"),
 ];
 
-static RUNS: [&str; 22] = [
+static RUNS: [&str; 23] = [
     // A folder becomes a form, and a folder again.
     "pack,t/bag,t/bag.bagset||Accepted|packed 3 files 210 bytes\n|",
     "check,t/bag.bagset||Accepted|valid 1.0 files 1 bytes 3 manifests 1\n|",
     "unpack,t/bag.bagset,t/copy||Accepted|unpacked 3 files\n|",
     "pack,t/copy,t/copy.bagset||Accepted|packed 3 files 210 bytes\n|",
-    "unpack,t/bag.bagset,t/copy||Refused|exists\n|",
+    "unpack,t/bag.bagset,t/copy||Refused|exists\n|something has the name of the folder already, so nothing was unpacked\n",
+    // One that is no bag is packed all the same.
+    "pack,t/plain,t/plain.bagset||Accepted|packed 1 files 27 bytes\n|the folder has no bagit.txt, so what was packed is no bag yet\n",
     // Refusals in words.
     "unpack,t/bag/data/a,t/none||Refused|unreadable S1\n|~S1~",
-    "pack,t/linked,t/form||Refused|unpackable NAME\n|the entry b of the folder is neither a file nor a folder, such as a link, or has a name that is not UTF-8 (NAME)\n",
+    "pack,t/linked,t/form||Refused|unpackable NAME\n|the entry b of the folder is neither a file nor a folder, such as a link (NAME)\n",
     "pack,t/large,t/form||Refused|unpackable S2 1\n|a%20b has more than 16,777,216 bytes, the most that a file of a bag may have (S2)\n",
     "pack,t/clash,t/form||Refused|unpackable S8\n|a path of the folder is data, or names both a file and a folder (S8)\n",
     "pack,t/whole,t/form||Refused|unpackable SIZE\n|the form of the folder is longer than 16,777,216 bytes, the most that is written (SIZE)\n",
@@ -39,7 +42,7 @@ static RUNS: [&str; 22] = [
     "unpack,t/large/a b,t/none||Refused|unreadable SIZE\n|the form is longer than 16,777,216 bytes, the most that is judged (SIZE)\n",
     "check,t/zip||Refused|unreadable S1\n|~zip~",
     "check,-|BAGSET 1\nEND\n|Refused|invalid B1\n|the bag has no bagit.txt (B1)\n",
-    "explain,t/policy,eve,list,-,-||Refused|deny default\n|the caller eve is not in the policy, and has the role stranger\n",
+    "explain,t/policy,eve,list,-,-||Refused|deny default\n|the caller eve is not in the policy, and has the role stranger\nno rule of the policy matches, so it is denied by default\n",
     "explain,t/zip,eve,list,-,-||Refused|policy Y1\n|the policy is no text in TOML (Y1): line 1\n",
     // What can't be read.
     "pack,t/no such folder,t/form||Failed||device\ndepot: cannot list t/no%20such%20folder~none~",

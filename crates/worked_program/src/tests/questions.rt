@@ -11,34 +11,34 @@ use worked_bags::{bytes_of, text_of};
 /// that is printed, or nothing where the words leave out a day; and what standard error is told, where
 /// it is told a thing. All with marks. A line that is no row says what the rows below it are about.
 static QUESTIONS: &str = r#"
-version = 1\nrule = [{effect="deny",role="*",action="*",collection="*",class="*"}]\n => eve|list|maps|y10 => deny rule 1\n => the caller eve{stranger}
-{policy} => anna|dispose|tax|y1 => deny rule 1\n
+version = 1\nrule = [{effect="deny",role="*",action="*",collection="*",class="*"}]\n => eve|list|maps|y10 => deny rule 1\n => the caller eve{stranger}{denied-all}
+{policy} => anna|dispose|tax|y1 => deny rule 1\n => {denied-tax}\n
 {policy} => anna|dispose|maps|y1 => allow rule 2\n
-{policy} => eve|list|maps|y10 => deny default\n => the caller eve{stranger}
+{policy} => eve|list|maps|y10 => deny default\n => the caller eve{stranger}{undecided}
 {policy} => carl|list|maps|y10 => allow rule 3\n
 # A name never matches what is absent, and * does.
 {policy} => anna|dispose|-|y1 => allow rule 2\n
 {policy} => anna|class|-|y1 => allow rule 2\n
-{policy} => carl|list|maps|- => deny default\n
+{policy} => carl|list|maps|- => deny default\n => {undecided}
 # Callers that are no names, and one that is no word of a policy.
-{policy} => |list|maps|y10 => deny default\n => the caller {stranger}
-{policy} => Anna é\n"|list|maps|y10 => deny default\n => the caller Anna%20%C3%A9%0A"{stranger}
+{policy} => |list|maps|y10 => deny default\n => the caller {stranger}{undecided}
+{policy} => Anna é\n"|list|maps|y10 => deny default\n => the caller Anna%20%C3%A9%0A"{stranger}{undecided}
 {strangers} => -|download|maps|y10 => allow rule 2\n => the caller -{stranger}
 # The word - is none, and not the collection of that name.
 {strangers} => bert|download|-|- => allow rule 2\n
 # Days: a rule that counts until 2024-12-31; a day that is missing, and one that is no matter.
-{policy-2} => anna|dispose|tax|y1|--day|2024-12-31 => deny rule 1\n
+{policy-2} => anna|dispose|tax|y1|--day|2024-12-31 => deny rule 1\n => {denied-tax}, from 1900-01-01 to 2024-12-31\n
 {policy-2} => anna|dispose|tax|y1|--day|2025-01-01 => allow rule 2\n
 {policy-2} => anna|dispose|tax|y1 =>  => {no-day}
 {policy-2} => eve|list|maps|y10 =>  => {no-day}
 version = 2\n => anna|list|maps|y1 =>  => {no-day}
-version = 2\n => anna|list|maps|y1|--day|1900-01-01 => deny default\n => the caller anna{stranger}
-{policy} => anna|dispose|tax|y1|--day|2025-01-01 => deny rule 1\n
+version = 2\n => anna|list|maps|y1|--day|1900-01-01 => deny default\n => the caller anna{stranger}{undecided}
+{policy} => anna|dispose|tax|y1|--day|2025-01-01 => deny rule 1\n => {denied-tax}\n
 # Faults of the policy are found before a missing day.
 version = 2\n\n{callers}{rule-tax}last = "2024-12-31"\n\n{rule-archivist}first = "2025-02-29"\n\n{rule-clerk} => anna|dispose|tax|y1 => policy Y5 2\n => rule 2{no-rule}: the key first\n
 version = 1\n\n{callers}{rule-tax}last = "2024-12-31"\n\n{rule-archivist}\n{rule-clerk} => anna|dispose|tax|y1 => policy Y5 1\n => rule 1{no-rule}: the key last\n
 # The least policy, and texts that are none.
-version = 1\n => anna|list|maps|y1 => deny default\n => the caller anna{stranger}
+version = 1\n => anna|list|maps|y1 => deny default\n => the caller anna{stranger}{undecided}
 version = 1 # {ff}\n => anna|list|maps|y1 => policy Y1\n => the policy is no text in TOML (Y1): line 1\n
 version = \n => anna|list|maps|y1 => policy Y1\n => the policy is no text in TOML (Y1): line 1\n
 version = 1\n[callers]\nanna = "clerk"\n"anna" = "clerk"\n => anna|list|maps|y1 => policy Y1\n => the policy is no text in TOML (Y1): line 4\n

@@ -1,5 +1,6 @@
 use Rattle.std.proofs.Common.{◌≡◌, length, rules}
 use Rattle.std.proofs.lemmas.Result.{err_from_is_err_and}
+use Rattle.bag_folders.specs.Packing.{is_any_declared}
 use Rattle.bag_folders.proofs.PackLemmas.{failed_under, form_under, is_packed_of, plan_under}
 use Rattle.bag_folders.proofs.packing.pack_listed.Goals as goal
 
@@ -27,9 +28,10 @@ returns-in_err-put-clause-refused g c =
 pub returns-clause-packed : goal.returns-clause-packed
 returns-clause-packed g c =
     let count : c.len.result ≡ length c.in_ok-files.files.items = search rules in
-    let bytes : c.len-2.result ≡ length c.in_ok-form.form.items = search rules in (
+    let bytes : c.len-2.result ≡ length c.in_ok-form.form.items = search rules in
+    let declared : c.is_declared.result ≡ is_any_declared c.in_ok-files.files.items = search rules in (
       c.in_ok-found.found,
       c.in_ok-found.ensures.found,
-      is_packed_of c.in_ok-found.found (record { files = c.len.result; bytes = c.len-2.result }) c.in_ok-files.files.items c.in_ok-form.form.items c.in_ok-files.ensures.order count bytes
+      is_packed_of c.in_ok-found.found (record { files = c.len.result; bytes = c.len-2.result; is_declared = c.is_declared.result }) c.in_ok-files.files.items c.in_ok-form.form.items c.in_ok-files.ensures.order count bytes declared
           (rw c.as_slice.ensures.value at c.in_ok-form.ensures.form),
     )
