@@ -1,6 +1,6 @@
 -- What serving one request does: what is heard of its bytes, what the office does, and the text that answers. `old` is the office before a
 -- call and `new` the office after it. The rules are Depot's own.
-use Rattle.std.specs.Prelude.{◌≡◌, ℕ, List, Bool, MatchBool, Ok, Err}
+use Rattle.std.specs.Prelude.{◌≡◌, ℕ, List, Bool, MatchBool, Option, None, Some, Ok, Err}
 use Rattle.jiff.specs.Types.{Date}
 use Rattle.sqlite.specs.Held.{Held, state}
 use Rattle.sqlite.specs.State.{State, HasCleanDisk, Survives}
@@ -12,6 +12,8 @@ use Rattle.desk_routes.specs.declared.refusal.DeskRefusal.{DeskRefusal}
 use Rattle.desk_hearing.specs.Asked.{HeardValue, asked_of}
 use Rattle.desk_hearing.specs.Hearing.{Hears}
 use Rattle.desk_answers.specs.Answers.{answer_text, refusal_text}
+use Rattle.desk_log.specs.Notes.{note_of}
+use Rattle.desk_log.specs.declared.note.OfficeNote.{OfficeNote}
 
 -- the item of a run that asks what was heard, on that day
 pub record IsItemOf (day : Date) (heard : HeardValue) (item : Item) : Type 0 where
@@ -48,3 +50,16 @@ IsAnswered g request reply old new =
     MatchBool reply.done
     ((answer : Answer) × ServesBytes request.day request.bytes (state g old) (state g new) answer × (reply.text ≡ answer_text answer))
     ((refusal : DeskRefusal) × Hears request.bytes (Err refusal) × (new ≡ old) × (reply.text ≡ refusal_text refusal))
+
+-- ---- the same, and what is noted of the office's answer
+
+abbrev pub ServesNoted : Date → List ℕ → Option OfficeNote → State → State → Answer → Type 0
+ServesNoted day bytes note old new answer =
+    (serves : ServesBytes day bytes old new answer) × (note ≡ Some (note_of serves.2.item.2 answer))
+
+-- of what the desk refuses nothing is noted
+abbrev pub IsNoted : {S : Type 0} → Ghosts S → DeskRequest → DeskReply → Option OfficeNote → Held S → Held S → Type 0
+IsNoted g request reply note old new =
+    MatchBool reply.done
+    ((answer : Answer) × ServesNoted request.day request.bytes note (state g old) (state g new) answer × (reply.text ≡ answer_text answer))
+    ((refusal : DeskRefusal) × Hears request.bytes (Err refusal) × (new ≡ old) × (reply.text ≡ refusal_text refusal) × (note ≡ None))

@@ -4,4 +4,4 @@
 pub mod laws;
 mod serving;
 
-pub use serving::{DeskFault, Response, Unanswered, respond, serve_one};
+pub use serving::{DeskFault, Response, Unanswered, respond, serve_noting, serve_one};

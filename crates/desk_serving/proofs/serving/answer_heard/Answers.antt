@@ -5,8 +5,8 @@ pub returns : goal.returns
 returns g c = (
   c.step-answer.result,
   record {
-    item = (c.args.day, c.caller.result, c.request.result);
-    asks = record { on_day = refl; caller = c.caller.ensures; asked = c.request.ensures };
+    item = (c.args.day, c.caller.result, c.request-request.result);
+    asks = record { on_day = refl; caller = c.caller.ensures; asked = c.request-request.ensures };
     clean = λ clean. omega (arith, clean, c.step-answer.ensures.survives.clean);
     survives = c.step-answer.ensures.survives;
     turn = λ honest. record {
@@ -21,4 +21,5 @@ returns g c = (
     };
   },
   c.answer_bytes.ensures,
+  c.note_of-note.ensures,
 )

@@ -1,0 +1,2 @@
+pub mod LoggingLemmas
+pub mod WatchingLemmas

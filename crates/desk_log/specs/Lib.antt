@@ -1,0 +1,4 @@
+pub mod Notes
+pub mod Lines
+pub mod Logging
+pub mod Watching
