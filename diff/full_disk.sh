@@ -1,7 +1,8 @@
 #!/usr/bin/env bash
 # Fills the disk of an office that serves: a file system of 6 MiB in memory. Shows what docs/OPERATING.md says under "A full
 # disk": the deposit that has no room is answered 503, and what was answered before is there once there is room, by the
-# page's commands; a backup and a `pack` that have no room leave nothing under their names.
+# page's commands; a backup and a `pack` that have no room leave nothing under their names. Standard error, in a file on that
+# disk, is told of the failures and of their end; where it has no room either, its lines are dropped.
 # Needs curl, and root or a user namespace. Words: the program, that of the variable DEPOT or `depot` if left out.
 set -eu
 top=$(readlink -f "$(dirname "$(readlink -f "$0")")/..")
@@ -46,9 +47,13 @@ make_bag() {
     ./depot pack "$room/bag" "$room/form-$1" >said
 }
 
-# Asks the office as anna: the body and the status.
+# Asks the office: the body and the status.
+asks_as() {
+    curl -sS --max-time 60 -H "Depot-Caller: $1" -w ' %{http_code}' "${@:2}"
+}
+
 asks() {
-    curl -sS --max-time 60 -H 'Depot-Caller: anna' -w ' %{http_code}' "$@"
+    asks_as anna "$@"
 }
 
 deposit() {
@@ -57,14 +62,21 @@ deposit() {
 
 serve() {
     rm -f "$room/listening"
-    ./depot serve --port 0 --count 1000 office.db "$day" >"$room/listening" &
+    ./depot serve --port 0 --count 1000 office.db "$day" >"$room/listening" 2>>log &
     office=$!
     await "$office" "$room/listening" listening
     address=http://127.0.0.1:$(sed 's/listening //' "$room/listening")
 }
 
+# What was done, and what standard error has been told since the office was first served, in one line.
+tells() {
+    compare "$1: standard error" "$2" "$(tail -n +2 log | tr -d '\0' | paste -sd' ')"
+}
+
 cd "$room/disk"
 ln -s "$program" depot
+# The page in which it begins is taken before the disk is full.
+echo 'standard error:' >log
 ./depot policy office.db "$top/examples/policy.toml" >said
 serve
 asks -X PUT -d '{"years":1}' "$address/classes/y1" >said
@@ -84,6 +96,10 @@ until_full() {
 }
 
 until_full
+# The class, the collection and the deposits that were taken came before it.
+taken=$kept
+lines="depot: connection $((taken + 3)): a change was answered Store, 1 in a row"
+tells "a deposit that has no room" "$lines"
 # What is asked goes on; what changes something has no room either, until there is some. It needs no new start.
 has_all() {
     local each
@@ -96,15 +112,33 @@ has_all() {
 }
 has_all "the disk is full"
 compare "another change" '{"error":"Store"} 503' "$(asks -X PUT "$address/collections/tax")"
+# A change that is denied, of which nothing is told; and more that fail, up to the tenth in a row.
+compare "a denial" '{"error":"Denied","rule":"default"} 403' "$(asks_as bob -X PUT "$address/collections/tax")"
+more_changes() {
+    local each
+    for each in $(seq "$1" 10); do
+        compare "change $each in a row" '{"error":"Store"} 503' "$(asks -X PUT "$address/collections/tax")"
+    done
+}
+more_changes 3
+lines+=" depot: connection $((2 * taken + 14)): a change was answered Store, 10 in a row"
+tells "ten in a row" "$lines"
 mount -o remount,size=9m office "$room/disk"
 kept=$((kept + 1))
 compare "there is room again" "{\"deposit\":$kept} 201" "$(deposit "$kept")"
+lines+=" depot: connection $((2 * taken + 15)): a change was accepted again, after 10 in a row, the last answered Store"
+tells "there is room again" "$lines"
 has_all "there is room again"
 
 # Full again, and stopped meanwhile: each command says that the log can't be folded in, and what was answered stands in it.
 until_full
-# (to the last byte)
+lines+=" depot: connection $((2 * taken + kept + 17)): a change was answered Store, 1 in a row"
+tells "full again" "$lines"
+# (to the last byte, also of the page in which standard error ends)
 dd if=/dev/zero of=filling bs=4096 2>/dev/null || true
+truncate -s %4096 log
+more_changes 2
+tells "no room for standard error" "$lines"
 kill "$office"
 ended "$office" || true
 status=0
@@ -121,7 +155,7 @@ compare "a folder is packed" '3; device depot: cannot write form: No space left 
 status=0
 DEPOT=./depot timeout 60 "$top/examples/systemd/serve" office.db 8080 >"$room/said" 2>"$room/told" || status=$?
 compare "a new day" "3; *the day $(date +%F) can't be recorded in office.day, and isn't served" "$status; $(cat "$room/told")"
-compare "it leaves" 'depot filling office.db office.db-wal said' "$(find . -mindepth 1 -printf '%P\n' | LC_ALL=C sort | paste -sd' ')"
+compare "it leaves" 'depot filling log office.db office.db-wal said' "$(find . -mindepth 1 -printf '%P\n' | LC_ALL=C sort | paste -sd' ')"
 
 # Room, and the page's commands. Where the disk of the backups is the full one, no backup has its name.
 rm filling
@@ -136,4 +170,4 @@ serve
 has_all "after a new start"
 kill "$office"
 ended "$office" || true
-echo "full_disk: $cases cases: what was answered is there, before there is room and after"
+echo "full_disk: $cases cases: what was answered is there, before there is room and after, and standard error is told"

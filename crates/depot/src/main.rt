@@ -25,7 +25,7 @@ fn run_on_process(rt: &HostRuntime) -> io::Result<Ending> {
     let mut streams = Streams {
         input: Counted::new(rt.stdin()),
         output: Counted::new(rt.stdout()),
-        error: rt.stderr(),
+        error: Counted::new(rt.stderr()),
     };
     Ok(run(rt, &mut Some(Unknown), texts.as_slice(), &mut streams))
 }

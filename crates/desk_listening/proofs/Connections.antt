@@ -25,8 +25,9 @@ use Rattle.desk_answers.specs.declared.status.Status.{Status}
 use Rattle.desk_hearing.specs.Hearing.{Hears}
 use Rattle.desk_serving.specs.declared.serving.DeskFault.{DeskFault}
 use Rattle.desk_serving.specs.declared.serving.DeskFault.TheVariants.{Read, Write, Memory}
-use Rattle.desk_serving.specs.Serving.{IsAnswered, ServesBytes}
-use Rattle.desk_listening.specs.Listening.{Connection, served, refused, lost, IsAfter, IsAfterAll, IsOf, IsRun, ReportsConnection, answers_of, is_answered, is_served, items_of}
+use Rattle.desk_log.specs.declared.note.OfficeNote.{OfficeNote}
+use Rattle.desk_serving.specs.Serving.{IsNoted, ServesNoted}
+use Rattle.desk_listening.specs.Listening.{Connection, served, refused, lost, IsAfter, IsAfterAll, IsOf, IsRun, ReportsConnection, answers_of, is_answered, is_served, items_of, noted}
 use Rattle.desk_listening.specs.Accepting.{Takes, TakesAll}
 use Rattle.desk_listening.specs.Peers.{IsWritten, Leaves, Link, WritesBeginning}
 use Rattle.desk_listening.specs.declared.draining.Drained.{Drained}
@@ -73,6 +74,14 @@ module _ {P R W : Type 0} (p : Peers P R W) (r : Reads R) (w : Writes W) (patien
   pub left_alone : (whole : Bool) → whole ≡ false → new.peer ≡ old.peer → LeavesAfter whole
   left_alone whole is left = subst LeavesAfter (sym is) left
 
+-- ---- a result that is known
+
+pub on_ok_is : {T E P : Type 0} (result : Result T E) (x : T) → result ≡ Ok x → OnOk result P → P
+on_ok_is {T = T} {E = E} {P = P} result x same it = subst (λ (r : Result T E). OnOk r P) same it
+
+pub reports : {T : Type 0} (result other : Result T DeskFault) (connection : Connection) → result ≡ other → ReportsConnection result connection → ReportsConnection other connection
+reports {T = T} result other connection same it = subst (λ (r : Result T DeskFault). ReportsConnection r connection) same it
+
 -- ---- one more connection is taken
 
 pub takes_more : {L P : Type 0} (l : Listeners L P) (Treats : P → Connection → P → Type 0) (connections : List Connection) (last : Connection) (old mid new : L)
@@ -118,88 +127,94 @@ no_refusal contents writer writer' same =
     (Truncated, uncalled contents writer writer' (refusal_text Truncated) same (started (desk_status Truncated) (allow_line Truncated) (json (desk_data Truncated))))
 
 module _ {S : Type 0} (g : Ghosts S) (day : Date) where
-  -- ---- one connection, of which this is told
+  -- ---- one connection, of which this is told and noted
 
-  record Came (old new : Held S) (held holds : Option (List ℕ)) (bytes : List ℕ) (whole done : Bool) : Type 0 where
+  record Came (old new : Held S) (held holds : Option (List ℕ)) (bytes : List ℕ) (whole done : Bool) (note : Option OfficeNote) : Type 0 where
     connection : Connection
     after : IsAfter g day connection old new
     whole_is : is_answered connection ≡ whole
     done_is : is_served connection ≡ done
+    note_is : note ≡ noted connection
     heard : IsOf bytes connection
     written : IsWritten connection held holds
 
-  nothing : (old new : Held S) (held holds : Option (List ℕ)) (bytes : List ℕ) → new ≡ old → IsWritten lost held holds → Came old new held holds bytes false false
-  nothing old new held holds bytes same written = record { connection = lost; after = same; whole_is = refl; done_is = refl; heard = tt; written = written }
+  nothing : (old new : Held S) (held holds : Option (List ℕ)) (bytes : List ℕ) (note : Option OfficeNote) → new ≡ old → note ≡ None → IsWritten lost held holds → Came old new held holds bytes false false note
+  nothing old new held holds bytes note same none written = record { connection = lost; after = same; whole_is = refl; done_is = refl; note_is = none; heard = tt; written = written }
 
-  by_office : (old new : Held S) (held holds : Option (List ℕ)) (whole : Bool) (bytes : List ℕ) (answer : Answer) (it : ServesBytes day bytes (state g old) (state g new) answer)
-      → IsWritten (served bytes it.2.item answer whole) held holds → Came old new held holds bytes whole true
-  by_office old new held holds whole bytes answer it written =
-      record { connection = served bytes it.2.item answer whole; after = (it.0, it.1, it.2, refl); whole_is = refl; done_is = refl; heard = refl; written = written }
+  by_office : (old new : Held S) (held holds : Option (List ℕ)) (whole : Bool) (bytes : List ℕ) (note : Option OfficeNote) (answer : Answer) (it : ServesNoted day bytes note (state g old) (state g new) answer)
+      → IsWritten (served bytes it.0.2.item answer whole) held holds → Came old new held holds bytes whole true note
+  by_office old new held holds whole bytes note answer it written =
+      record { connection = served bytes it.0.2.item answer whole; after = (it.0.0, it.0.1, it.0.2, refl); whole_is = refl; done_is = refl; note_is = it.1; heard = refl; written = written }
 
-  whole : (old new : Held S) (held holds : Option (List ℕ)) (done : Bool) (bytes text : List ℕ) → IsAnswered g (record { day = day; bytes = bytes }) (record { text = text; done = done }) old new → Appends held holds text → Came old new held holds bytes true done
-  whole old new held holds true bytes text it appends = by_office old new held holds true bytes it.0 it.1 (subst (Appends held holds) it.2 appends)
-  whole old new held holds false bytes text it appends =
-      record { connection = refused bytes it.0; after = (it.1, it.2); whole_is = refl; done_is = refl; heard = refl; written = subst (Appends held holds) it.3 appends }
+  whole : (old new : Held S) (held holds : Option (List ℕ)) (done : Bool) (bytes text : List ℕ) (note : Option OfficeNote) → IsNoted g (record { day = day; bytes = bytes }) (record { text = text; done = done }) note old new → Appends held holds text
+      → Came old new held holds bytes true done note
+  whole old new held holds true bytes text note it appends = by_office old new held holds true bytes note it.0 it.1 (subst (Appends held holds) it.2 appends)
+  whole old new held holds false bytes text note it appends =
+      record { connection = refused bytes it.0; after = (it.1, it.2); whole_is = refl; done_is = refl; note_is = it.4; heard = refl; written = subst (Appends held holds) it.3 appends }
 
-  cut : (old new : Held S) (held holds : Option (List ℕ)) (done : Bool) (bytes text : List ℕ) → IsAnswered g (record { day = day; bytes = bytes }) (record { text = text; done = done }) old new → WritesBeginning held holds text → Came old new held holds bytes false done
-  cut old new held holds true bytes text it begins = by_office old new held holds false bytes it.0 it.1 (subst (WritesBeginning held holds) it.2 begins)
-  cut old new held holds false bytes text it begins = nothing old new held holds bytes it.2 (it.0, subst (WritesBeginning held holds) it.3 begins)
+  cut : (old new : Held S) (held holds : Option (List ℕ)) (done : Bool) (bytes text : List ℕ) (note : Option OfficeNote) → IsNoted g (record { day = day; bytes = bytes }) (record { text = text; done = done }) note old new → WritesBeginning held holds text
+      → Came old new held holds bytes false done note
+  cut old new held holds true bytes text note it begins = by_office old new held holds false bytes note it.0 it.1 (subst (WritesBeginning held holds) it.2 begins)
+  cut old new held holds false bytes text note it begins = nothing old new held holds bytes note it.2 it.4 (it.0, subst (WritesBeginning held holds) it.3 begins)
 
   -- ---- what is told of it
 
-  module _ {W : Type 0} (contents : W → Option (List ℕ)) (old new : Held S) (reader reader' : Option (List ℕ)) (writer writer' : Counted W) (failed failed' : Type 0) where
+  module _ {W : Type 0} (contents : W → Option (List ℕ)) (old new : Held S) (reader reader' : Option (List ℕ)) (writer writer' : Counted W) (note : Option OfficeNote) (failed failed' : Type 0) where
     pub record Told {T : Type 0} (result : Result T DeskFault) : Type 0 where
       pub connection : Connection
       pub after : IsAfter g day connection old new
       pub tells : ReportsConnection result connection
+      pub notes : note ≡ noted connection
       pub heard : IfSome reader (λ input. IsOf input connection)
       pub written : IsWritten connection (contents (device_of writer)) (contents (device_of writer'))
 
     -- what was answered, and written of it, over some bytes
     abbrev pub Written : List ℕ → Type 0
-    Written bytes = (text : List ℕ) × (done : Bool) × IsAnswered g (record { day = day; bytes = bytes }) (record { text = text; done = done }) old new × Appends (contents (device_of writer)) (contents (device_of writer')) text
+    Written bytes =
+        (text : List ℕ) × (done : Bool) × IsNoted g (record { day = day; bytes = bytes }) (record { text = text; done = done }) note old new × Appends (contents (device_of writer)) (contents (device_of writer')) text
 
     abbrev pub Begun : Bool → List ℕ → Type 0
-    Begun done bytes = (text : List ℕ) × (count : ℕ) × IsAnswered g (record { day = day; bytes = bytes }) (record { text = text; done = done }) old new × (count < length text) × Appends (contents (device_of writer)) (contents (device_of writer')) (take count text)
+    Begun done bytes = (text : List ℕ) × (count : ℕ) × IsNoted g (record { day = day; bytes = bytes }) (record { text = text; done = done }) note old new × (count < length text)
+        × Appends (contents (device_of writer)) (contents (device_of writer')) (take count text)
 
     abbrev pub Unwritten : List ℕ → Type 0
-    Unwritten bytes = (answer : Answer) × ServesBytes day bytes (state g old) (state g new) answer
+    Unwritten bytes = (answer : Answer) × ServesNoted day bytes note (state g old) (state g new) answer
 
     abbrev pub Answers : Type 0
-    Answers = (given text : List ℕ) × (done : Bool) × Consumes reader reader' given × IsAnswered g (record { day = day; bytes = given }) (record { text = text; done = done }) old new × Appends (contents (device_of writer)) (contents (device_of writer')) text
-        × (Hears given (Err Truncated) → IsAtEnd reader')
+    Answers = (given text : List ℕ) × (done : Bool) × Consumes reader reader' given × IsNoted g (record { day = day; bytes = given }) (record { text = text; done = done }) note old new
+        × Appends (contents (device_of writer)) (contents (device_of writer')) text × (Hears given (Err Truncated) → IsAtEnd reader')
 
     abbrev pub Fails : Type 0
-    Fails = (given : List ℕ) × Consumes reader reader' given × Hears given (Err Truncated) × failed × (new ≡ old) × (writer' ≡ writer)
+    Fails = (given : List ℕ) × Consumes reader reader' given × Hears given (Err Truncated) × failed × (new ≡ old) × (writer' ≡ writer) × (note ≡ None)
 
     abbrev pub Stops : Bool → Type 0
-    Stops done = (given text : List ℕ) × (count : ℕ) × Consumes reader reader' given × IsAnswered g (record { day = day; bytes = given }) (record { text = text; done = done }) old new × (count < length text)
+    Stops done = (given text : List ℕ) × (count : ℕ) × Consumes reader reader' given × IsNoted g (record { day = day; bytes = given }) (record { text = text; done = done }) note old new × (count < length text)
         × Appends (contents (device_of writer)) (contents (device_of writer')) (take count text) × failed' × (Hears given (Err Truncated) → IsAtEnd reader')
 
     abbrev pub Wants : Type 0
-    Wants = (given : List ℕ) × (answer : Answer) × Consumes reader reader' given × ServesBytes day given (state g old) (state g new) answer × (writer' ≡ writer)
+    Wants = (given : List ℕ) × (answer : Answer) × Consumes reader reader' given × ServesNoted day given note (state g old) (state g new) answer × (writer' ≡ writer)
 
     pub told : {T : Type 0} (result : Result T DeskFault) → OnOk result Answers → (result ≡ Err Read → Fails) → ((done : Bool) → result ≡ Err (Write done) → Stops done)
-        → (result ≡ Err (Memory true) → Wants) → (result ≡ Err (Memory false) → (new ≡ old) × (writer' ≡ writer))
+        → (result ≡ Err (Memory true) → Wants) → (result ≡ Err (Memory false) → (new ≡ old) × (writer' ≡ writer) × (note ≡ None))
         → OnOk result (IfSome reader Written) → ((done : Bool) → result ≡ Err (Write done) → IfSome reader (Begun done)) → (result ≡ Err (Memory true) → IfSome reader Unwritten) → Told result
     told (Ok _) answers fails stops wants none whole_written whole_begun whole_unwritten =
         let heard = known reader Written answers.0 (answers.1, answers.2, answers.4, answers.5) whole_written in
-        let it = whole old new _ _ heard.1.1 heard.0 heard.1.0 heard.1.2 heard.1.3 in
-        record { connection = it.connection; after = it.after; tells = it.whole_is; heard = of_input reader heard.0 it.connection it.heard heard.2; written = it.written }
+        let it = whole old new _ _ heard.1.1 heard.0 heard.1.0 note heard.1.2 heard.1.3 in
+        record { connection = it.connection; after = it.after; tells = it.whole_is; notes = it.note_is; heard = of_input reader heard.0 it.connection it.heard heard.2; written = it.written }
     told (Err Read) answers fails stops wants none whole_written whole_begun whole_unwritten =
-        record { connection = lost; after = (fails refl).4; tells = (refl, refl); heard = of_lost reader; written = no_refusal contents writer writer' (fails refl).5 }
+        record { connection = lost; after = (fails refl).4; tells = (refl, refl); notes = (fails refl).6; heard = of_lost reader; written = no_refusal contents writer writer' (fails refl).5 }
     told (Err (Write done)) answers fails stops wants none whole_written whole_begun whole_unwritten =
         let at = stops done refl in
         let heard = known reader (Begun done) at.0 (at.1, at.2, at.4, at.5, at.6) (whole_begun done refl) in
-        let it = cut old new _ _ done heard.0 heard.1.0 heard.1.2 (heard.1.1, heard.1.3, heard.1.4) in
-        record { connection = it.connection; after = it.after; tells = (it.whole_is, it.done_is); heard = of_input reader heard.0 it.connection it.heard heard.2; written = it.written }
+        let it = cut old new _ _ done heard.0 heard.1.0 note heard.1.2 (heard.1.1, heard.1.3, heard.1.4) in
+        record { connection = it.connection; after = it.after; tells = (it.whole_is, it.done_is); notes = it.note_is; heard = of_input reader heard.0 it.connection it.heard heard.2; written = it.written }
     told (Err (Memory true)) answers fails stops wants none whole_written whole_begun whole_unwritten =
         let at = wants refl in
         let heard = known reader Unwritten at.0 (at.1, at.3) (whole_unwritten refl) in
-        let it = by_office old new _ _ false heard.0 heard.1.0 heard.1.1 (no_answer contents writer writer' heard.1.0 at.4) in
-        record { connection = it.connection; after = it.after; tells = (it.whole_is, it.done_is); heard = of_input reader heard.0 it.connection it.heard heard.2; written = it.written }
+        let it = by_office old new _ _ false heard.0 note heard.1.0 heard.1.1 (no_answer contents writer writer' heard.1.0 at.4) in
+        record { connection = it.connection; after = it.after; tells = (it.whole_is, it.done_is); notes = it.note_is; heard = of_input reader heard.0 it.connection it.heard heard.2; written = it.written }
     told (Err (Memory false)) answers fails stops wants none whole_written whole_begun whole_unwritten =
-        record { connection = lost; after = (none refl).0; tells = (refl, refl); heard = of_lost reader; written = no_refusal contents writer writer' (none refl).1 }
+        record { connection = lost; after = (none refl).0; tells = (refl, refl); notes = (none refl).2; heard = of_lost reader; written = no_refusal contents writer writer' (none refl).1 }
 
   -- ---- one more
 

@@ -1,4 +1,5 @@
 pub mod Accepting
 pub mod Listening
+pub mod Logging
 pub mod Peers
 pub mod Sockets

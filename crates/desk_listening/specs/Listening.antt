@@ -1,5 +1,5 @@
 -- What comes of connections, one after the other. `old` is the office before and `new` the office after. The rules are Depot's own.
-use Rattle.std.specs.Prelude.{◌≡◌, ℕ, List, [], ◌∷◌, Bool, true, false, Result, Ok, Err, ⊤}
+use Rattle.std.specs.Prelude.{◌≡◌, ℕ, List, [], ◌∷◌, Bool, true, false, Option, None, Some, Result, Ok, Err, ⊤}
 use Rattle.jiff.specs.Types.{Date}
 use Rattle.sqlite.specs.Held.{Held, state}
 use Rattle.sqlite.specs.State.{HasCleanDisk}
@@ -10,6 +10,8 @@ use Rattle.office_engine.specs.Keeping.{Runs}
 use Rattle.desk_routes.specs.declared.refusal.DeskRefusal.{DeskRefusal}
 use Rattle.desk_hearing.specs.Asked.{HeardValue}
 use Rattle.desk_hearing.specs.Hearing.{Hears}
+use Rattle.desk_log.specs.Notes.{note_of}
+use Rattle.desk_log.specs.declared.note.OfficeNote.{OfficeNote}
 use Rattle.desk_serving.specs.Serving.{IsHeardServed}
 use Rattle.desk_serving.specs.declared.serving.DeskFault.{DeskFault}
 use Rattle.desk_serving.specs.declared.serving.DeskFault.TheVariants as faults
@@ -62,6 +64,12 @@ done_of (faults.Memory done) = done
 abbrev pub ReportsConnection : {T : Type 0} → Result T DeskFault → Connection → Type 0
 ReportsConnection (Ok _) connection = is_answered connection ≡ true
 ReportsConnection (Err fault) connection = (is_answered connection ≡ false) × (is_served connection ≡ done_of fault)
+
+-- what is noted of the office's answer, where it served what was heard
+abbrev pub noted : Connection → Option OfficeNote
+noted (served bytes item answer whole) = Some (note_of item.2 answer)
+noted (refused bytes refusal) = None
+noted lost = None
 
 -- what the office served, in turn
 abbrev pub items_of : List Connection → List Item

@@ -2,8 +2,10 @@
 
 ghost use Rattle.std.specs.Prelude.{◌≡◌, ◌+◌, ◌<◌, ℕ, Bool, List, Err, IfErr, IfOk, is_ok};
 ghost use Rattle.std.specs.IoError.{error_kind};
+ghost use Rattle.desk_log.specs.Logging.{IsLogged, log_of};
 ghost use Rattle.desk_listening.specs.Accepting.{CountsAs, EndsAlone, EndsAt, Takes, TakesAll, served_of};
-ghost use Rattle.desk_listening.specs.Listening.{Connection, IsAfter, IsAfterAll, IsRun, ReportsConnection, is_answered};
+ghost use Rattle.desk_listening.specs.Listening.{Connection, IsAfter, IsAfterAll, IsRun, ReportsConnection, is_answered, noted};
+ghost use Rattle.desk_listening.specs.Logging.{all_lines};
 ghost use Rattle.desk_listening.specs.Peers.{Talks, Treats};
 
 use crate::accepting::{AcceptFailed, Served, ends_one_connection};
@@ -11,14 +13,17 @@ use crate::ends::{Ends, hang_up, open};
 use crate::listener::Listener;
 use crate::patience::Patience;
 use crate::peer::Peer;
-use http_desk::{DeskFault, serve_one};
+use desk_log::{OfficeNote, Watch, tell_end};
+use http_desk::{Counted, DeskFault, serve_noting};
 use office_core::Day;
 use office_engine::Office;
 use sqlite::Alter;
 use std::alloc::Global;
 use std::io;
+use std::io::Write;
 
-/// Serves the one request that comes over these ends, and leaves the peer.
+/// Serves the one request that comes over these ends, and leaves the peer: what came of it, and what is
+/// noted of the office's answer.
 fn serve_ends<S: Alter, P: Peer>(
     alloc: Global,
     office: &mut Office<S>,
@@ -26,23 +31,26 @@ fn serve_ends<S: Alter, P: Peer>(
     peer: &mut P,
     ends: &mut Ends<P::Reader, P::Writer>,
     patience: &Patience,
-) -> Result<(), DeskFault>
+) -> (Result<(), DeskFault>, Option<OfficeNote>)
     ensures { (connection : Connection)
-        × IsAfter S.Store day connection office.old office.new × ReportsConnection result connection
+        × IsAfter S.Store day connection office.old office.new
+        × ReportsConnection result.0 connection × (result.1 ≡ noted connection)
         × Talks (record { peer = P.Peer; reads = P.Reader.Read; writes = P.Writer.Write })
         patience.now (record { peer = peer.old; ends = ends.old }) connection
         (record { peer = peer.new; ends = ends.new }) }
 {
-    match serve_one(alloc, office, day, &mut ends.reader, &mut ends.writer) {
+    let (ended, note) = serve_noting(alloc, office, day, &mut ends.reader, &mut ends.writer);
+    match ended {
         Ok(()) => {
             let _left = hang_up(peer, &mut ends.reader, patience);
-            Ok(())
+            (Ok(()), note)
         }
-        Err(fault) => Err(fault),
+        Err(fault) => (Err(fault), note),
     }
 }
 
-/// Serves the one request of a connection, and leaves the peer.
+/// Serves the one request of a connection, and leaves the peer: what came of it, and what is noted of the
+/// office's answer.
 ///
 /// A connection that takes no waits, or has no ends, is a `Read`: nothing was done.
 pub fn serve_peer<S: Alter, P: Peer>(
@@ -51,29 +59,39 @@ pub fn serve_peer<S: Alter, P: Peer>(
     day: Day,
     peer: &mut P,
     patience: &Patience,
-) -> Result<(), DeskFault>
+) -> (Result<(), DeskFault>, Option<OfficeNote>)
     ensures { (connection : Connection)
-        × IsAfter S.Store day connection office.old office.new × ReportsConnection result connection
+        × IsAfter S.Store day connection office.old office.new
+        × ReportsConnection result.0 connection × (result.1 ≡ noted connection)
         × Treats (record { peer = P.Peer; reads = P.Reader.Read; writes = P.Writer.Write })
         patience.now peer.old connection peer.new }
 {
     match open(peer, patience.talk) {
         Ok(mut ends) => serve_ends(alloc, office, day, peer, &mut ends, patience),
-        Err(_) => Err(DeskFault::Read),
+        Err(_) => (Err(DeskFault::Read), None),
     }
 }
 
-/// Takes one connection, serves it and closes it: whether its whole answer was written. Fails where
-/// `accept` does, unless that ends this one connection alone.
+/// What came of a connection.
+#[derive(Clone, Copy)]
+struct Taken {
+    /// Whether its whole answer was written.
+    answered: bool,
+    /// What is noted of the office's answer.
+    note: Option<OfficeNote>,
+}
+
+/// Takes one connection, serves it and closes it. Fails where `accept` does, unless that ends this one
+/// connection alone.
 fn serve_next<S: Alter, P: Peer, L: Listener<Stream = P>>(
     alloc: Global,
     office: &mut Office<S>,
     day: Day,
     listener: &mut L,
     patience: &Patience,
-) -> io::Result<bool>
-    ensures served { IfOk result (λ answered. (connection : Connection)
-        × (is_answered connection ≡ answered)
+) -> io::Result<Taken>
+    ensures served { IfOk result (λ taken. (connection : Connection)
+        × (is_answered connection ≡ taken.answered) × (taken.note ≡ noted connection)
         × IsAfter S.Store day connection office.old office.new
         × Takes L.Listener
         (Treats (record { peer = P.Peer; reads = P.Reader.Read; writes = P.Writer.Write })
@@ -84,24 +102,36 @@ fn serve_next<S: Alter, P: Peer, L: Listener<Stream = P>>(
 {
     let mut peer = match listener.accept() {
         Ok(peer) => peer,
-        Err(error) if ends_one_connection(error.kind()) => return Ok(false),
+        Err(error) if ends_one_connection(error.kind()) => {
+            return Ok(Taken {
+                answered: false,
+                note: None,
+            });
+        }
         Err(error) => return Err(error),
     };
-    let served = serve_peer(alloc, office, day, &mut peer, patience);
+    let (ended, note) = serve_peer(alloc, office, day, &mut peer, patience);
     listener.close(peer);
-    Ok(served.is_ok())
+    Ok(Taken {
+        answered: ended.is_ok(),
+        note,
+    })
 }
 
-/// Serves so many connections on that day, one request each, one after the other. What fails in one
+/// Serves that number of connections on that day, one request each, one after the other. What fails in one
 /// ends that one alone, and so does an `accept` whose connection was aborted, or that a signal
 /// interrupted. Any other `accept` that fails ends the serving at once.
-pub fn serve_connections<S: Alter, P: Peer, L: Listener<Stream = P>>(
+///
+/// The log is told where requests fail because memory ran out or the store failed, and that they succeed
+/// again. A line that can't be written is dropped.
+pub fn serve_connections<S: Alter, P: Peer, L: Listener<Stream = P>, E: Write>(
     alloc: Global,
     office: &mut Office<S>,
     day: Day,
     listener: &mut L,
     count: u32,
     patience: &Patience,
+    log: &mut Counted<E>,
 ) -> Result<Served, AcceptFailed>
     ensures sum { IfOk result (λ served. served.answered + served.failed ≡ count) }
     ensures fewer { IfErr result (λ failure.
@@ -113,12 +143,20 @@ pub fn serve_connections<S: Alter, P: Peer, L: Listener<Stream = P>>(
         × TakesAll L.Listener
         (Treats (record { peer = P.Peer; reads = P.Reader.Read; writes = P.Writer.Write })
         patience.now) connections listener.old last
-        × EndsAt L.Listener result last listener.new }
+        × EndsAt L.Listener result last listener.new
+        × IsLogged (all_lines result count connections)
+        (log_of E.Write log.old) (log_of E.Write log.new) }
 {
+    // What its type says of the number of failures.
+    let _failures = log.failures();
+    let mut watch = Watch::new();
     let mut answered = 0;
     for taken in 0..count {
         match serve_next(alloc, office, day, listener, patience) {
-            Ok(whole) => answered += u32::from(whole),
+            Ok(next) => {
+                answered += u32::from(next.answered);
+                watch = watch.tell(next.note, log);
+            }
             Err(error) => {
                 let served = Served {
                     answered,
@@ -128,6 +166,7 @@ pub fn serve_connections<S: Alter, P: Peer, L: Listener<Stream = P>>(
             }
         }
     }
+    tell_end(count, log);
     Ok(Served {
         answered,
         failed: count - answered,

@@ -1,4 +1,4 @@
--- One connection more.
+-- One more connection.
 use Rattle.std.proofs.Common.{◌≡◌, ◌+◌, ◌++◌, ◌∷◌, [], List, Option, Some, None, append-nil, append_assoc, ap, arith, refl, sym, ◌∙◌}
 use Rattle.desk_log.specs.Watching.{IsCounted, lines_at, lines_from, one_more, streak_after, streak_of, watch_after, watch_from, with_streak}
 use Rattle.desk_log.specs.declared.note.OfficeNote.{OfficeNote}

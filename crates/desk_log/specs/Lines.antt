@@ -22,7 +22,7 @@ success_name Reading = codes " succeeded again, after "
 abbrev pub line_front : ℕ → RequestKind → List ℕ
 line_front number kind = ((codes "depot: connection " ++ decimal number) ++ codes ": ") ++ kind_name kind
 
--- so many requests in a row failed, the last of them so: "depot: connection 17: a change was answered Store, 1 in a row"
+-- a request failed so, the last of this number in a row: "depot: connection 17: a change was answered Store, 1 in a row"
 abbrev pub failed_line : ℕ → RequestKind → OfficeFailure → ℕ → List ℕ
 failed_line number kind failure count =
     ((((line_front number kind ++ codes " was answered ") ++ failure_name failure) ++ codes ", ") ++ decimal count) ++ (codes " in a row" ++ 10 ∷ [])

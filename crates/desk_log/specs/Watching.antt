@@ -52,7 +52,7 @@ with_streak Reading streak watch = record watch { readings = streak }
 abbrev pub one_more : Watch → Watch
 one_more watch = record watch { connections = watch.connections + 1 }
 
--- after one connection more, of which this is noted
+-- after one more connection, of which this is noted
 abbrev pub watch_after : Watch → Option OfficeNote → Watch
 watch_after watch None = one_more watch
 watch_after watch (Some note) = with_streak note.kind (streak_after (streak_of note.kind watch) note.outcome) (one_more watch)

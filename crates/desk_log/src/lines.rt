@@ -54,7 +54,7 @@ fn line_front(number: u32, kind: RequestKind) -> Line
     line
 }
 
-/// The line of so many failures in a row, the last of them this one.
+/// The line of the failure that makes it this count in a row.
 pub(crate) fn failed_line(
     number: u32,
     kind: RequestKind,
@@ -73,7 +73,7 @@ pub(crate) fn failed_line(
     line
 }
 
-/// The line of a success after so many failures in a row, the last of them this one.
+/// The line of a success after this count of failures in a row, the last of which is named.
 pub(crate) fn success_line(
     number: u32,
     kind: RequestKind,

@@ -28,7 +28,7 @@ pub struct Watch {
     pub readings: Streak,
 }
 
-/// Whether the log is told of so many failures in a row.
+/// Whether the log is told of a failure that makes it this count in a row.
 fn is_told(count: u32) -> bool
     ensures { result ≡ is_told count }
 {
@@ -45,7 +45,7 @@ fn is_told(count: u32) -> bool
 }
 
 impl Streak {
-    /// The streak after one request more.
+    /// The streak after one more request.
     fn after(self, outcome: OfficeOutcome) -> Streak
         requires { self.count + 1 < 2 ^ 32 }
         ensures { result ≡ streak_after self outcome }
@@ -60,7 +60,7 @@ impl Streak {
         }
     }
 
-    /// Tells the log of one request more, where there is something to tell.
+    /// Tells the log of one more request, where there is something to tell.
     fn tell<E: Write>(
         self,
         number: u32,
@@ -129,7 +129,7 @@ impl Watch {
         }
     }
 
-    /// Tells the log of one connection more, of which this is noted, where there is something to tell.
+    /// Tells the log of one more connection, of which this is noted, where there is something to tell.
     /// A line that can't be written is dropped.
     pub fn tell<E: Write>(self, note: Option<OfficeNote>, log: &mut Counted<E>) -> Watch
         requires counted { IsCounted self }

@@ -6,6 +6,7 @@ use Rattle.sqlite.specs.Held.{Held, state}
 use Rattle.sqlite.specs.State.{State, HasCleanDisk, Survives}
 use Rattle.sqlite.specs.Store.{Ghosts}
 use Rattle.office_core.specs.declared.answer.Answer.{Answer}
+use Rattle.office_core.specs.declared.request.Request.{Request}
 use Rattle.office_history.specs.Runs.{Item}
 use Rattle.office_engine.specs.Keeping.{CommitsTo, IsTurn, after_item}
 use Rattle.desk_routes.specs.declared.refusal.DeskRefusal.{DeskRefusal}
@@ -53,9 +54,13 @@ IsAnswered g request reply old new =
 
 -- ---- the same, and what is noted of the office's answer
 
+-- the request that the office served
+abbrev pub request_in : {day : Date} {bytes : List ℕ} {old new : State} {answer : Answer} → ServesBytes day bytes old new answer → Request
+request_in serves = serves.2.item.2
+
 abbrev pub ServesNoted : Date → List ℕ → Option OfficeNote → State → State → Answer → Type 0
 ServesNoted day bytes note old new answer =
-    (serves : ServesBytes day bytes old new answer) × (note ≡ Some (note_of serves.2.item.2 answer))
+    (serves : ServesBytes day bytes old new answer) × (note ≡ Some (note_of (request_in serves) answer))
 
 -- of what the desk refuses nothing is noted
 abbrev pub IsNoted : {S : Type 0} → Ghosts S → DeskRequest → DeskReply → Option OfficeNote → Held S → Held S → Type 0

@@ -5,24 +5,27 @@ use Rattle.sqlite.specs.Held.{Held}
 use Rattle.sqlite.specs.Store.{Ghosts}
 use Rattle.desk_listening.specs.Accepting.{CountsAs}
 use Rattle.desk_listening.specs.Listening.{Connection, IsAfterAll}
+use Rattle.desk_listening.specs.Logging.{all_lines}
+use Rattle.desk_log.specs.Logging.{IsLogged, Log}
 use Rattle.desk_listening.specs.declared.accepting.Served.{Served}
 use Rattle.office_commands.specs.Deeds.{AreDone, Deed, deeds_of_connections}
 use Rattle.office_commands.specs.Tasks.{IsPortFor, Listens}
 use Rattle.office_commands.specs.Texts.{IsUnheard}
+use Rattle.office_commands.specs.Traffic.{Said}
 use Rattle.office_commands.specs.declared.fault.CommandFault.{CommandFault}
 use Rattle.office_commands.proofs.DeedLemmas.{connections_are_done}
 
 module _ {S : Type 0} (g : Ghosts S) (day : Date) (old new : Held S) where
-  pub served_all : (count : ℕ) (served : Served) (connections : List Connection) → served.answered + served.failed ≡ count → CountsAs connections served → IsAfterAll g day connections old new
-      → (served : List Connection) × (length served ≡ count) × AreDone g (deeds_of_connections day served) old new
-  served_all count served connections sum counts after = (connections, counts.0 ∙ sum, connections_are_done g day connections old new after)
+  pub served_all : (count : ℕ) (served : Served) (connections : List Connection) (Logged : List Connection → Type 0) → served.answered + served.failed ≡ count → CountsAs connections served
+      → IsAfterAll g day connections old new → Logged connections → (served : List Connection) × (length served ≡ count) × AreDone g (deeds_of_connections day served) old new × Logged served
+  served_all count served connections Logged sum counts after logged = (connections, counts.0 ∙ sum, connections_are_done g day connections old new after, logged)
 
-  pub served_fewer : (count : ℕ) (served : Served) (connections : List Connection) → served.answered + served.failed < count → CountsAs connections served → IsAfterAll g day connections old new
-      → (served : List Connection) × (length served < count) × AreDone g (deeds_of_connections day served) old new
-  served_fewer count served connections fewer counts after =
-      (connections, subst (λ (n : ℕ). n < count) (sym counts.0) fewer, connections_are_done g day connections old new after)
+  pub served_fewer : (count : ℕ) (served : Served) (connections : List Connection) (Logged : List Connection → Type 0) → served.answered + served.failed < count → CountsAs connections served
+      → IsAfterAll g day connections old new → Logged connections → (served : List Connection) × (length served < count) × AreDone g (deeds_of_connections day served) old new × Logged served
+  served_fewer count served connections Logged fewer counts after logged =
+      (connections, subst (λ (n : ℕ). n < count) (sym counts.0) fewer, connections_are_done g day connections old new after, logged)
 
 -- the port can't be had
-pub unheard : {S : Type 0} (T : Type 0) (g : Ghosts S) (day : Date) (office : Held S) (fault : CommandFault) (port count : ℕ) (held : Option (List ℕ)) → IsUnheard fault → port ≤ 65_535
+pub unheard : {S : Type 0} (T : Type 0) (g : Ghosts S) (day : Date) (office : Held S) (fault : CommandFault) (port count : ℕ) (held : Said) → IsUnheard fault → port ≤ 65_535
     → (told : ℕ) × (deeds : List Deed) × IsPortFor port told × Listens {T = T} (record { day = day; port = told; count = count }) (Err fault) deeds held held × AreDone g deeds office office
 unheard T g day office fault port count held fails fits = (port, [], (fits, λ other. refl), inl (fails, refl, refl), refl)

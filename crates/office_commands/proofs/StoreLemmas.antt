@@ -24,21 +24,21 @@ use Rattle.office_commands.specs.Deeds.{Deed, LeadOn}
 use Rattle.office_commands.specs.Stores.{InFile, InMemory, IsOfficeOver, IsOpenedFrom, LeadsInto, RunsAndCloses, RunsInFile, RunsInMemory, RunsOver, SomeOffice, made_office}
 use Rattle.office_commands.specs.Tasks.{DoesTask, Task, makes_office}
 use Rattle.office_commands.specs.Texts.{IsUnclosable}
-use Rattle.office_commands.specs.Traffic.{Traffic, Upshot}
+use Rattle.office_commands.specs.Traffic.{LoggedTraffic, Upshot}
 use Rattle.office_commands.specs.declared.done.Done.{Done}
 use Rattle.office_commands.specs.declared.fault.CommandFault.{CommandFault}
 use Rattle.office_commands.proofs.DeedLemmas.{deeds_clean, deeds_lead}
 use Rattle.office_commands.proofs.FileLemmas.{held_of, opened_as_made, opened_as_taken}
 
 -- the upshot of this result, with the traffic before and after
-abbrev pub upshot : {T : Type 0} → Result T CommandFault → Traffic → Traffic → Upshot T
+abbrev pub upshot : {T : Type 0} → Result T CommandFault → LoggedTraffic → LoggedTraffic → Upshot T
 upshot result was now = record { result = result; was = was; now = now }
 
 made_is_legal : IsLegal made_office
 made_is_legal = new max_limit max_limit refl refl
 
 -- with an office that was just made in memory, whose disk is always clean
-pub runs_in_memory : {T : Type 0} (r : Result T CommandFault) (task : Task) (a b : ℕ) (first last : Held MemStore) (was now : Traffic) → (a ≡ max_limit) × (b ≡ max_limit)
+pub runs_in_memory : {T : Type 0} (r : Result T CommandFault) (task : Task) (a b : ℕ) (first last : Held MemStore) (was now : LoggedTraffic) → (a ≡ max_limit) × (b ≡ max_limit)
     → (HasCleanDisk (state over_memory first) → IsKeptBy (new_history a b) (state over_memory first))
     → DoesTask over_memory task (upshot r was now) first last → RunsInMemory task (upshot r was now)
 runs_in_memory r task a b first last was now limits made it =
@@ -50,7 +50,7 @@ pub memory_leads : (deeds : List Deed) (office : InMemory deeds) → (next : His
 memory_leads deeds office = deeds_lead over_memory deeds office.old office.new office.done (memory_is_clean office.new) made_office made_is_legal office.made
 
 -- with an open office, which is closed into these files
-pub runs_and_closes : {D T : Type 0} (g : Disks D) (r : Result T CommandFault) (task : Task) (first last : Held (FileStore D g)) (files : Files D) (was now : Traffic)
+pub runs_and_closes : {D T : Type 0} (g : Disks D) (r : Result T CommandFault) (task : Task) (first last : Held (FileStore D g)) (files : Files D) (was now : LoggedTraffic)
     → (AreClean g files.log files.db → IsCopied last files) → DoesTask over_files task (upshot r was now) first last → RunsAndCloses g first task (upshot r was now)
 runs_and_closes g r task first last files was now copied it = inl (it.0, files, it.1, record { new = last; done = it.2; copied = copied })
 
@@ -65,12 +65,12 @@ files_lead g first makes deeds office clean version h legal holds =
     (at.0, at.1, at.2.legal, held_of (image_of g office.files) (file_state closed.new) it.was_open it.seen.both at.0 at.2)
 
 -- or it can't be closed
-pub runs_unclosed : {D T : Type 0} (g : Disks D) (r : Result T CommandFault) (fault : CommandFault) (task : Task) (first last : Held (FileStore D g)) (was now : Traffic)
+pub runs_unclosed : {D T : Type 0} (g : Disks D) (r : Result T CommandFault) (fault : CommandFault) (task : Task) (first last : Held (FileStore D g)) (was now : LoggedTraffic)
     → IsUnclosable fault → DoesTask over_files task (upshot r was now) first last → RunsAndCloses {T = T} g first task (upshot (Err fault) was now)
 runs_unclosed g r fault task first last was now fails it = inr (record { failed = fails; did = r; deeds = it.0; does = it.1; new = last; done = it.2 })
 
 -- it is closed or it can't be
-pub runs_to_end : {D : Type 0} (g : Disks D) (r done : Result Done CommandFault) (closed : Result (Files D) CommandFault) (task : Task) (first last : Held (FileStore D g)) (was now : Traffic)
+pub runs_to_end : {D : Type 0} (g : Disks D) (r done : Result Done CommandFault) (closed : Result (Files D) CommandFault) (task : Task) (first last : Held (FileStore D g)) (was now : LoggedTraffic)
     → IfOk closed (λ files. AreClean g files.log files.db → IsCopied last files) → IfErr closed IsUnclosable → IfOk closed (λ _. r ≡ done) → IfErr closed (λ fault. r ≡ Err fault)
     → DoesTask over_files task (upshot done was now) first last → RunsAndCloses g first task (upshot r was now)
 runs_to_end g r done (Ok files) task first last was now copied fails same other it =
@@ -79,7 +79,7 @@ runs_to_end g r done (Err fault) task first last was now copied fails same other
     subst (λ (x : Result Done CommandFault). RunsAndCloses g first task (upshot x was now)) (sym other) (runs_unclosed g done fault task first last was now fails it)
 
 -- over a connection
-pub runs_over : {D : Type 0} (g : Disks D) (r done : Result Done CommandFault) (closed : Result (Files D) CommandFault) (conn last : Held (FileStore D g)) (is_new : Bool) (task : Task) (was now : Traffic)
+pub runs_over : {D : Type 0} (g : Disks D) (r done : Result Done CommandFault) (closed : Result (Files D) CommandFault) (conn last : Held (FileStore D g)) (is_new : Bool) (task : Task) (was now : LoggedTraffic)
     → IfOk closed (λ files. AreClean g files.log files.db → IsCopied last files) → IfErr closed IsUnclosable → IfOk closed (λ _. r ≡ done) → IfErr closed (λ fault. r ≡ Err fault)
     → SomeOffice (IsOfficeOver over_files conn is_new) (λ office. DoesTask over_files task (upshot done was now) office last) → RunsOver g conn is_new task (upshot r was now)
 runs_over g r done closed conn last is_new task was now copied fails same other it =
@@ -95,7 +95,7 @@ opened_from g first makes is_new conn office asked opened found is = elim (cases
 ]
 
 -- the office is had in a file
-in_file : {D T : Type 0} (g : Disks D) (first : Image) (r : Result T CommandFault) (task : Task) (old : Held (FileStore D g)) (was now : Traffic) → IsOpenedFrom g first (makes_office task) old
+in_file : {D T : Type 0} (g : Disks D) (first : Image) (r : Result T CommandFault) (task : Task) (old : Held (FileStore D g)) (was now : LoggedTraffic) → IsOpenedFrom g first (makes_office task) old
     → RunsAndCloses g old task (upshot r was now) → RunsInFile g first task (upshot r was now)
 in_file g first r task old was now opened (inl it) = inr (inl (
   it.0,
@@ -109,7 +109,7 @@ in_file g first r task old was now opened (inl it) = inr (inl (
 ))
 in_file g first r task old was now opened (inr it) = inr (inr (old, opened, it))
 
-pub runs_in_file : {D T : Type 0} (g : Disks D) (first : Image) (r : Result T CommandFault) (task : Task) (is_new : Bool) (conn : Held (FileStore D g)) (was now : Traffic)
+pub runs_in_file : {D T : Type 0} (g : Disks D) (first : Image) (r : Result T CommandFault) (task : Task) (is_new : Bool) (conn : Held (FileStore D g)) (was now : LoggedTraffic)
     → (is_new ≡ true → makes_office task ≡ true) → (HasCleanDisk (file_state conn) → IsOpened conn) → (HasCleanDisk (file_state conn) → FindsIn first (file_state conn))
     → RunsOver g conn is_new task (upshot r was now) → RunsInFile g first task (upshot r was now)
 runs_in_file g first r task is_new conn was now asked opened found (inl it) = inl it

@@ -14,16 +14,16 @@ use Rattle.commands.specs.declared.ending.Ending.TheVariants.{Refused}
 use Rattle.office_commands.specs.Deeds.{AreDone, Deed, fails, installs}
 use Rattle.commands.specs.PolicyFiles.{IsAllOf, IsRead}
 use Rattle.office_commands.specs.Policies.{installed_text}
-use Rattle.office_commands.specs.Tasks.{DoesTask, IsPortFor, Listens, ComesOfReplay, ReplaysAfter, Task, install_of}
+use Rattle.office_commands.specs.Tasks.{ComesOfAsk, DoesTask, IsPortFor, Listens, ComesOfReplay, ReplaysAfter, Task, install_of}
 use Rattle.office_commands.specs.Texts.{IsUninstalled, IsUnsaid}
-use Rattle.office_commands.specs.Traffic.{Traffic}
+use Rattle.office_commands.specs.Traffic.{LoggedTraffic, Traffic, said_in}
 use Rattle.office_commands.specs.Works.{ComesOfWork, ComesOfBytes, ComesOfFile, IsQuiet, SaysInstalled, SaysRefused, read_policy, refused_policy}
 use Rattle.office_commands.specs.declared.done.Done.{Done}
 use Rattle.office_commands.specs.declared.fault.CommandFault.{CommandFault}
 use Rattle.commands.specs.declared.policy_file.RefusedPolicy.{RefusedPolicy}
 use Rattle.commands.specs.declared.trouble.Trouble.{Trouble}
 use Rattle.office_commands.specs.declared.work.Work.{Work}
-use Rattle.office_commands.specs.declared.work.Work.TheVariants.{Policy, Serve}
+use Rattle.office_commands.specs.declared.work.Work.TheVariants.{Ask, Policy, Replay, Serve}
 
 -- ---- a policy that comes first
 
@@ -84,13 +84,24 @@ says_nothing ran fault policy was is = subst (λ (i : Result Done CommandFault).
 
 -- ---- what a task does
 
-pub does_install : {S T : Type 0} (g : Ghosts S) (task : Task) (policy : Bor PolicyValue) (r : Result T CommandFault) (old new : Held S) (was : Traffic) → task ≡ Policy policy → IfErr r IsUninstalled
+pub does_install : {S T : Type 0} (g : Ghosts S) (task : Task) (policy : Bor PolicyValue) (r : Result T CommandFault) (old new : Held S) (was : LoggedTraffic) → task ≡ Policy policy → IfErr r IsUninstalled
     → AreDone g (install_of r policy.now ∷ []) old new → DoesTask g task (record { result = r; was = was; now = was }) old new
 does_install g task policy r old new was is failed done =
     subst (λ (t : Task). DoesTask g t (record { result = r; was = was; now = was }) old new) (sym is) (install_of r policy.now ∷ [], (failed, refl, refl), done)
 
-pub does_serve : {S T : Type 0} (g : Ghosts S) (task : Task) (day : Date) (port count : ℕ) (r : Result T CommandFault) (old new : Held S) (was now : Traffic) → task ≡ Serve day port count → now.input ≡ was.input
-    → ((told : ℕ) × (deeds : List Deed) × IsPortFor port told × Listens (record { day = day; port = told; count = count }) r deeds was.output now.output × AreDone g deeds old new)
+pub does_ask : {S T : Type 0} (g : Ghosts S) (task : Task) (day : Date) (r : Result T CommandFault) (old new : Held S) (was now : LoggedTraffic) → task ≡ Ask day → now.log ≡ was.log
+    → ((deeds : List Deed) × ComesOfAsk day r deeds was.streams now.streams × AreDone g deeds old new) → DoesTask g task (record { result = r; was = was; now = now }) old new
+does_ask g task day r old new was now is same it =
+    subst (λ (t : Task). DoesTask g t (record { result = r; was = was; now = now }) old new) (sym is) (it.0, (it.1, same), it.2)
+
+pub does_replay : {S T : Type 0} (g : Ghosts S) (task : Task) (policy : Option (Bor PolicyValue)) (r : Result T CommandFault) (old new : Held S) (was now : LoggedTraffic) → task ≡ Replay policy
+    → now.log ≡ was.log → ((deeds : List Deed) × ReplaysAfter policy r deeds was.streams now.streams × AreDone g deeds old new)
+    → DoesTask g task (record { result = r; was = was; now = now }) old new
+does_replay g task policy r old new was now is same it =
+    subst (λ (t : Task). DoesTask g t (record { result = r; was = was; now = now }) old new) (sym is) (it.0, (it.1, same), it.2)
+
+pub does_serve : {S T : Type 0} (g : Ghosts S) (task : Task) (day : Date) (port count : ℕ) (r : Result T CommandFault) (old new : Held S) (was now : LoggedTraffic) → task ≡ Serve day port count → now.streams.input ≡ was.streams.input
+    → ((told : ℕ) × (deeds : List Deed) × IsPortFor port told × Listens (record { day = day; port = told; count = count }) r deeds (said_in was) (said_in now) × AreDone g deeds old new)
     → DoesTask g task (record { result = r; was = was; now = now }) old new
 does_serve g task day port count r old new was now is same it =
     subst (λ (t : Task). DoesTask g t (record { result = r; was = was; now = now }) old new) (sym is) (it.1, (same, (it.0, it.2, it.3)), it.4)
@@ -102,7 +113,7 @@ pub of_host : {F unread : Type 0} {ComesOf : List ℕ → Type 0} → unread ⊎
 of_host (inl none) = inl none
 of_host (inr it) = it.1
 
-pub comes_as : {D : Type 0} (g : Disks D) (first : Image) (name : List ℕ) (work other : Work (Bor (List ℕ))) (alone : Type 0) (result : Result Done CommandFault) (was now : Traffic) → work ≡ other
+pub comes_as : {D : Type 0} (g : Disks D) (first : Image) (name : List ℕ) (work other : Work (Bor (List ℕ))) (alone : Type 0) (result : Result Done CommandFault) (was now : LoggedTraffic) → work ≡ other
     → ComesOfWork g (record { name = name; first = first }) other alone (record { result = result; was = was; now = now })
     → ComesOfWork g (record { name = name; first = first }) work alone (record { result = result; was = was; now = now })
 comes_as g first name work other alone result was now same it =

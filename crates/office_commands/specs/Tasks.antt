@@ -1,4 +1,4 @@
--- What is to be done with an open office, and what the input gives and the output gets as it is done. `was` is the traffic before
+-- What is to be done with an open office, and what the input gives, and the output and the log get as it is done. `was` is the traffic before
 -- and `now` the traffic after; `old` is the office before and `new` the office after.
 use Rattle.std.specs.Prelude.{◌≡◌, ◌≢◌, ◌⊎◌, ◌<◌, ◌≤◌, ◌+◌, ◌∷◌, ◌++◌, [], ℕ, Bool, true, false, List, Option, None, Some, Result, Ok, Err, IfErr, IsErrAnd, codes, decimal, length, take}
 use Rattle.std.specs.Io.KnownBytes.{Appends, IsAtEnd}
@@ -10,6 +10,8 @@ use Rattle.office_core.specs.Policies.{PolicyValue}
 use Rattle.desk_routes.specs.declared.refusal.DeskRefusal.TheVariants.{Truncated}
 use Rattle.desk_hearing.specs.Hearing.{Hears}
 use Rattle.desk_listening.specs.Listening.{Connection}
+use Rattle.desk_listening.specs.Logging.{all_lines}
+use Rattle.desk_log.specs.Logging.{IsLogged}
 use Rattle.desk_serving.specs.Serving.{DeskRequest}
 use Rattle.http_desk.specs.Records.{BeginsWithNone}
 use Rattle.http_desk.specs.RecordLists.{AreRecords, answer_texts, max_records, request_texts}
@@ -17,7 +19,7 @@ use Rattle.http_desk.specs.Replaying.{IsBegun, IsNoRecord}
 use Rattle.streams.specs.Writing.{IsCutShort}
 use Rattle.office_commands.specs.Deeds.{AreDone, Deed, answers, deeds_of_connections, deeds_of_records, fails, installs}
 use Rattle.office_commands.specs.Texts.{IsUnaccepted, IsUnheard, IsUninstalled, IsUnsaid}
-use Rattle.office_commands.specs.Traffic.{Begins, InputGives, WritesText, Traffic, Upshot}
+use Rattle.office_commands.specs.Traffic.{Begins, InputGives, IsUnlogged, Said, Traffic, Upshot, WritesText, said_in}
 use Rattle.office_commands.specs.declared.fault.Cause.TheVariants.{Input, Output}
 use Rattle.office_commands.specs.declared.fault.CommandFault.{CommandFault}
 use Rattle.office_commands.specs.declared.fault.CommandFault.TheVariants as faults
@@ -42,6 +44,13 @@ reads_input (Policy policy) = false
 reads_input (Ask day) = true
 reads_input (Replay policy) = true
 reads_input (Serve day port count) = false
+
+-- only of connections the log is told
+abbrev pub writes_log : {P : Type 0} → Work P → Bool
+writes_log (Policy policy) = false
+writes_log (Ask day) = false
+writes_log (Replay policy) = false
+writes_log (Serve day port count) = true
 
 -- ---- with an open office
 
@@ -151,14 +160,14 @@ pub record Listening : Type 0 where
   pub port : ℕ
   pub count : ℕ
 
--- The port is told, and then so many connections are served on that day, one after the other. Where the port can't be had, nothing is written; where it can't
--- be told, a beginning of the line; and no connection is served. Where one can't be accepted, those before it were served.
-abbrev pub Listens : {T : Type 0} → Listening → Result T CommandFault → List Deed → Option (List ℕ) → Option (List ℕ) → Type 0
-Listens desk result deeds held holds =
-    (IsErrAnd result IsUnheard × (deeds ≡ []) × (holds ≡ held))
-    ⊎ ((IsErrAnd result IsUnsaid × (deeds ≡ []) × IsCutShort (listening_text desk.port) held holds)
+-- The port is told, and then so many connections are served on that day, one after the other, of which the log is told. Where the port can't be had, nothing
+-- is written; where it can't be told, a beginning of the line; and no connection is served. Where one can't be accepted, those before it were served.
+abbrev pub Listens : {T : Type 0} → Listening → Result T CommandFault → List Deed → Said → Said → Type 0
+Listens desk result deeds was now =
+    (IsErrAnd result IsUnheard × (deeds ≡ []) × (now ≡ was))
+    ⊎ ((IsErrAnd result IsUnsaid × (deeds ≡ []) × IsCutShort (listening_text desk.port) was.output now.output × (now.log ≡ was.log))
     ⊎ ((served : List Connection) × IfErr result IsUnaccepted × AreServedFor result desk.count served × (deeds ≡ deeds_of_connections desk.day served)
-    × Appends held holds (listening_text desk.port)))
+    × Appends was.output now.output (listening_text desk.port) × IsLogged (all_lines result desk.count served) was.log now.log))
 
 -- ---- a task
 
@@ -166,11 +175,11 @@ Listens desk result deeds held holds =
 abbrev pub ComesOfTask : {T : Type 0} → Task → Upshot T → List Deed → Type 0
 ComesOfTask (Policy policy) upshot deeds =
     IfErr upshot.result IsUninstalled × (deeds ≡ install_of upshot.result policy.now ∷ []) × (upshot.now ≡ upshot.was)
-ComesOfTask (Ask day) upshot deeds = ComesOfAsk day upshot.result deeds upshot.was upshot.now
-ComesOfTask (Replay policy) upshot deeds = ReplaysAfter policy upshot.result deeds upshot.was upshot.now
+ComesOfTask (Ask day) upshot deeds = ComesOfAsk day upshot.result deeds upshot.was.streams upshot.now.streams × IsUnlogged upshot
+ComesOfTask (Replay policy) upshot deeds = ReplaysAfter policy upshot.result deeds upshot.was.streams upshot.now.streams × IsUnlogged upshot
 ComesOfTask (Serve day port count) upshot deeds =
-    (upshot.now.input ≡ upshot.was.input)
-    × ((told : ℕ) × IsPortFor port told × Listens (record { day = day; port = told; count = count }) upshot.result deeds upshot.was.output upshot.now.output)
+    (upshot.now.streams.input ≡ upshot.was.streams.input)
+    × ((told : ℕ) × IsPortFor port told × Listens (record { day = day; port = told; count = count }) upshot.result deeds (said_in upshot.was) (said_in upshot.now))
 
 -- the task is done with the office over a store
 abbrev pub DoesTask : {S T : Type 0} → Ghosts S → Task → Upshot T → Held S → Held S → Type 0

@@ -11,7 +11,7 @@ use Rattle.commands.specs.PolicyFiles.{IsPolicyRefused as IsRefusedFor}
 use Rattle.office_commands.specs.Policies.{IsUnread, installed_text}
 use Rattle.office_commands.specs.Stores.{NamedStore, RunsOn}
 use Rattle.office_commands.specs.Texts.{IsUnsaid}
-use Rattle.office_commands.specs.Traffic.{Begins, WritesText, Traffic, Upshot}
+use Rattle.office_commands.specs.Traffic.{Begins, IsUnlogged, LoggedTraffic, Traffic, Upshot, WritesText}
 use Rattle.office_commands.specs.declared.done.Done.{Done}
 use Rattle.office_commands.specs.declared.fault.CommandFault.{CommandFault}
 use Rattle.office_commands.specs.declared.fault.CommandFault.TheVariants as faults
@@ -31,7 +31,7 @@ pub data ComesOfBytes (IsRefused : RefusedPolicy → Type 0) (GoesOn : Bor Polic
   read_policy : (policy : Bor PolicyValue) → SpellsPolicyBytes bytes policy.now → GoesOn policy → ComesOfBytes IsRefused GoesOn bytes
 
 -- nothing is read, written or opened
-abbrev pub IsUntouched : Type 0 → Traffic → Traffic → Type 0
+abbrev pub IsUntouched : Type 0 → LoggedTraffic → LoggedTraffic → Type 0
 IsUntouched alone was now = alone × (now ≡ was)
 
 -- the file could not be read, and nothing else was tried
@@ -71,9 +71,9 @@ IsRefusedBefore alone refused upshot = (upshot.result ≡ Err (faults.Policy ref
 -- what comes of an install where these are the bytes of the policy's file
 abbrev pub InstallsOf : {D : Type 0} → Ghosts D → NamedStore → Type 0 → Upshot Done → List ℕ → Type 0
 InstallsOf g store alone upshot =
-    ComesOfBytes (λ refused. alone × SaysRefused refused upshot.result upshot.was upshot.now)
-    (λ policy. (ran : Result Done CommandFault) × (mid : Traffic) × RunsOn g store alone (Policy policy) (record { result = ran; was = upshot.was; now = mid })
-    × SaysInstalled policy.now ran upshot.result mid upshot.now)
+    ComesOfBytes (λ refused. alone × SaysRefused refused upshot.result upshot.was.streams upshot.now.streams × IsUnlogged upshot)
+    (λ policy. (ran : Result Done CommandFault) × (mid : LoggedTraffic) × RunsOn g store alone (Policy policy) (record { result = ran; was = upshot.was; now = mid })
+    × SaysInstalled policy.now ran upshot.result mid.streams upshot.now.streams × (upshot.now.log ≡ mid.log))
 
 -- and of a replay under that policy
 abbrev pub ReplaysOf : {D : Type 0} → Ghosts D → NamedStore → Type 0 → Upshot Done → List ℕ → Type 0

@@ -6,9 +6,12 @@ ghost use Rattle.std.specs.IoError.{error_kind};
 ghost use Rattle.streams.specs.Writing.{IsCutShort};
 ghost use Rattle.desk_listening.specs.Listening.{Connection};
 ghost use Rattle.desk_devices.specs.Devices.{device_of};
+ghost use Rattle.desk_listening.specs.Logging.{all_lines};
+ghost use Rattle.desk_log.specs.Logging.{IsLogged, log_of};
 ghost use Rattle.office_commands.specs.Deeds.{AreDone, Deed, deeds_of_connections};
 ghost use Rattle.office_commands.specs.Tasks.{AreServedFor, IsPortFor, Listens, listening_text};
 ghost use Rattle.office_commands.specs.Texts.{IsUnaccepted, IsUnheard, IsUnsaid, device_failure};
+ghost use Rattle.office_commands.specs.Traffic.{said_of};
 ghost use Rattle.office_commands.specs.Works.{IsQuiet};
 
 use crate::done::Done;
@@ -107,66 +110,71 @@ fn say_listening<O: Write>(
     }
 }
 
-/// Serves so many connections on that day, one after the other.
-fn serve_sockets<S: Alter>(
+/// Serves so many connections on that day, one after the other, and tells the log where requests fail.
+fn serve_sockets<S: Alter, E: Write>(
     alloc: Global,
     office: &mut Office<S>,
     day: Day,
     desk: &Desk,
     count: u32,
+    log: &mut Counted<E>,
 ) -> Result<Done, CommandFault>
     ensures serves { (served : List Connection) × AreServedFor result count served
-        × AreDone S.Store (deeds_of_connections day served) office.old office.new }
+        × AreDone S.Store (deeds_of_connections day served) office.old office.new
+        × IsLogged (all_lines result count served)
+        (log_of E.Write log.old) (log_of E.Write log.new) }
     ensures quiet { IfOk result IsQuiet }
     ensures unaccepted { IfErr result IsUnaccepted }
 {
     let patience = Patience::default();
     let mut sockets = Sockets::new(alloc, &desk.listener);
-    match serve_connections(alloc, office, day, &mut sockets, count, &patience) {
+    match serve_connections(alloc, office, day, &mut sockets, count, &patience, log) {
         Ok(_) => Ok(Done::quiet()),
         Err(failure) => Err(unaccepted(failure.error)),
     }
 }
 
 /// Says where the desk listens, and serves so many connections on that day, one after the other.
-fn serve_office<S: Alter, O: Write>(
+fn serve_office<S: Alter, O: Write, E: Write>(
     alloc: Global,
     office: &mut Office<S>,
     day: Day,
     desk: &Desk,
     count: u32,
     out: &mut Counted<O>,
+    log: &mut Counted<E>,
 ) -> Result<Done, CommandFault>
     ensures serves { (deeds : List Deed)
         × Listens (record { day = day; port = desk.now.port; count = count }) result deeds
-        (O.contents (device_of out.old)) (O.contents (device_of out.new))
+        (said_of O.Write E.Write out.old log.old) (said_of O.Write E.Write out.new log.new)
         × AreDone S.Store deeds office.old office.new }
     ensures quiet { IfOk result IsQuiet }
 {
     match say_listening(alloc, desk.port, out) {
-        Ok(_) => serve_sockets(alloc, office, day, desk, count),
+        Ok(_) => serve_sockets(alloc, office, day, desk, count, log),
         Err(fault) => Err(fault),
     }
 }
 
-/// Takes the port, and then serves so many connections there on that day. Where the port can't be had,
-/// nothing is said or served.
-pub fn serve_at<S: Alter, O: Write>(
+/// Takes the port, and then serves so many connections there on that day, and tells the log where
+/// requests fail. Where the port can't be had, nothing is said or served.
+pub fn serve_at<S: Alter, O: Write, E: Write>(
     rt: &HostRuntime,
     office: &mut Office<S>,
     day: Day,
     port: u16,
     count: u32,
     out: &mut Counted<O>,
+    log: &mut Counted<E>,
 ) -> Result<Done, CommandFault>
     ensures serves { (told : ℕ) × (deeds : List Deed) × IsPortFor port told
         × Listens (record { day = day; port = told; count = count }) result deeds
-        (O.contents (device_of out.old)) (O.contents (device_of out.new))
+        (said_of O.Write E.Write out.old log.old) (said_of O.Write E.Write out.new log.new)
         × AreDone S.Store deeds office.old office.new }
     ensures quiet { IfOk result IsQuiet }
 {
     match desk_at(rt, port) {
-        Ok(desk) => serve_office(rt.alloc(), office, day, &desk, count, out),
+        Ok(desk) => serve_office(rt.alloc(), office, day, &desk, count, out, log),
         Err(fault) => Err(fault),
     }
 }

@@ -8,7 +8,7 @@ ghost use Rattle.streams.specs.Writing.{IsCutShort};
 ghost use Rattle.commands.specs.declared.ending.Ending.TheVariants.{Refused};
 ghost use Rattle.desk_devices.specs.Devices.{device_of};
 ghost use Rattle.office_commands.specs.Policies.{installed_text};
-ghost use Rattle.office_commands.specs.Tasks.{reads_input};
+ghost use Rattle.office_commands.specs.Tasks.{reads_input, writes_log};
 ghost use Rattle.office_commands.specs.Texts.{IsUnsaid};
 ghost use Rattle.office_commands.specs.Traffic.{upshot_of};
 ghost use Rattle.office_commands.specs.Works.{ComesOfNamed, ComesOfWork, InstallsFrom, IsQuiet, IsUnreadFirst, ReplaysFrom};
@@ -78,19 +78,22 @@ fn say_refused<O: Write>(
 }
 
 /// Installs the policy that the file gives, and then says so. One that is refused leaves the store alone.
-fn install_from<S: Start, P: Read, R: Read, O: Write>(
+fn install_from<S: Start, P: Read, R: Read, O: Write, E: Write>(
     rt: &HostRuntime,
     start: &mut Option<S>,
     store: &str,
     file: &mut P,
     input: &mut Counted<R>,
     out: &mut Counted<O>,
+    log: &mut Counted<E>,
 ) -> Result<Done, CommandFault>
     ensures comes { InstallsFrom ⟦<FileFrom<S> as Disk>⟧
         (record { name = store.now; first = image_at S.Start }) (start.new ≡ start.old)
-        (upshot_of R.Read O.Write result (input.old, out.old) (input.new, out.new))
+        (upshot_of R.Read O.Write E.Write result (input.old, out.old, log.old)
+        (input.new, out.new, log.new))
         (P.remaining file.old) }
     ensures left { input.new ≡ input.old }
+    ensures unlogged { log.new ≡ log.old }
 {
     let policy = match policy_from(rt.alloc(), file) {
         Ok(Ok(policy)) => policy,
@@ -98,55 +101,62 @@ fn install_from<S: Start, P: Read, R: Read, O: Write>(
         Err(fault) => return Err(fault),
     };
     let task = Work::Policy { policy: &policy };
-    match in_store(rt, start, store, &task, input, out) {
+    match in_store(rt, start, store, &task, input, out, log) {
         Ok(_) => say_installed(rt.alloc(), &policy, out),
         Err(fault) => Err(fault),
     }
 }
 
 /// `policy STORE POLICY`: installs the policy, and then says so. The policy is read before that.
-fn install_in<F: Files, S: Start, R: Read, O: Write>(
+fn install_in<F: Files, S: Start, R: Read, O: Write, E: Write>(
     rt: &HostRuntime,
     start: &mut Option<S>,
     store: &str,
     named: PolicyFile<'_, F>,
     input: &mut Counted<R>,
     out: &mut Counted<O>,
+    log: &mut Counted<E>,
 ) -> Result<Done, CommandFault>
     ensures comes { ComesOfNamed ⟦<F::File as Read>⟧
         (IsUnreadFirst (start.new ≡ start.old)
-        (upshot_of R.Read O.Write result (input.old, out.old) (input.new, out.new)))
+        (upshot_of R.Read O.Write E.Write result (input.old, out.old, log.old)
+        (input.new, out.new, log.new)))
         (InstallsFrom ⟦<FileFrom<S> as Disk>⟧
         (record { name = store.now; first = image_at S.Start }) (start.new ≡ start.old)
-        (upshot_of R.Read O.Write result (input.old, out.old) (input.new, out.new))) }
+        (upshot_of R.Read O.Write E.Write result (input.old, out.old, log.old)
+        (input.new, out.new, log.new))) }
     ensures left { input.new ≡ input.old }
+    ensures unlogged { log.new ≡ log.old }
 {
     match open_policy(named) {
-        Ok(mut file) => install_from(rt, start, store, &mut file, input, out),
+        Ok(mut file) => install_from(rt, start, store, &mut file, input, out, log),
         Err(fault) => Err(fault),
     }
 }
 
 /// Installs the policy that the file gives, and answers the records that the input gives. A policy that is
 /// refused leaves the store and the input alone.
-fn replay_from<S: Start, P: Read, R: Read, O: Write>(
+fn replay_from<S: Start, P: Read, R: Read, O: Write, E: Write>(
     rt: &HostRuntime,
     start: &mut Option<S>,
     store: &str,
     file: &mut P,
     input: &mut Counted<R>,
     out: &mut Counted<O>,
+    log: &mut Counted<E>,
 ) -> Result<Done, CommandFault>
     ensures comes { ReplaysFrom ⟦<FileFrom<S> as Disk>⟧
         (record { name = store.now; first = image_at S.Start }) (start.new ≡ start.old)
-        (upshot_of R.Read O.Write result (input.old, out.old) (input.new, out.new))
+        (upshot_of R.Read O.Write E.Write result (input.old, out.old, log.old)
+        (input.new, out.new, log.new))
         (P.remaining file.old) }
+    ensures unlogged { log.new ≡ log.old }
     ensures quiet { IfOk result IsQuiet }
 {
     match policy_from(rt.alloc(), file) {
         Ok(Ok(policy)) => {
             let policy = Some(&policy);
-            in_store(rt, start, store, &Work::Replay { policy }, input, out)
+            in_store(rt, start, store, &Work::Replay { policy }, input, out, log)
         }
         Ok(Err(refused)) => Err(CommandFault::Policy(refused)),
         Err(fault) => Err(fault),
@@ -155,49 +165,64 @@ fn replay_from<S: Start, P: Read, R: Read, O: Write>(
 
 /// `replay --policy POLICY STORE`: installs the policy, and answers the records that the input gives. The
 /// policy is read before that.
-fn replay_under<F: Files, S: Start, R: Read, O: Write>(
+fn replay_under<F: Files, S: Start, R: Read, O: Write, E: Write>(
     rt: &HostRuntime,
     start: &mut Option<S>,
     store: &str,
     named: PolicyFile<'_, F>,
     input: &mut Counted<R>,
     out: &mut Counted<O>,
+    log: &mut Counted<E>,
 ) -> Result<Done, CommandFault>
     ensures comes { ComesOfNamed ⟦<F::File as Read>⟧
         (IsUnreadFirst (start.new ≡ start.old)
-        (upshot_of R.Read O.Write result (input.old, out.old) (input.new, out.new)))
+        (upshot_of R.Read O.Write E.Write result (input.old, out.old, log.old)
+        (input.new, out.new, log.new)))
         (ReplaysFrom ⟦<FileFrom<S> as Disk>⟧
         (record { name = store.now; first = image_at S.Start }) (start.new ≡ start.old)
-        (upshot_of R.Read O.Write result (input.old, out.old) (input.new, out.new))) }
+        (upshot_of R.Read O.Write E.Write result (input.old, out.old, log.old)
+        (input.new, out.new, log.new))) }
+    ensures unlogged { log.new ≡ log.old }
     ensures quiet { IfOk result IsQuiet }
 {
     match open_policy(named) {
-        Ok(mut file) => replay_from(rt, start, store, &mut file, input, out),
+        Ok(mut file) => replay_from(rt, start, store, &mut file, input, out, log),
         Err(fault) => Err(fault),
     }
 }
 
 /// `replay [--policy POLICY] STORE`: answers the records that the input gives, once the policy is installed,
 /// where one is named.
-fn replay_in<S: Start, R: Read, O: Write>(
+fn replay_in<S: Start, R: Read, O: Write, E: Write>(
     rt: &HostRuntime,
     start: &mut Option<S>,
     store: &str,
     policy: Option<&str>,
     input: &mut Counted<R>,
     out: &mut Counted<O>,
+    log: &mut Counted<E>,
 ) -> Result<Done, CommandFault>
     ensures comes { ComesOfWork ⟦<FileFrom<S> as Disk>⟧
         (record { name = store.now; first = image_at S.Start }) (works.Replay policy.entry)
         (start.new ≡ start.old)
-        (upshot_of R.Read O.Write result (input.old, out.old) (input.new, out.new)) }
+        (upshot_of R.Read O.Write E.Write result (input.old, out.old, log.old)
+        (input.new, out.new, log.new)) }
+    ensures unlogged { log.new ≡ log.old }
 {
     match policy {
         Some(path) => {
             let named = PolicyFile { files: rt, path };
-            replay_under(rt, start, store, named, input, out)
+            replay_under(rt, start, store, named, input, out, log)
         }
-        None => in_store(rt, start, store, &Work::Replay { policy: None }, input, out),
+        None => in_store(
+            rt,
+            start,
+            store,
+            &Work::Replay { policy: None },
+            input,
+            out,
+            log,
+        ),
     }
 }
 
@@ -206,29 +231,32 @@ fn replay_in<S: Start, R: Read, O: Write>(
 ///
 /// Before the store is opened the policy's file is read, where one is named. The input is read, and the
 /// output written, once the store is open.
-pub fn perform<S: Start, R: Read, O: Write>(
+pub fn perform<S: Start, R: Read, O: Write, E: Write>(
     rt: &HostRuntime,
     start: &mut Option<S>,
     store: &str,
     work: &Work<&str>,
     input: &mut Counted<R>,
     out: &mut Counted<O>,
+    log: &mut Counted<E>,
 ) -> Result<Done, CommandFault>
     ensures comes { ComesOfWork ⟦<FileFrom<S> as Disk>⟧
         (record { name = store.now; first = image_at S.Start }) work.now (start.new ≡ start.old)
-        (upshot_of R.Read O.Write result (input.old, out.old) (input.new, out.new)) }
+        (upshot_of R.Read O.Write E.Write result (input.old, out.old, log.old)
+        (input.new, out.new, log.new)) }
     ensures left { reads_input work.now ≡ false → input.new ≡ input.old }
+    ensures unlogged { writes_log work.now ≡ false → log.new ≡ log.old }
 {
     match *work {
         Work::Policy { policy: path } => {
             let named = PolicyFile { files: rt, path };
-            install_in(rt, start, store, named, input, out)
+            install_in(rt, start, store, named, input, out, log)
         }
-        Work::Ask { day } => in_store(rt, start, store, &Work::Ask { day }, input, out),
-        Work::Replay { policy } => replay_in(rt, start, store, policy, input, out),
+        Work::Ask { day } => in_store(rt, start, store, &Work::Ask { day }, input, out, log),
+        Work::Replay { policy } => replay_in(rt, start, store, policy, input, out, log),
         Work::Serve { day, port, count } => {
             let task = Work::Serve { day, port, count };
-            in_store(rt, start, store, &task, input, out)
+            in_store(rt, start, store, &task, input, out, log)
         }
     }
 }

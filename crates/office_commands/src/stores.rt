@@ -14,7 +14,7 @@ ghost use Rattle.office_tables.specs.Opening.{has_office};
 ghost use Rattle.office_tables.specs.Schema.{no_schema};
 ghost use Rattle.office_engine.specs.Keeping.{IsKeptBy, IsLeftAt};
 ghost use Rattle.office_commands.specs.Stores.{GoesOnFrom, IsOfficeOver, RunsInMemory, RunsOn, RunsOver, SomeOffice, made_office};
-ghost use Rattle.office_commands.specs.Tasks.{DoesTask, reads_input};
+ghost use Rattle.office_commands.specs.Tasks.{DoesTask, reads_input, writes_log};
 ghost use Rattle.office_commands.specs.Texts.{IsOfOpening, IsOfStore, IsUnclosable, IsUnopenable, found_nothing, is_of_search, is_sought, search_failure, store_failure};
 ghost use Rattle.office_commands.specs.Traffic.{upshot_of};
 ghost use Rattle.office_commands.specs.Works.{IsQuiet};
@@ -44,22 +44,25 @@ fn limits() -> Limits
 }
 
 /// Does the task with a new office in memory.
-fn in_memory<R: Read, O: Write>(
+fn in_memory<R: Read, O: Write, E: Write>(
     rt: &HostRuntime,
     task: &Task<'_>,
     input: &mut Counted<R>,
     out: &mut Counted<O>,
+    log: &mut Counted<E>,
 ) -> Result<Done, CommandFault>
     ensures runs { RunsInMemory task.now
-        (upshot_of R.Read O.Write result (input.old, out.old) (input.new, out.new)) }
+        (upshot_of R.Read O.Write E.Write result (input.old, out.old, log.old)
+        (input.new, out.new, log.new)) }
     ensures left { reads_input task.now ≡ false → input.new ≡ input.old }
+    ensures unlogged { writes_log task.now ≡ false → log.new ≡ log.old }
     ensures quiet { IfOk result IsQuiet }
 {
     let Ok(conn) = Connection::open_in_memory(rt.alloc()) else {
         return Err(CommandFault::without_cause(StoreFault::Memory));
     };
     match Office::create(conn, limits()) {
-        Ok(mut office) => do_task(rt, &mut office, task, input, out),
+        Ok(mut office) => do_task(rt, &mut office, task, input, out, log),
         Err((_, fault)) => Err(table_failure(fault)),
     }
 }
@@ -216,28 +219,32 @@ fn office_of<S: Alter + Drop>(conn: Connection<S>, is_new: bool) -> Result<Offic
 }
 
 /// Does the task with the office of the connection, and hands the connection back with what comes of it.
-fn work_over<S: Alter + Drop, R: Read, O: Write>(
+fn work_over<S: Alter + Drop, R: Read, O: Write, E: Write>(
     rt: &HostRuntime,
     conn: Connection<S>,
     is_new: bool,
     task: &Task<'_>,
     input: &mut Counted<R>,
     out: &mut Counted<O>,
+    log: &mut Counted<E>,
 ) -> Result<(Connection<S>, Result<Done, CommandFault>), CommandFault>
     requires outside { (state S.Store conn).in_transaction ≡ false }
     ensures works { IfOk result (λ worked.
         SomeOffice (IsOfficeOver S.Store conn is_new) (λ office.
         DoesTask S.Store task.now
-        (upshot_of R.Read O.Write worked.1 (input.old, out.old) (input.new, out.new))
+        (upshot_of R.Read O.Write E.Write worked.1 (input.old, out.old, log.old)
+        (input.new, out.new, log.new))
         office worked.0)) }
     ensures failure { IfErr result IsUnopenable }
     ensures not_sought { IfErr result (λ fault. is_sought fault ≡ false) }
-    ensures untouched { OnErr result ((input.new ≡ input.old) × (out.new ≡ out.old)) }
+    ensures untouched { OnErr result ((input.new ≡ input.old) × (out.new ≡ out.old)
+        × (log.new ≡ log.old)) }
     ensures left { reads_input task.now ≡ false → input.new ≡ input.old }
+    ensures unlogged { writes_log task.now ≡ false → log.new ≡ log.old }
     ensures quiet { IfOk result (λ worked. IfOk worked.1 IsQuiet) }
 {
     let mut office = office_of(conn, is_new)?;
-    let done = do_task(rt, &mut office, task, input, out);
+    let done = do_task(rt, &mut office, task, input, out, log);
     Ok((office.into_connection(), done))
 }
 
@@ -278,50 +285,56 @@ fn ended<F: Drop>(
 /// Does the task with the office of the connection, and closes it. Where the close fails, that is the
 /// fault, however the task ended. No other function names the store's own type for an office's work: the
 /// prover goes over all of it where one does.
-fn on_files<D: Disk + Drop, R: Read, O: Write>(
+fn on_files<D: Disk + Drop, R: Read, O: Write, E: Write>(
     rt: &HostRuntime,
     conn: Connection<FileStore<D>>,
     is_new: bool,
     task: &Task<'_>,
     input: &mut Counted<R>,
     out: &mut Counted<O>,
+    log: &mut Counted<E>,
 ) -> Result<Done, CommandFault>
     requires outside { (file_state conn).in_transaction ≡ false }
     ensures runs { RunsOver D.Disk conn is_new task.now
-        (upshot_of R.Read O.Write result (input.old, out.old) (input.new, out.new)) }
+        (upshot_of R.Read O.Write E.Write result (input.old, out.old, log.old)
+        (input.new, out.new, log.new)) }
     ensures left { reads_input task.now ≡ false → input.new ≡ input.old }
+    ensures unlogged { writes_log task.now ≡ false → log.new ≡ log.old }
     ensures quiet { IfOk result IsQuiet }
 {
-    match work_over(rt, conn, is_new, task, input, out) {
+    match work_over(rt, conn, is_new, task, input, out, log) {
         Ok((conn, done)) => ended(done, close_store(conn)),
         Err(fault) => Err(fault),
     }
 }
 
 /// Does the task with the office of the store; `:memory:` is a new one in memory.
-pub fn in_store<S: Start, R: Read, O: Write>(
+pub fn in_store<S: Start, R: Read, O: Write, E: Write>(
     rt: &HostRuntime,
     start: &mut Option<S>,
     store: &str,
     task: &Task<'_>,
     input: &mut Counted<R>,
     out: &mut Counted<O>,
+    log: &mut Counted<E>,
 ) -> Result<Done, CommandFault>
     ensures runs { RunsOn ⟦<FileFrom<S> as Disk>⟧
         (record { name = store.now; first = image_at S.Start }) (start.new ≡ start.old) task.now
-        (upshot_of R.Read O.Write result (input.old, out.old) (input.new, out.new)) }
+        (upshot_of R.Read O.Write E.Write result (input.old, out.old, log.old)
+        (input.new, out.new, log.new)) }
     ensures left { reads_input task.now ≡ false → input.new ≡ input.old }
+    ensures unlogged { writes_log task.now ≡ false → log.new ≡ log.old }
     ensures quiet { IfOk result IsQuiet }
 {
     if store == ":memory:" {
-        return in_memory(rt, task, input, out);
+        return in_memory(rt, task, input, out, log);
     }
     let is_new = is_to_be_made(rt, store, task.makes_office())?;
     let Some(start) = start.take() else {
         return Err(failed_by(StoreFault::Store, Cause::Taken));
     };
     match open_store(rt, start, store, is_new) {
-        Ok(conn) => on_files(rt, conn, is_new, task, input, out),
+        Ok(conn) => on_files(rt, conn, is_new, task, input, out, log),
         Err(fault) => Err(fault),
     }
 }

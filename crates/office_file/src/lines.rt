@@ -22,11 +22,11 @@ pub fn run_words(
     let mut streams = Streams {
         input: Counted::new(input),
         output: Counted::new(Vec::with_capacity(rt.alloc(), 4096)?),
-        error: Vec::with_capacity(rt.alloc(), 4096)?,
+        error: Counted::new(Vec::with_capacity(rt.alloc(), 4096)?),
     };
     let ending = run(rt, &mut Some(Unknown), words, &mut streams);
     let Streams { output, error, .. } = streams;
-    Ok((output.into_device(), error, ending))
+    Ok((output.into_device(), error.into_device(), ending))
 }
 
 /// The line that was worked out with its reason and its ending, or want of memory with nothing on

@@ -1,5 +1,6 @@
 -- What is said is printed.
-use Rattle.std.proofs.Common.{◌≡◌, ◌≢◌, ◌⊎◌, ap, inl, inr, ℕ, List, Option, Some, None, IfSome, Result, Ok, Err, IfErr, IfOk, MatchResult, subst, sym}
+use Rattle.std.proofs.Common.{◌≡◌, ◌≢◌, ◌⊎◌, ap, inl, inr, ℕ, List, [], Option, Some, None, IfSome, Result, Ok, Err, IfErr, IfOk, MatchResult, subst, sym}
+use Rattle.std.specs.Prelude.{string_bytes}
 use Rattle.std.specs.declared.io.Write.{Ghosts as Writes}
 use Rattle.commands.proofs.ExplainLemmas.{answers_dated}
 use Rattle.commands.specs.Printing.{IsAnswer}
@@ -7,10 +8,13 @@ use Rattle.commands.specs.declared.asked.Asked.{Asked}
 use Rattle.commands.specs.declared.ending.Ending.{Ending}
 use Rattle.commands.specs.declared.ending.Ending.TheVariants.{Misused}
 use Rattle.commands.specs.declared.outcome.Outcome.{Outcome}
+use Rattle.command_line.specs.declared.use_fault.UseFault.{UseFault}
+use Rattle.command_line.specs.declared.use_fault.UseFault.TheVariants as uses
 use Rattle.desk_devices.specs.declared.counted.Counted.{Counted}
 use Rattle.office_commands.specs.declared.done.Done.{Done}
 use Rattle.program.specs.Answering.{PrintsIfAny, IsExplained, IsPrinted, IsUnanswered, printed, unanswered}
-use Rattle.program.specs.Streams.{counted_seen}
+use Rattle.program.specs.Streams.{Stream, counted_seen}
+use Rattle.program.specs.Telling.{Refuses, TellsOfUse}
 use Rattle.program.specs.declared.stopped.Stopped.{Stopped}
 
 pub either : {T E : Type 0} (r : Result T E) (P : T → Type 0) (Q : E → Type 0) → IfOk r P → IfErr r Q → MatchResult r P Q
@@ -46,3 +50,8 @@ module _ {O : Type 0} (w : Writes O) (IsSaid : Outcome → Type 0) (result : Res
   pub answers : (said : Result Outcome Stopped) → IfOk said IsSaid → IfErr said IsUnanswered → Prints said → PrintsIfAny IsSaid result (counted_seen w old) (counted_seen w new)
   answers (Ok outcome) says none is = printed outcome says is
   answers (Err stopped) says none is = unanswered stopped none is.0 (ap (counted_seen w) is.1)
+
+-- what is told of words that ask for nothing is a text that refuses them, or that there was no memory to read them
+pub use_refused : {E : Type 0} (fault : UseFault) (was now : Stream E) (ending : Ending) → TellsOfUse fault was now ending → (text : List ℕ) × Refuses text was now ending
+use_refused (uses.Use reason) was now ending told = (string_bytes reason, inl told)
+use_refused uses.Memory was now ending told = ([], inr told)

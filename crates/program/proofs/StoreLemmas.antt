@@ -4,7 +4,7 @@ use denote.Ref.{Bor}
 use Rattle.sqlite.specs.Recovery.{Image}
 use Rattle.sqlite_disk.specs.declared.Disk.{Ghosts}
 use Rattle.commands.specs.Printing.{IsAnswer}
-use Rattle.office_commands.specs.Traffic.{Traffic}
+use Rattle.office_commands.specs.Traffic.{LoggedTraffic, Traffic}
 use Rattle.office_commands.specs.Works.{ComesOfWork, SaysInstalled, read_policy, refused_policy}
 use Rattle.office_commands.specs.declared.done.Done.{Done}
 use Rattle.office_commands.specs.declared.fault.CommandFault.{CommandFault}
@@ -16,12 +16,12 @@ installed_answered : (policy : PolicyValue) (ran : Result Done CommandFault) (do
 installed_answered policy (Ok _) done was now says = inl says.0.1
 installed_answered policy (Err fault) done was now says = absurd says
 
-pub store_answered : {D : Type 0} (g : Ghosts D) (first : Image) (store : List ℕ) (work : Work (Bor (List ℕ))) (alone : Type 0) (result : Result Done CommandFault) (was now : Traffic)
+pub store_answered : {D : Type 0} (g : Ghosts D) (first : Image) (store : List ℕ) (work : Work (Bor (List ℕ))) (alone : Type 0) (result : Result Done CommandFault) (was now : LoggedTraffic)
     → ComesOfWork g (record { name = store; first = first }) work alone (record { result = result; was = was; now = now }) → IfOk result (λ done. IsAnswer done.ending)
 store_answered g first store work alone (Err fault) was now comes = tt
 store_answered g first store (Policy path) alone (Ok done) was now (inl unread) = absurd unread.0
 store_answered g first store (Policy path) alone (Ok done) was now (inr (bytes, known, refused_policy refused is says)) = inr says.1.1
-store_answered g first store (Policy path) alone (Ok done) was now (inr (bytes, known, read_policy policy spells ran)) = installed_answered policy.now ran.0 done ran.1 now ran.3
+store_answered g first store (Policy path) alone (Ok done) was now (inr (bytes, known, read_policy policy spells ran)) = installed_answered policy.now ran.0 done ran.1.streams now.streams ran.3
 store_answered g first store (Ask day) alone (Ok done) was now comes = inl comes.0.1
 store_answered g first store (Replay None) alone (Ok done) was now comes = inl comes.0.1
 store_answered g first store (Replay (Some path)) alone (Ok done) was now comes = inl comes.0.1

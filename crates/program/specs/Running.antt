@@ -6,11 +6,12 @@ use denote.Ref.{Bor}
 use Rattle.sqlite.specs.Recovery.{Image}
 use Rattle.sqlite_disk.specs.declared.Disk.{Ghosts}
 use Rattle.commands.specs.declared.ending.Ending.{Ending}
+use Rattle.desk_devices.specs.declared.counted.Counted.{Counted}
 use Rattle.command_line.specs.Lines.{Asks}
 use Rattle.command_line.specs.declared.line.Line.{Line}
 use Rattle.command_line.specs.declared.line.Line.TheVariants.{Check, Explain, Pack, Unpack, Policy, Ask, Replay, Serve}
 use Rattle.office_commands.specs.Traffic.{Upshot}
-use Rattle.office_commands.specs.Tasks.{reads_input as work_reads_input}
+use Rattle.office_commands.specs.Tasks.{reads_input as work_reads_input, writes_log as work_writes_log}
 use Rattle.office_commands.specs.Works.{ComesOfWork}
 use Rattle.office_commands.specs.declared.done.Done.{Done}
 use Rattle.office_commands.specs.declared.fault.CommandFault.{CommandFault}
@@ -49,7 +50,7 @@ IsEndOnStore Comes (Err (Unread trouble)) = ⊥
 IsEndOnStore Comes (Err (Folder failed)) = ⊥
 IsEndOnStore Comes (Err (Output error)) = ⊥
 
-abbrev pub DoesOnStore : {R O E : Type 0} → CommandOn → StoreWork → Result Done Stopped → Seen R O E → Seen R O E → Type 0
+abbrev pub DoesOnStore : {R O E : Type 0} → CommandOn → StoreWork → Result Done Stopped → Seen R O (Counted E) → Seen R O (Counted E) → Type 0
 DoesOnStore OnStore asked result was now = IsEndOnStore (λ came. OnStore asked (record { result = came; was = traffic was; now = traffic now })) result
 
 -- the work on a store that a line asks for
@@ -64,7 +65,7 @@ work_of (Pack folder file) = None
 work_of (Unpack file folder) = None
 
 -- What the line asks for is done.
-abbrev pub DoesLine : {R O E : Type 0} → CommandOn → Line → Result Done Stopped → Seen R O E → Seen R O E → Type 0
+abbrev pub DoesLine : {R O E : Type 0} → CommandOn → Line → Result Done Stopped → Seen R O (Counted E) → Seen R O (Counted E) → Type 0
 DoesLine OnStore (Check file) result was now = PrintsIfAny (IsJudged file.now was.input now.input) result was.output now.output
 DoesLine OnStore (Explain asked) result was now = PrintsIfAny (IsExplained asked) result was.output now.output
 DoesLine OnStore (Pack folder file) result was now = PrintsIfAny IsPackSaid result was.output now.output
@@ -87,6 +88,10 @@ abbrev pub reads_input : Line → Bool
 reads_input (Check file) = bytes_eq file.now (codes "-")
 reads_input line = unwrap_or (option_map (λ asked. work_reads_input asked.work) (work_of line)) false
 
+-- standard error is told of the connections that are served, and of nothing else as a line is done
+abbrev pub writes_log : Line → Bool
+writes_log line = unwrap_or (option_map (λ asked. work_writes_log asked.work) (work_of line)) false
+
 abbrev pub is_on_store : Line → Bool
 is_on_store line = is_some (work_of line)
 
@@ -97,11 +102,13 @@ abbrev pub IsTold : {E : Type 0} → Result Done Stopped → Stream E → Stream
 IsTold (Ok done) was now ending = TellsWhy (option_map string_bytes done.reason) done.ending was now ending
 IsTold (Err stopped) was now ending = TellsOf stopped was now ending
 
--- What the line asks for is done with this result, of which standard error is told.
-pub record Comes {R O E : Type 0} (OnStore : CommandOn) (alone : Type 0) (line : Line) (run : Course R O E) : Type 0 where
+-- What the line asks for is done with this result: standard error is as it was, or told of connections that are served, and then told of the result.
+pub record Comes {R O E : Type 0} (OnStore : CommandOn) (alone : Type 0) (line : Line) (run : Course R O (Counted E)) : Type 0 where
   pub result : Result Done Stopped
-  pub does : DoesLine OnStore line result run.was run.now
-  pub told : IsTold result run.was.error run.now.error run.ending
+  pub logged : Stream (Counted E)
+  pub does : DoesLine OnStore line result run.was (record run.now { error = logged })
+  pub unlogged : writes_log line ≡ false → logged ≡ run.was.error
+  pub told : IsTold result logged run.now.error run.ending
   pub input : reads_input line ≡ false → run.now.input ≡ run.was.input
   pub store : is_on_store line ≡ false → alone
 
@@ -113,5 +120,5 @@ pub record AreWordsUnread {R O E : Type 0} (alone : Type 0) (run : Course R O E)
   pub store : alone
 
 -- the words ask for a line, and it comes to this; or there was no memory to read them
-abbrev pub ComesOfWords : {R O E : Type 0} → CommandOn → Type 0 → List (List ℕ) → Course R O E → Type 0
+abbrev pub ComesOfWords : {R O E : Type 0} → CommandOn → Type 0 → List (List ℕ) → Course R O (Counted E) → Type 0
 ComesOfWords OnStore alone words run = ((line : Line) × Asks words line × Comes OnStore alone line run) ⊎ AreWordsUnread alone run

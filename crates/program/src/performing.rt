@@ -2,10 +2,10 @@
 
 ghost use Rattle.std.specs.Prelude.{◌≡◌, ◌⊎◌, Err, IfOk, MatchResult, false};
 ghost use Rattle.sqlite.specs.WalFiles.{image_at};
-ghost use Rattle.office_commands.specs.Tasks.{reads_input as work_reads_input};
+ghost use Rattle.office_commands.specs.Tasks.{reads_input as work_reads_input, writes_log as work_writes_log};
 ghost use Rattle.commands.specs.Printing.{IsAnswer};
 ghost use Rattle.program.specs.Answering.{IsPrinted};
-ghost use Rattle.program.specs.Running.{DoesLine, DoesOnStore, IsUndated, is_on_store, on_store, reads_input};
+ghost use Rattle.program.specs.Running.{DoesLine, DoesOnStore, IsUndated, is_on_store, on_store, reads_input, writes_log};
 ghost use Rattle.program.specs.Streams.{counted_seen, seen_of};
 
 use crate::answering::{answer_check, answer_explain};
@@ -54,7 +54,8 @@ fn work_on<S: Start, R: Read, O: Write, E: Write>(
         (seen_of R.Read O.Write E.Write streams.old) (seen_of R.Read O.Write E.Write streams.new) }
     ensures input { work_reads_input work.now ≡ false
         → streams.new.input ≡ streams.old.input }
-    ensures error { streams.new.error ≡ streams.old.error }
+    ensures unlogged { work_writes_log work.now ≡ false
+        → streams.new.error ≡ streams.old.error }
     ensures answers { IfOk result (λ done. IsAnswer done.ending) }
 {
     match perform(
@@ -64,6 +65,7 @@ fn work_on<S: Start, R: Read, O: Write, E: Write>(
         work,
         &mut streams.input,
         &mut streams.output,
+        &mut streams.error,
     ) {
         Ok(done) => Ok(done),
         Err(fault) => Err(Stopped::Store(fault)),
@@ -83,7 +85,7 @@ pub fn perform_line<S: Start, R: Read, O: Write, E: Write>(
         (seen_of R.Read O.Write E.Write streams.old) (seen_of R.Read O.Write E.Write streams.new) }
     ensures input { reads_input line.now ≡ false → streams.new.input ≡ streams.old.input }
     ensures store { is_on_store line.now ≡ false → start.new ≡ start.old }
-    ensures error { streams.new.error ≡ streams.old.error }
+    ensures unlogged { writes_log line.now ≡ false → streams.new.error ≡ streams.old.error }
     ensures answers { IfOk result (λ done. IsAnswer done.ending ⊎ IsUndated line.now) }
 {
     match line {

@@ -8,7 +8,7 @@ ghost use Rattle.command_line.specs.Lines.{AskNothing, Asks};
 ghost use Rattle.command_line.specs.Usage.{NamesNone, usage_for};
 ghost use Rattle.command_line.specs.declared.line.Line.{Line};
 ghost use Rattle.program.specs.Running.{Comes, ComesOfWords, IsUndated, NameNoDay, on_store};
-ghost use Rattle.program.specs.Streams.{course_of, writer_seen};
+ghost use Rattle.program.specs.Streams.{counted_seen, course_of};
 ghost use Rattle.program.specs.Telling.{Refuses};
 
 use crate::detail::LastErrors;
@@ -61,12 +61,12 @@ pub fn run<S: Start, R: Read, O: Write, E: Write>(
     // Words that ask for nothing are refused: standard error is told why, and nothing else is touched.
     // They end as misused, unless memory runs out or standard error fails.
     ensures refused { AskNothing (texts words.now) → (text : List ℕ) × Refuses text
-        (writer_seen E.Write streams.old.error) (writer_seen E.Write streams.new.error) result }
+        (counted_seen E.Write streams.old.error) (counted_seen E.Write streams.new.error) result }
     ensures left { AskNothing (texts words.now) → (streams.new.input ≡ streams.old.input)
         × (streams.new.output ≡ streams.old.output) × (start.new ≡ start.old) }
     // Where they name no subcommand, standard error is told so, and how the program is used.
     ensures uses { NamesNone (texts words.now) → Refuses (usage_for VERSION.now (texts words.now))
-        (writer_seen E.Write streams.old.error) (writer_seen E.Write streams.new.error) result }
+        (counted_seen E.Write streams.old.error) (counted_seen E.Write streams.new.error) result }
     // No other words end as misused, but for those that explain a policy and name no day: where its
     // rules may have days, `Explains` says so.
     ensures misused { result ≡ Misused

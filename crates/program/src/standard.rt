@@ -2,11 +2,11 @@
 
 use desk_devices::Counted;
 
-/// The three standard streams of a run. The failures of the first two are counted, so that standard
-/// error can be told why one failed.
+/// The three standard streams of a run. Their failures are counted: standard error can be told why one of
+/// the first two failed, and drops a line of connections only where it fails itself.
 #[derive(Drop)]
 pub struct Streams<R, O, E> {
     pub input: Counted<R>,
     pub output: Counted<O>,
-    pub error: E,
+    pub error: Counted<E>,
 }

@@ -1,6 +1,7 @@
 //! A listener whose `accept` fails, and what is done with the peers that come before and after that.
 
 use desk_listening::{Listener, Patience, Peer, PeerCall, serve_connections};
+use http_desk::Counted;
 use office_core::Day;
 use office_engine::Office;
 use sqlite::Alter;
@@ -212,7 +213,7 @@ fn is_left(caller: &Caller, patience: &Patience) -> bool {
         .as_slice()
 }
 
-/// Serves the turns of a case. Fails where they come to another end.
+/// Serves the turns of a case. Fails where they come to another end, or the log isn't told of it.
 fn serve_turns<S: Alter>(
     alloc: Global,
     office: &mut Office<S>,
@@ -221,13 +222,17 @@ fn serve_turns<S: Alter>(
 ) -> Result<(), Fail> {
     let day = Day::read("2024-03-01").ok_or("day")?;
     let patience = Patience::default();
-    let served = serve_connections(alloc, office, day, script, case.count, &patience);
+    let mut log = Counted::new(Vec::new(alloc));
+    let served = serve_connections(alloc, office, day, script, case.count, &patience, &mut log);
     let (served, stops) = match served {
         Ok(served) => (served, None),
         Err(failure) => (failure.served, Some(failure.error.kind())),
     };
     if served.answered != case.answered || served.failed != case.failed || stops != case.stops {
         return Err("other connections than the turns give".into());
+    }
+    if log.device().is_empty() != stops.is_some() {
+        return Err("the log is told otherwise".into());
     }
     Ok(())
 }

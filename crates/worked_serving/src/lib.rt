@@ -15,6 +15,7 @@ mod replays;
 mod sessions;
 mod stops;
 mod tests;
+mod troubles;
 
 pub use tests::{
     an_office_is_found_again_where_its_files_stop, offices_are_served, the_patience_of_an_office,

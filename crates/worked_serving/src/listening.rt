@@ -14,14 +14,14 @@ use std::test::Fail;
 use std::time::Duration;
 
 /// Asks for a deposit that isn't there.
-const ASKS: Peer = Peer {
+pub const ASKS: Peer = Peer {
     sends: "GET /deposits/7 HTTP/1.1\r\nDepot-Caller: anna\r\n\r\n",
     letters: 0,
     then: Then::EndsItsInput,
     gets: NO_DEPOSIT,
 };
 
-const DEFINES: Peer = Peer {
+pub const DEFINES: Peer = Peer {
     sends: "PUT /collections/maps HTTP/1.1\r\nDepot-Caller: anna\r\n\r\n",
     gets: MAPS,
     ..ASKS
@@ -46,7 +46,7 @@ const GOES_AT_ONCE: Peer = Peer {
     ..ASKS
 };
 
-const SENDS_HALF: Peer = Peer {
+pub const SENDS_HALF: Peer = Peer {
     sends: "GET /deposits/7 HTTP/1.1\r\nDepot-",
     gets: TRUNCATED,
     ..ASKS
@@ -59,7 +59,7 @@ const SENDS_NOTHING: Peer = Peer {
 };
 
 /// Is too slow: it is left without an answer.
-const STOPS: Peer = Peer {
+pub const STOPS: Peer = Peer {
     then: Then::Waits,
     gets: b"",
     ..SENDS_HALF
@@ -83,21 +83,24 @@ const SENDS_MORE: Peer = Peer {
 
 /// Peers that connect in this order, and how many connections are answered, and how many aren't.
 #[derive(Clone, Copy)]
-struct Queue {
-    name: &'static str,
-    peers: &'static [Peer],
+pub struct Queue {
+    pub name: &'static str,
+    pub peers: &'static [Peer],
     /// How many connections are taken.
-    count: u32,
+    pub count: u32,
     /// How many milliseconds a peer may take.
-    talk: u64,
-    answered: u32,
-    failed: u32,
+    pub talk: u64,
+    pub answered: u32,
+    pub failed: u32,
     /// What ends the serving, where the listener doesn't wait for a connection.
-    stops: Option<ErrorKind>,
+    pub stops: Option<ErrorKind>,
 }
 
+/// A log in memory, which may fail.
+pub type Log = Counted<FailAt<Vec<u8>>>;
+
 /// One peer, which is answered.
-const ONE: Queue = Queue {
+pub const ONE: Queue = Queue {
     name: "one asks",
     peers: &[ASKS],
     count: 1,
@@ -205,6 +208,7 @@ fn serve_queue<S: Alter>(
     office: &mut Office<S>,
     sockets: &mut Sockets<'_>,
     queue: &Queue,
+    log: &mut Log,
 ) -> Result<(), Fail> {
     let day = Day::read("2024-03-01").ok_or("day")?;
     let patience = Patience {
@@ -212,7 +216,7 @@ fn serve_queue<S: Alter>(
         rest: Duration::from_millis(50),
         ..Patience::default()
     };
-    let served = serve_connections(alloc, office, day, sockets, queue.count, &patience);
+    let served = serve_connections(alloc, office, day, sockets, queue.count, &patience, log);
     let (served, stops) = match served {
         Ok(served) => (served, None),
         Err(failure) => (failure.served, Some(failure.error.kind())),
@@ -225,16 +229,17 @@ fn serve_queue<S: Alter>(
 
 /// Has the peers of a queue call, serves them, and hears what they got. Who was refused any wait isn't
 /// heard: what it sent was not read, so that its connection is reset.
-fn take_queue<S: Alter>(
+pub fn take_queue<S: Alter>(
     rt: &HostRuntime,
     office: &mut Office<S>,
     listener: &TcpListener,
     queue: &Queue,
+    log: &mut Log,
 ) -> Result<(), Fail> {
     listener.set_nonblocking(queue.stops.is_some())?;
     let streams = call_all(rt, queue.peers, listener.local_addr()?)?;
     let mut sockets = Sockets::new(rt.alloc(), listener);
-    serve_queue(rt.alloc(), office, &mut sockets, queue)?;
+    serve_queue(rt.alloc(), office, &mut sockets, queue, log)?;
     if queue.talk != 0 {
         hear_all(rt, queue.peers, streams)?;
     }
@@ -245,7 +250,9 @@ fn take_queue<S: Alter>(
 pub fn take_peers<S: Alter>(rt: &HostRuntime, office: &mut Office<S>) -> Result<(), Fail> {
     let listener = TcpListener::bind(rt, "127.0.0.1:0")?;
     for queue in &QUEUES {
-        take_queue(rt, office, &listener, queue)?;
+        let memory = Vec::new(rt.alloc());
+        let mut log = Counted::new(FailAt::new(memory, Portion::All, u64::MAX));
+        take_queue(rt, office, &listener, queue, &mut log)?;
     }
     Ok(())
 }

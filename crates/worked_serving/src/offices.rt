@@ -7,6 +7,7 @@ use crate::listening::take_peers;
 use crate::replays::take_records;
 use crate::sessions::{take_holds, take_rules};
 use crate::stops::{START, Visit, Way, visit_over};
+use crate::troubles::take_troubles;
 use office_core::Limits;
 use office_engine::Office;
 use sqlite::{Alter, Connection, Files, Options};
@@ -83,6 +84,10 @@ fn make_over<S: Alter + Drop>(
         return Err("no office was made".into());
     };
     serve(rt, &mut office, part)?;
+    let office = match part {
+        Part::Peers => take_troubles(rt, office)?,
+        _ => office,
+    };
     let (told, conn) = look(rt.alloc(), office);
     match told {
         Some(text) if text.is_empty() => Ok(conn),

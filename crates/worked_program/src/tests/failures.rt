@@ -8,7 +8,7 @@ use std::io::{Error, ErrorKind};
 use std::test::*;
 
 /// Runs, how many bytes the input gives before it fails, and what becomes of what is printed and told.
-static FAILURES: [(&str, u64, Taking, Taking); 12] = [
+static FAILURES: [(&str, u64, Taking, Taking); 13] = [
     // The input fails at once, and in the middle.
     (
         "check,-||Failed||device\ndepot: cannot read standard input: broken pipe\n",
@@ -72,6 +72,13 @@ static FAILURES: [(&str, u64, Taking, Taking); 12] = [
     // What tells nothing ends well all the same.
     (
         "check,-|~bag~|Accepted|valid 1.0 files 1 bytes 3 manifests 1\n|",
+        u64::MAX,
+        Taking::All,
+        Taking::Fails,
+    ),
+    // Nor does serving end where a line of it can't be written.
+    (
+        "serve,--port,0,--count,1,:memory:,2024-03-01|~maps~|Accepted|~denied~#|",
         u64::MAX,
         Taking::All,
         Taking::Fails,

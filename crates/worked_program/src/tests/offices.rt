@@ -85,14 +85,14 @@ static GOES_ON: [&str; 18] = [
     "replay,:memory:|~torn records~|Refused|~one answer~|record 2\ndepot: record 2 of the input is malformed\n",
     "replay,--policy,o/policy.toml,:memory:|~records~|Accepted|~answers~|",
     "replay,--policy=o/other.toml,--,:memory:|~records~|Refused||policy Y2\n~Y2~depot: o/other.toml is no policy\n",
-    "serve,--port,0,--count,1,:memory:,2024-03-01|~maps~|Accepted|~denied~#|",
+    "serve,--port,0,--count,1,:memory:,2024-03-01|~maps~|Accepted|~denied~#|depot: serving ended after the connections that were asked for: 1\n",
     // A rule decides on its days, and on no other.
     "policy,o/dated.db,o/dated.toml||Accepted|installed 1 rules 1 callers\n|",
     "ask,o/dated.db,2024-03-01|~maps~|Accepted|~maps made~|",
     "ask,o/dated.db,2024-03-02|~maps~|Accepted|~denied~|",
     // An office that is served to peers, and what they wrote in the run that follows.
     "policy,o/served.db,o/policy.toml||Accepted|~installed~|",
-    "serve,--port,0,--count,5,o/served.db,2024-03-01|~asks~#~maps~#~y1~#POST /deposits?collection=maps&class=y1&accession=A-1~closed~#GET /deposits~anna~|Accepted|~no such~#~maps made~#~y1 made~#~deposited~1}#~ok~165~close~{\"deposits\":[{\"accession\":\"A-1\",\"bytes\":3,\"class\":\"y1~shown~maps\",\"deposit\":1,\"deposited\":\"2024-03-01\",\"due\":\"2025-02-28\",\"files\":1}]}#|",
+    "serve,--port,0,--count,5,o/served.db,2024-03-01|~asks~#~maps~#~y1~#POST /deposits?collection=maps&class=y1&accession=A-1~closed~#GET /deposits~anna~|Accepted|~no such~#~maps made~#~y1 made~#~deposited~1}#~ok~165~close~{\"deposits\":[{\"accession\":\"A-1\",\"bytes\":3,\"class\":\"y1~shown~maps\",\"deposit\":1,\"deposited\":\"2024-03-01\",\"due\":\"2025-02-28\",\"files\":1}]}#|depot: serving ended after the connections that were asked for: 5\n",
     "ask,o/served.db,2024-03-02|GET /deposits/1/bag~anna~|Accepted|HTTP/1.1 200 OK\r\nContent-Type: application/octet-stream\r\nContent-Length: 210~close~~bag~|",
 ];
 

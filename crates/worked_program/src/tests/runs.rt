@@ -77,17 +77,17 @@ pub fn came_of(rt: &HostRuntime, words: &[&str], given: &Given<'_>) -> Result<Ca
             peers: given.peers,
             streams: Vec::new(alloc),
         }),
-        error: Told {
+        error: Counted::new(Told {
             said: Vec::new(alloc),
             taking: given.error,
-        },
+        }),
     };
     let ending = run(rt, &mut Some(Unknown), words, &mut streams);
     let mut output = streams.output.into_device();
     output.hear()?;
     Ok(Came {
         said: output.said,
-        told: streams.error.said,
+        told: streams.error.into_device().said,
         ending,
     })
 }

@@ -1,7 +1,9 @@
 //! A session with an office, worked out by hand: its steps, the rows of the tables in between, and
 //! a session that goes on.
 
-use crate::answers::{DEPOSIT_1, DEPOSIT_2, DEPOSIT_3, HOLD_1, HOLD_2, HOLD_3, MAPS, Y1};
+use crate::answers::{
+    DEPOSIT_1, DEPOSIT_2, DEPOSIT_3, HOLD_1, HOLD_2, HOLD_3, MAPS, STORE_FAILED, Y1,
+};
 use crate::desk::{Devices, compare, serve_request};
 use http_desk::Portion;
 use office_core::read_policy;
@@ -196,10 +198,6 @@ pub static STOCKS: [(usize, usize); 16] = [
     (4, 185),
     (3, 131),
 ];
-
-/// What the desk answers where the store failed.
-static STORE_FAILED: &[u8] =
-    b"HTTP/1.1 503 Service Unavailable\r\nContent-Type: application/json\r\nContent-Length: 17\r\nConnection: close\r\n\r\n{\"error\":\"Store\"}";
 
 /// Installs the policy: whether it was installed. Fails where another fault than the store's is
 /// told.
