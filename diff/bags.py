@@ -164,22 +164,25 @@ def refused(folder):
         with socket.socket(socket.AF_UNIX) as server:
             server.bind(path)
 
+    no_text, no_file = b"has a name that is not UTF-8", b"is neither a file nor a folder, such as a link"
     makers = {
-        "a name that is no UTF-8": lambda path: open(path + b"\xff", "wb").close(),
-        "a folder's name that is no UTF-8": lambda path: os.mkdir(path + b"\xc3\x28"),
-        "a link": lambda path: os.symlink("nowhere", path),
-        "a link to a folder": lambda path: os.symlink(".", path),
-        "a pipe": os.mkfifo,
-        "a socket": listens,
+        "a name that is no UTF-8": (lambda path: open(path + b"\xff", "wb").close(), b"?", no_text),
+        "a folder's name that is no UTF-8": (lambda path: os.mkdir(path + b"\xc3\x28"), b"?", no_text),
+        "a link": (lambda path: os.symlink("nowhere", path), b"x", no_file),
+        "a link to a folder": (lambda path: os.symlink(".", path), b"x", no_file),
+        "a pipe": (os.mkfifo, b"x", no_file),
+        "a socket": (listens, b"x", no_file),
     }
-    for name, make in makers.items():
+    for name, (make, printed, cause) in makers.items():
         odd = os.path.join(folder, b"odd")
         os.makedirs(os.path.join(odd, b"deep"))
         # This alone is S8.
         open(os.path.join(odd, b"data"), "wb").close()
         make(os.path.join(odd, b"deep", b"x"))
-        if call("pack", odd, out) != (b"unpackable NAME\n", 1) or os.path.exists(out):
-            sys.exit(f"{name} is packed")
+        told = b"the entry deep/%s of the folder %s (NAME)\n" % (printed, cause)
+        run = subprocess.run([DEPOT, "pack", odd, out], capture_output=True, timeout=60)
+        if (run.stdout, run.stderr, run.returncode) != (b"unpackable NAME\n", told, 1) or os.path.exists(out):
+            sys.exit(f"{name}: {run}")
         shutil.rmtree(odd)
     return len(makers)
 

@@ -12,14 +12,16 @@ import sys
 from pathlib import Path
 
 top = Path(sys.argv[1])
-PLACES = {"{manifest}": "NAME", "{path}": "PATH", "{line}": "LINE", "{offset}": "OFFSET", "{number}": "N", "{cause}": "CAUSE", "{caller}": "CALLER"}
+PLACES = {"{manifest}": "NAME", "{path}": "PATH", "{line}": "LINE", "{offset}": "OFFSET", "{number}": "N", "{cause}": "CAUSE", "{caller}": "CALLER",
+          "{meaning}": "MEANING", "{role}": "ROLE", "{action}": "ACTION", "{scope}": "SCOPE"}
+BEGINNINGS = ("this ", "the caller CALLER ", "the option --day DAY ", "rule N of the policy denies ", "no rule of the policy ", "the folder has no ",
+              "something has ", "the bag has PATH, ", "in this path ", "%0A or %0D is ", "%25 is ", "it begins with ", "it is not ", "it has ")
 CODE = re.compile(r"\((?:[A-Z]+\d* )?([A-Z]+\d*)\)$")
 
 
-# Whether a text is a sentence of a fault, of a file that is no form, of a caller whom no policy lists, or of
-# an option that is missing.
+# Whether a text is a sentence of a fault, or another that standard error is told, or a part of one.
 def is_sentence(text):
-    return bool(CODE.search(text) or text.startswith(("this ", "the caller CALLER ", "the option --day DAY ")))
+    return bool(CODE.search(text) or text.startswith(BEGINNINGS))
 
 
 coded = set()
@@ -28,7 +30,7 @@ for file in sorted((top / "crates/fault_words/src").glob("*.rt")):
     for text in re.findall(r'"((?:[^"\\]|\\.)*)"', code):
         for place, name in PLACES.items():
             text = text.replace(place, name)
-        if file.name == "folder.rt" and not text.startswith(("a ", "an ", "the ")):
+        if file.name == "folder.rt" and not text.startswith(("a ", "an ", "the ", "something ")):
             text = "PATH " + text  # what is said of a file stands behind its path
         if is_sentence(text):
             coded.add(text)

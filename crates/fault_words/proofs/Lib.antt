@@ -1,3 +1,4 @@
+mod CauseLemmas
 pub mod FormLemmas
 mod RulePlaces
 mod TomlLines

@@ -74,7 +74,7 @@ sought_path fault = None
 abbrev pub form_line : List File → Option (List ℕ) → List ℕ
 form_line files sought = option_map_or (λ file. words_of_other_form file ++ 10 ∷ []) (option_and_then (other_form files) sought) []
 
--- what a percent sign in the printed path stands for, likewise
+-- what stands for the end of a line or a percent sign in the printed path, likewise
 abbrev pub coding_line : Option (List ℕ) → List ℕ
 coding_line named = option_map_or (λ coding. coding_words coding ++ 10 ∷ []) (option_and_then coding_in named) []
 

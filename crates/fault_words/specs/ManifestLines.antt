@@ -19,10 +19,10 @@ likeness line =
 abbrev pub likeness_words : List ℕ → ℕ → OtherLine → List ℕ
 likeness_words name line Escaped =
     codes "line " ++ decimal line ++ codes " of " ++ printed_text name
-    ++ codes " begins with a backslash, by which sha256sum marks an escaped name; a manifest has LF as %0A, CR as %0D, and in version 1.0 % as %25 (B6 L3)"
+    ++ codes " begins with a backslash, by which sha256sum marks an escaped name; a manifest has no such mark: it has a backslash once, LF as %0A, CR as %0D, and in version 1.0 % as %25 (B6 L3)"
 likeness_words name line Tagged =
     codes "line " ++ decimal line ++ codes " of " ++ printed_text name
-    ++ codes " is as sha256sum --tag writes it; a manifest has the checksum first, then blanks and the path (B6 L3)"
+    ++ codes " is as sha256sum or sha512sum writes it with --tag; a manifest has the checksum first, then blanks and the path (B6 L3)"
 
 -- ---- a line that lists no good path
 
@@ -30,7 +30,7 @@ abbrev pub cause_words : PathCause → List ℕ
 cause_words causes.Starred = codes "it begins with *, by which checksum tools mark a binary file"
 cause_words causes.NotUtf8 = codes "it is not UTF-8"
 cause_words causes.TooLong = codes "it has more than 1,024 bytes"
-cause_words causes.EmptySegment = codes "it has an empty segment, as where / begins or ends it"
+cause_words causes.EmptySegment = codes "it has an empty segment, as where / begins or ends it, or stands twice"
 cause_words causes.DotSegment = codes "it has the segment ., as in ./data"
 cause_words causes.DotDotSegment = codes "it has the segment .."
 cause_words causes.Nul = codes "it has a NUL"

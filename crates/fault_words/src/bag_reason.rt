@@ -8,7 +8,7 @@ ghost use Rattle.fault_words.specs.BagReasons.{cause_at, coding_line, form_line,
 
 use crate::in_words::InWords;
 use crate::manifest_line::{BadPathLine, OtherLine, UnlikeLine};
-use crate::path_note::{OtherForm, coding_in, coding_words, other_form};
+use crate::path_note::{OtherForm, coding_in, other_form};
 use crate::tag_files::ManifestWords;
 use bag_check::BagFault;
 use bag_text::{BagSet, LineFault, PathCause, Version, line_at, path_cause, read_declaration};
@@ -201,8 +201,7 @@ fn with_coding_line(path: Option<&str>, text: String) -> Result<String, AllocErr
         return Ok(text);
     };
     let mut lines = text;
-    let words = coding_words(coding);
-    write!(lines, "{words}\n")?;
+    write!(lines, "{coding}\n")?;
     Ok(lines)
 }
 

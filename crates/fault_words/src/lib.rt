@@ -9,6 +9,7 @@ mod escaped;
 mod folder;
 mod form;
 mod in_words;
+pub mod laws;
 mod manifest_line;
 mod other_file;
 mod path_note;

@@ -12,7 +12,7 @@ use std::fmt;
 pub enum OtherLine {
     /// A line of `sha256sum` with a backslash in front, since the name in it is escaped.
     Escaped,
-    /// A line of `sha256sum --tag`, which has the path before the checksum.
+    /// A line of `sha256sum` or `sha512sum` with `--tag`, which has the path before the checksum.
     Tagged,
 }
 
@@ -49,11 +49,11 @@ impl<'a> fmt::Display for UnlikeLine<'a> {
         match self.other {
             OtherLine::Escaped => write!(
                 f,
-                "line {line} of {manifest} begins with a backslash, by which sha256sum marks an escaped name; a manifest has LF as %0A, CR as %0D, and in version 1.0 % as %25 (B6 L3)"
+                "line {line} of {manifest} begins with a backslash, by which sha256sum marks an escaped name; a manifest has no such mark: it has a backslash once, LF as %0A, CR as %0D, and in version 1.0 % as %25 (B6 L3)"
             ),
             OtherLine::Tagged => write!(
                 f,
-                "line {line} of {manifest} is as sha256sum --tag writes it; a manifest has the checksum first, then blanks and the path (B6 L3)"
+                "line {line} of {manifest} is as sha256sum or sha512sum writes it with --tag; a manifest has the checksum first, then blanks and the path (B6 L3)"
             ),
         }
     }
@@ -67,7 +67,8 @@ pub fn cause_words(cause: PathCause) -> &'static str
         PathCause::Starred => "it begins with *, by which checksum tools mark a binary file",
         PathCause::NotUtf8 => "it is not UTF-8",
         PathCause::TooLong => "it has more than 1,024 bytes",
-        PathCause::EmptySegment => "it has an empty segment, as where / begins or ends it",
+        PathCause::EmptySegment =>
+            "it has an empty segment, as where / begins or ends it, or stands twice",
         PathCause::DotSegment => "it has the segment ., as in ./data",
         PathCause::DotDotSegment => "it has the segment ..",
         PathCause::Nul => "it has a NUL",

@@ -4,10 +4,10 @@ ghost use Rattle.std.specs.Prelude.{◌≡◌, IfOk, Some, option_copied};
 ghost use Rattle.std.specs.List.{list_any};
 ghost use Rattle.bag_text.specs.Lines.{is_end};
 ghost use Rattle.bag_text.specs.TransferReading.{files_of};
-ghost use Rattle.fault_words.specs.PathNotes.{coding_in, coding_words, differs_by_form, other_form, words_of_other_form};
+ghost use Rattle.fault_words.specs.PathNotes.{coding_in, coding_words, differs_by_form, has_percent, meaning_words, other_form, words_of_other_form};
 
 use crate::escaped::Escaped;
-use bag_text::{BagSet, Version, has_coded};
+use bag_text::BagSet;
 use std::alloc::{AllocError, Global};
 use std::fmt;
 use unicode_normalization::to_nfc;
@@ -74,8 +74,10 @@ impl<'a> fmt::Display for OtherForm<'a> {
 pub enum Coding {
     /// The end of a line, LF or CR.
     LineEnd,
-    /// The characters `%0A`, `%0D` or `%25`, which a manifest of version 1.0 has to spell otherwise.
+    /// A percent sign.
     Percent,
+    /// The end of a line and a percent sign.
+    Both,
 }
 
 fn has_line_end(path: &[u8]) -> bool
@@ -84,30 +86,47 @@ fn has_line_end(path: &[u8]) -> bool
     path.iter().any(|b| matches!(*b, b'\n' | b'\r'))
 }
 
+fn has_percent(path: &[u8]) -> bool
+    ensures { result ≡ has_percent path.now }
+{
+    path.iter().any(|b| *b == b'%')
+}
+
 /// What of these stands in a path.
 pub fn coding_in(path: &str) -> Option<Coding>
     ensures { result ≡ coding_in path.now }
 {
     let bytes = path.as_bytes();
-    if has_line_end(bytes) {
+    if has_line_end(bytes) && has_percent(bytes) {
+        Some(Coding::Both)
+    } else if has_line_end(bytes) {
         Some(Coding::LineEnd)
-    } else if has_coded(Version::V1_0, bytes) {
+    } else if has_percent(bytes) {
         Some(Coding::Percent)
     } else {
         None
     }
 }
 
-/// What is said of a path in which that stands.
-pub fn coding_words(coding: Coding) -> &'static str
-    ensures { result.now ≡ coding_words coding }
+/// What stands for it in the printed path.
+fn meaning_words(coding: Coding) -> &'static str
+    ensures { result.now ≡ meaning_words coding }
 {
     match coding {
-        Coding::LineEnd => {
-            "in this path %0A or %0D is the end of a line; a name with %0A or %0D in it is listed with %250A or %250D in version 1.0, and cannot be listed in version 0.97"
-        }
-        Coding::Percent => {
-            "in this path %25 is a percent sign; a name with %0A or %0D in it is listed with %250A or %250D in version 1.0, and cannot be listed in version 0.97"
-        }
+        Coding::LineEnd => "%0A or %0D is the end of a line",
+        Coding::Percent => "%25 is a percent sign",
+        Coding::Both => "%0A or %0D is the end of a line, and %25 a percent sign",
+    }
+}
+
+impl fmt::Display for Coding {
+    ghost output = { λ coding. Some (coding_words coding) };
+
+    fn fmt<W: fmt::Write>(&self, f: &mut fmt::Formatter<W>) -> fmt::Result {
+        let meaning = meaning_words(*self);
+        write!(
+            f,
+            "in this path {meaning}; version 1.0 lists %0A, %0D and %25 of a name as %250A, %250D and %2525, and version 0.97 cannot list %0A or %0D"
+        )
     }
 }

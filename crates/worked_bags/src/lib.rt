@@ -35,7 +35,7 @@ pub static BAGS: [WorkedBag; 8] = [
         "a decoded path",
         b"BAGSET 1\nFILE 9 55\nbagit.txtBagIt-Version: 0.97\nTag-File-Character-Encoding: UTF-8\n\nFILE 10 3\ndata/a%0Ababc\nFILE 19 79\nmanifest-sha256.txtba7816bf8f01cfea414140de5dae2223b00361a396177a9cb410ff61f20015ad  data/a%250Ab\n\nEND\n",
         "invalid B11 manifest-sha256.txt data/a%25250Ab\n",
-        "manifest-sha256.txt lists data/a%25250Ab, but the bag has no such file (B11)\nin this path %25 is a percent sign; a name with %0A or %0D in it is listed with %250A or %250D in version 1.0, and cannot be listed in version 0.97\n",
+        "manifest-sha256.txt lists data/a%25250Ab, but the bag has no such file (B11)\nin this path %25 is a percent sign; version 1.0 lists %0A, %0D and %25 of a name as %250A, %250D and %2525, and version 0.97 cannot list %0A or %0D\n",
         Ending::Refused,
     ),
     // A payload file that one of two payload manifests lists: bag A and an empty `manifest-sha512.txt`.
@@ -67,7 +67,7 @@ pub static BAGS: [WorkedBag; 8] = [
         "a strange name",
         b"BAGSET 1\nFILE 9 54\nbagit.txtBagIt-Version: 1.0\nTag-File-Character-Encoding: UTF-8\n\nFILE 11 0\ndata/\n\r% \xC3\xA9\nFILE 6 3\ndata/aabc\nFILE 19 73\nmanifest-sha256.txtba7816bf8f01cfea414140de5dae2223b00361a396177a9cb410ff61f20015ad  data/a\n\nEND\n",
         "invalid B12 manifest-sha256.txt data/%0A%0D%25%20%C3%A9\n",
-        "data/%0A%0D%25%20%C3%A9 is in the payload, but manifest-sha256.txt does not list it (B12)\nin this path %0A or %0D is the end of a line; a name with %0A or %0D in it is listed with %250A or %250D in version 1.0, and cannot be listed in version 0.97\n",
+        "data/%0A%0D%25%20%C3%A9 is in the payload, but manifest-sha256.txt does not list it (B12)\nin this path %0A or %0D is the end of a line, and %25 a percent sign; version 1.0 lists %0A, %0D and %25 of a name as %250A, %250D and %2525, and version 0.97 cannot list %0A or %0D\n",
         Ending::Refused,
     ),
     (

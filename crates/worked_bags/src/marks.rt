@@ -38,8 +38,10 @@ static MARKS: &str = r#"
 {rule-tax} [[rule]]\neffect = "deny"\nrole = "archivist"\naction = "dispose"\ncollection = "tax"\nclass = "*"\n
 {rule-archivist} [[rule]]\neffect = "allow"\nrole = "archivist"\naction = "*"\ncollection = "*"\nclass = "*"\n
 {rule-clerk} [[rule]]\neffect = "allow"\nrole = "clerk"\naction = "list"\ncollection = "*"\nclass = "y10"\n
-{line-end} in this path %0A or %0D is the end of a line; a name with %0A or %0D in it is listed with %250A or %250D in version 1.0, and cannot be listed in version 0.97\n
-{percent} in this path %25 is a percent sign; a name with %0A or %0D in it is listed with %250A or %250D in version 1.0, and cannot be listed in version 0.97\n
+{line-end} in this path %0A or %0D is the end of a line{listed-so}
+{percent} in this path %25 is a percent sign{listed-so}
+{both} in this path %0A or %0D is the end of a line, and %25 a percent sign{listed-so}
+{listed-so} ; version 1.0 lists %0A, %0D and %25 of a name as %250A, %250D and %2525, and version 0.97 cannot list %0A or %0D\n
 {denied-tax} rule 1 of the policy denies it: role archivist, action dispose, collection tax, any class
 {denied-all} rule 1 of the policy denies it: any role, any action, any collection, any class\n
 {undecided} no rule of the policy matches, so it is denied by default\n

@@ -2,10 +2,10 @@
 
 use crate::tests::rows::{holds, rows_of};
 use bag_check::BagFault;
-use bag_text::{InfoFault, LineFault, SetFault};
+use bag_text::{InfoFault, LineFault, PathCause, SetFault, Version, path_cause, read_bagset};
 use fault_words::{
-    InWords, OddCause, OddEntry, OtherFile, folder_words, form_lines, hint_for, missing_day_words,
-    policy_reason, too_large_words,
+    InWords, OddCause, OddEntry, OtherFile, bag_lines, folder_words, form_lines, hint_for,
+    missing_day_words, policy_reason, too_large_words,
 };
 use office_core::{PolicyFault, read_policy};
 use std::alloc::{AllocError, Global};
@@ -64,6 +64,39 @@ fn want_of_memory_in_other_words(rt: HostRuntime) -> Result<(), AllocError> {
     assert!(rt; form.as_str() == "memory ran out (S9)");
     let policy = InWords(&PolicyFault::Memory).to_string(rt.alloc())?;
     assert!(rt; policy.as_str() == "memory ran out (Y7)");
+    Ok(())
+}
+
+/// Lines that no fault of their bag names, since its manifest isn't UTF-8, and what is told of them as of
+/// lines that list no good path.
+static BAD_PATHS: [(usize, &str); 2] = [
+    (
+        1,
+        "line 1 of manifest-sha256.txt has no good path: it is not UTF-8 (B6 L5)\n",
+    ),
+    (
+        2,
+        "line 2 of manifest-sha256.txt has no good path (B6 L5)\n",
+    ),
+];
+
+#[test]
+fn paths_of_a_manifest_that_is_no_text(rt: HostRuntime) -> Result<(), Fail> {
+    let cause = path_cause(rt.alloc(), Version::V1_0, b"0 data/\xFF")?;
+    assert!(rt; cause == Some(PathCause::NotUtf8));
+    let form = bytes_of(
+        rt.alloc(),
+        r"BAGSET 1\n{declared}{payload}FILE 19 74\nmanifest-sha256.txt{abc}  data/a{ff}\n\nEND\n",
+    )?;
+    let bag = read_bagset(rt.alloc(), form.as_slice())?;
+    for (line, wanted) in &BAD_PATHS {
+        let fault = BagFault::ManifestText {
+            manifest: "manifest-sha256.txt",
+            fault: LineFault::BadPath(*line),
+        };
+        let lines = bag_lines(rt.alloc(), &bag, &fault)?;
+        holds(&rt, lines.as_str() == *wanted, wanted);
+    }
     Ok(())
 }
 

@@ -36,7 +36,7 @@ fn small_bags_are_judged(rt: HostRuntime) -> Result<(), Fail> {
     for (table, wanted) in [
         (DECLARATIONS, 34),
         (MANIFESTS, 41),
-        (PAYLOADS, 26),
+        (PAYLOADS, 28),
         (INFOS, 37),
         (ENTRIES, 30),
     ] {

@@ -60,18 +60,18 @@ BAGSET 1\n{declared}{payload}FILE 19 81\nmanifest-sha256.txt\r\n\r \t\n#\n{abc} 
 BAGSET 1\n{declared}{payload}FILE 19 64\nmanifest-sha256.txt{abc}\nEND\n => invalid B6 manifest-sha256.txt L4 1\n => line 1 of manifest-sha256.txt has no path after its checksum (B6 L4)\n
 BAGSET 1\n{declared}{payload}FILE 19 140\nmanifest-sha256.txt{abc} data/a\n{abc} \t \n\nEND\n => invalid B6 manifest-sha256.txt L4 2\n
 # What sha256sum writes otherwise.
-BAGSET 1\n{declared}{payload}FILE 19 83\nmanifest-sha256.txtSHA256 (data/a) = {abc}\n\nEND\n => invalid B6 manifest-sha256.txt L3 1\n => line 1 of manifest-sha256.txt is as sha256sum --tag writes it; a manifest has the checksum first, then blanks and the path (B6 L3)\n
-BAGSET 1\n{declared}{payload}FILE 19 93\nmanifest-sha256.txt{abc}  data/a\nSHA512 (data/b) = 0\n\nEND\n => invalid B6 manifest-sha256.txt L3 2\n => line 2 of manifest-sha256.txt is as sha256sum --tag writes it; a manifest has the checksum first, then blanks and the path (B6 L3)\n
-BAGSET 1\n{declared}{payload}FILE 19 77\nmanifest-sha256.txt\{abc}  data/a%0A\n\nEND\n => invalid B6 manifest-sha256.txt L3 1\n => line 1 of manifest-sha256.txt begins with a backslash, by which sha256sum marks an escaped name; a manifest has LF as %0A, CR as %0D, and in version 1.0 % as %25 (B6 L3)\n
+BAGSET 1\n{declared}{payload}FILE 19 83\nmanifest-sha256.txtSHA256 (data/a) = {abc}\n\nEND\n => invalid B6 manifest-sha256.txt L3 1\n => line 1 of manifest-sha256.txt is as sha256sum or sha512sum writes it with --tag; a manifest has the checksum first, then blanks and the path (B6 L3)\n
+BAGSET 1\n{declared}{payload}FILE 19 93\nmanifest-sha256.txt{abc}  data/a\nSHA512 (data/b) = 0\n\nEND\n => invalid B6 manifest-sha256.txt L3 2\n => line 2 of manifest-sha256.txt is as sha256sum or sha512sum writes it with --tag; a manifest has the checksum first, then blanks and the path (B6 L3)\n
+BAGSET 1\n{declared}{payload}FILE 19 77\nmanifest-sha256.txt\{abc}  data/a%0A\n\nEND\n => invalid B6 manifest-sha256.txt L3 1\n => line 1 of manifest-sha256.txt begins with a backslash, by which sha256sum marks an escaped name; a manifest has no such mark: it has a backslash once, LF as %0A, CR as %0D, and in version 1.0 % as %25 (B6 L3)\n
 # Each cause for which a path is not good.
 BAGSET 1\n{declared}{payload}FILE 19 73\nmanifest-sha256.txt{abc} *data/a\n\nEND\n => invalid B6 manifest-sha256.txt L5 1\n => line 1 of manifest-sha256.txt has no good path: it begins with *, by which checksum tools mark a binary file (B6 L5)\n
 BAGSET 1\n{declared}{payload}FILE 19 1091\nmanifest-sha256.txt{abc} {long}\n\nEND\n => invalid B6 manifest-sha256.txt L5 1\n => line 1 of manifest-sha256.txt has no good path: it has more than 1,024 bytes (B6 L5)\n
-BAGSET 1\n{declared}{payload}FILE 19 75\nmanifest-sha256.txt{abc} data//./a\n\nEND\n => invalid B6 manifest-sha256.txt L5 1\n => line 1 of manifest-sha256.txt has no good path: it has an empty segment, as where / begins or ends it (B6 L5)\n
-BAGSET 1\n{declared}{payload}FILE 19 73\nmanifest-sha256.txt{abc} /data/a\n\nEND\n => invalid B6 manifest-sha256.txt L5 1\n => line 1 of manifest-sha256.txt has no good path: it has an empty segment, as where / begins or ends it (B6 L5)\n
+BAGSET 1\n{declared}{payload}FILE 19 75\nmanifest-sha256.txt{abc} data//./a\n\nEND\n => invalid B6 manifest-sha256.txt L5 1\n => line 1 of manifest-sha256.txt has no good path: it has an empty segment, as where / begins or ends it, or stands twice (B6 L5)\n
+BAGSET 1\n{declared}{payload}FILE 19 73\nmanifest-sha256.txt{abc} /data/a\n\nEND\n => invalid B6 manifest-sha256.txt L5 1\n => line 1 of manifest-sha256.txt has no good path: it has an empty segment, as where / begins or ends it, or stands twice (B6 L5)\n
 BAGSET 1\n{declared}{payload}FILE 19 74\nmanifest-sha256.txt{abc} ./data/a\n\nEND\n => invalid B6 manifest-sha256.txt L5 1\n => line 1 of manifest-sha256.txt has no good path: it has the segment ., as in ./data (B6 L5)\n
 BAGSET 1\n{declared}{payload}FILE 19 75\nmanifest-sha256.txt{abc} data/../a\n\nEND\n => invalid B6 manifest-sha256.txt L5 1\n => line 1 of manifest-sha256.txt has no good path: it has the segment .. (B6 L5)\n
 BAGSET 1\n{declared}{payload}FILE 19 74\nmanifest-sha256.txt{abc} data/a{nul}b\n\nEND\n => invalid B6 manifest-sha256.txt L5 1\n => line 1 of manifest-sha256.txt has no good path: it has a NUL (B6 L5)\n
-BAGSET 1\n{declared}{payload}FILE 19 145\nmanifest-sha256.txt{abc} data/a\n{abc} data//a\n\nEND\n => invalid B6 manifest-sha256.txt L5 2\n => line 2 of manifest-sha256.txt has no good path: it has an empty segment, as where / begins or ends it (B6 L5)\n
+BAGSET 1\n{declared}{payload}FILE 19 145\nmanifest-sha256.txt{abc} data/a\n{abc} data//a\n\nEND\n => invalid B6 manifest-sha256.txt L5 2\n => line 2 of manifest-sha256.txt has no good path: it has an empty segment, as where / begins or ends it, or stands twice (B6 L5)\n
 # A path stays the same under another digest, and in another spelling.
 BAGSET 1\n{declared}{payload}FILE 19 144\nmanifest-sha256.txt{abc} data/a\n{abc} data/a\n\nEND\n => invalid B6 manifest-sha256.txt L6 2\n => line 2 of manifest-sha256.txt lists a path that an earlier line lists (B6 L6)\n
 BAGSET 1\n{declared}{payload}FILE 19 144\nmanifest-sha256.txt{abc} data/a\n{nothing} data/a\n\nEND\n => invalid B6 manifest-sha256.txt L6 2\n
@@ -111,6 +111,8 @@ BAGSET 1\n{declared}FILE 10 3\ndata/a%0Ababc\nFILE 19 79\nmanifest-sha256.txt{ab
 BAGSET 1\n{declared-0.97}FILE 10 3\ndata/a%0Ababc\nFILE 19 79\nmanifest-sha256.txt{abc}  data/a%250Ab\n\nEND\n => invalid B11 manifest-sha256.txt data/a%25250Ab\n => manifest-sha256.txt lists data/a%25250Ab, but the bag has no such file (B11)\n{percent}
 BAGSET 1\n{declared-0.97}FILE 20 3\ndata/page%0Aone.htmlabc\nFILE 19 87\nmanifest-sha256.txt{abc}  data/page%0Aone.html\n\nEND\n => invalid B11 manifest-sha256.txt data/page%0Aone.html\n => manifest-sha256.txt lists data/page%0Aone.html, but the bag has no such file (B11)\n{line-end}
 BAGSET 1\n{declared}FILE 20 3\ndata/page%0Aone.htmlabc\nFILE 19 1\nmanifest-sha256.txt\n\nEND\n => invalid B12 manifest-sha256.txt data/page%250Aone.html\n => data/page%250Aone.html is in the payload, but manifest-sha256.txt does not list it (B12)\n{percent}
+BAGSET 1\n{declared}FILE 15 3\ndata/100%25.txtabc\nFILE 19 82\nmanifest-sha256.txt{abc}  data/100%25.txt\n\nEND\n => invalid B11 manifest-sha256.txt data/100%25.txt\n => manifest-sha256.txt lists data/100%25.txt, but the bag has no such file (B11)\n{percent}
+BAGSET 1\n{declared}FILE 15 3\ndata/100%25.txtabc\nFILE 19 84\nmanifest-sha256.txt{abc}  data/100%2525.txt\n\nEND\n => valid 1.0 files 1 bytes 3 manifests 1\n
 # Paths that differ by normal form alone.
 BAGSET 1\n{declared}FILE 8 3\ndata/e{accent}abc\nFILE 19 74\nmanifest-sha256.txt{abc}  data/é\n\nEND\n => invalid B11 manifest-sha256.txt data/%C3%A9\n => manifest-sha256.txt lists data/%C3%A9, but the bag has no such file (B11)\nthe bag has data/e%CC%81, which differs by Unicode normal form alone, as NFC and NFD do; paths are compared byte for byte\n
 BAGSET 1\n{declared}FILE 8 3\ndata/e{accent}abc\nFILE 7 3\ndata/éabc\nFILE 19 74\nmanifest-sha256.txt{abc}  data/é\n\nEND\n => invalid B12 manifest-sha256.txt data/e%CC%81\n => data/e%CC%81 is in the payload, but manifest-sha256.txt does not list it (B12)\nthe bag has data/%C3%A9, which differs by Unicode normal form alone, as NFC and NFD do; paths are compared byte for byte\n
@@ -128,8 +130,8 @@ BAGSET 1\n{declared}{payload}{b}FILE 19 274\nmanifest-sha512.txt{abc-512}  data/
 # A name with LF, CR, %, blanks, DEL and bytes past ASCII.
 BAGSET 1\n{declared}{strange}{strange-listed}END\n => valid 1.0 files 1 bytes 3 manifests 1\n
 BAGSET 1\n{declared-0.97}{strange}FILE 19 92\nmanifest-sha256.txt{abc}  data/ a%0a%0D%\t{del}é📘~! \n\nEND\n => valid 0.97 files 1 bytes 3 manifests 1\n
-BAGSET 1\n{declared}{strange-listed}END\n => invalid B11 manifest-sha256.txt {strange-said}\n => manifest-sha256.txt lists {strange-said}, but the bag has no such file (B11)\n{line-end}
-BAGSET 1\n{declared}{strange}FILE 19 0\nmanifest-sha256.txt\nEND\n => invalid B12 manifest-sha256.txt {strange-said}\n => {strange-said} is in the payload, but manifest-sha256.txt does not list it (B12)\n{line-end}
+BAGSET 1\n{declared}{strange-listed}END\n => invalid B11 manifest-sha256.txt {strange-said}\n => manifest-sha256.txt lists {strange-said}, but the bag has no such file (B11)\n{both}
+BAGSET 1\n{declared}{strange}FILE 19 0\nmanifest-sha256.txt\nEND\n => invalid B12 manifest-sha256.txt {strange-said}\n => {strange-said} is in the payload, but manifest-sha256.txt does not list it (B12)\n{both}
 BAGSET 1\n{declared}{strange}FILE 19 94\nmanifest-sha256.txt{nothing}  data/ a%0A%0D%25\t{del}é📘~! \n\nEND\n => invalid B17 manifest-sha256.txt {strange-said}\n
 # The bag of the usual tool, and with another last digit of the digest of bag-info.txt.
 {tool}1{tool-end} => valid 0.97 files 2 bytes 13 manifests 4\n

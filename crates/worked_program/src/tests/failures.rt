@@ -1,14 +1,15 @@
 //! Streams that fail: what standard error is told, all of it, and how a run ends.
 
 use crate::tests::output::{Taking, Told};
-use crate::tests::runs::{Given, run_with};
+use crate::tests::runs::{Given, begin, run_with};
 use commands::Ending;
 use program::refuse_words;
+use std::fs;
 use std::io::{Error, ErrorKind};
 use std::test::*;
 
 /// Runs, how many bytes the input gives before it fails, and what becomes of what is printed and told.
-static FAILURES: [(&str, u64, Taking, Taking); 13] = [
+static FAILURES: [(&str, u64, Taking, Taking); 14] = [
     // The input fails at once, and in the middle.
     (
         "check,-||Failed||device\ndepot: cannot read standard input: broken pipe\n",
@@ -50,6 +51,13 @@ static FAILURES: [(&str, u64, Taking, Taking); 13] = [
         Taking::Fails,
     ),
     ("judge,-||Unsaid||", u64::MAX, Taking::All, Taking::Nothing),
+    // And as it is told of a folder that is packed, and is no bag.
+    (
+        "pack,f/plain,f/form||Unsaid|packed 1 files 27 bytes\n|",
+        u64::MAX,
+        Taking::All,
+        Taking::Fails,
+    ),
     // It takes all, and fails as it is flushed.
     (
         "check,-||Unsaid||device\n",
@@ -87,6 +95,7 @@ static FAILURES: [(&str, u64, Taking, Taking); 13] = [
 
 #[test]
 fn streams_that_fail(rt: HostRuntime) -> Result<(), Fail> {
+    begin(&rt, "f", &[("f/plain/a", "abc")])?;
     for (text, gives, output, error) in &FAILURES {
         let given = Given {
             gives: *gives,
@@ -96,6 +105,9 @@ fn streams_that_fail(rt: HostRuntime) -> Result<(), Fail> {
         };
         run_with(&rt, text, &given)?;
     }
+    let form = fs::read(&rt, "f/form")?;
+    assert!(rt; form.as_slice() == b"BAGSET 1\nFILE 1 3\naabc\nEND\n".as_slice());
+    fs::remove_dir_all(&rt, "f")?;
     Ok(())
 }
 
