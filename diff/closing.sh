@@ -100,7 +100,11 @@ curl -sS --max-time 60 -i -H 'Depot-Caller: anna' --data-binary "@$small-4.bagse
     "http://127.0.0.1:$(sed 's/listening //' "$folder/listening")${target}A-4" >"$folder/out"
 ended "$serving" || status=$?
 # (that its connections were served comes first)
-[ "$(head -n 1 "$folder/err")" = 'depot: serving ended after the connections that were asked for: 1' ]
+ending='depot: serving ended after the connections that were asked for: 1'
+if [ "$(head -n 1 "$folder/err")" != "$ending" ]; then
+    echo "serve: '$ending' is wanted first, and this came: $(cat "$folder/err")" >&2
+    exit 1
+fi
 sed -i 1d "$folder/err"
 compare 'HTTP/1.1 201 Created; store Q4; 3' "$status"
 is_kept 4

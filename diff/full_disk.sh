@@ -2,7 +2,7 @@
 # Fills the disk of an office that serves: a file system of 6 MiB in memory. Shows what docs/OPERATING.md says under "A full
 # disk": the deposit that has no room is answered 503, and what was answered before is there once there is room, by the
 # page's commands; a backup and a `pack` that have no room leave nothing under their names. Standard error, in a file on that
-# disk, is told of the failures and of their end; where it has no room either, its lines are dropped.
+# disk, gets lines of the failures and of their end; where it has no room either, they are dropped, and the next ones come.
 # Needs curl, and root or a user namespace. Words: the program, that of the variable DEPOT or `depot` if left out.
 set -eu
 top=$(readlink -f "$(dirname "$(readlink -f "$0")")/..")
@@ -47,8 +47,9 @@ make_bag() {
     ./depot pack "$room/bag" "$room/form-$1" >said
 }
 
-# Asks the office: the body and the status.
+# Asks the office, and counts it: the body and the status.
 asks_as() {
+    printf . >>"$room/asked"
     curl -sS --max-time 60 -H "Depot-Caller: $1" -w ' %{http_code}' "${@:2}"
 }
 
@@ -62,15 +63,28 @@ deposit() {
 
 serve() {
     rm -f "$room/listening"
+    : >"$room/asked"
     ./depot serve --port 0 --count 1000 office.db "$day" >"$room/listening" 2>>log &
     office=$!
     await "$office" "$room/listening" listening
     address=http://127.0.0.1:$(sed 's/listening //' "$room/listening")
 }
 
-# What was done, and what standard error has been told since the office was first served, in one line.
+# What standard error has got since the office was first served, in one line.
+said() {
+    tail -n +2 log | tr -d '\0' | paste -sd' '
+}
+
+# What was done, and what standard error has then. A line comes after its answer, within ten seconds here.
 tells() {
-    compare "$1: standard error" "$2" "$(tail -n +2 log | tr -d '\0' | paste -sd' ')"
+    local end=$((SECONDS + 10))
+    until [ "$(said)" = "$2" ] || [ "$SECONDS" -ge "$end" ]; do sleep 0.05; done
+    compare "$1: standard error" "$2" "$(said)"
+}
+
+# The connection that was made last, as a line names it.
+last() {
+    echo "depot: connection $(wc -c <"$room/asked"):"
 }
 
 cd "$room/disk"
@@ -86,7 +100,7 @@ asks -X PUT "$address/collections/maps" >said
 kept=0
 until_full() {
     local answer
-    while [ "$kept" -lt 20 ]; do
+    while [ "$kept" -lt 30 ]; do
         make_bag $((kept + 1))
         answer=$(deposit $((kept + 1)))
         [ "$answer" = "{\"deposit\":$((kept + 1))} 201" ] || break
@@ -96,9 +110,7 @@ until_full() {
 }
 
 until_full
-# The class, the collection and the deposits that were taken came before it.
-taken=$kept
-lines="depot: connection $((taken + 3)): a change was answered Store, 1 in a row"
+lines="$(last) a change was answered Store, 1 in a row"
 tells "a deposit that has no room" "$lines"
 # What is asked goes on; what changes something has no room either, until there is some. It needs no new start.
 has_all() {
@@ -121,26 +133,37 @@ more_changes() {
     done
 }
 more_changes 3
-lines+=" depot: connection $((2 * taken + 14)): a change was answered Store, 10 in a row"
+lines+=" $(last) a change was answered Store, 10 in a row"
 tells "ten in a row" "$lines"
-mount -o remount,size=9m office "$room/disk"
-kept=$((kept + 1))
-compare "there is room again" "{\"deposit\":$kept} 201" "$(deposit "$kept")"
-lines+=" depot: connection $((2 * taken + 15)): a change was accepted again, after 10 in a row, the last answered Store"
-tells "there is room again" "$lines"
+# There is room again: the megabytes that the disk has, and what is done.
+more_room() {
+    mount -o "remount,size=$1m" office "$room/disk"
+    kept=$((kept + 1))
+    compare "$2" "{\"deposit\":$kept} 201" "$(deposit "$kept")"
+    lines+=" $(last) a change was accepted again, after 10 in a row, the last answered Store"
+    tells "$2" "$lines"
+}
+more_room 9 "there is room again"
 has_all "there is room again"
 
-# Full again, and stopped meanwhile: each command says that the log can't be folded in, and what was answered stands in it.
-until_full
-lines+=" depot: connection $((2 * taken + kept + 17)): a change was answered Store, 1 in a row"
-tells "full again" "$lines"
-# (to the last byte, also of the page in which standard error ends)
-dd if=/dev/zero of=filling bs=4096 2>/dev/null || true
-truncate -s %4096 log
-more_changes 2
-tells "no room for standard error" "$lines"
+# Full again to the last byte, also of the page in which standard error ends: the line of the tenth failure is dropped.
+fill() {
+    until_full
+    lines+=" $(last) a change was answered Store, 1 in a row"
+    tells "full again" "$lines"
+    dd if=/dev/zero of=filling bs=4096 2>/dev/null || true
+    truncate -s %4096 log
+    more_changes 2
+}
+fill
+rm filling
+more_room 14 "there is room for standard error too"
+
+# Full, and stopped meanwhile: each command says that the log can't be folded in, and what was answered stands in it.
+fill
 kill "$office"
 ended "$office" || true
+tells "no room for standard error" "$lines"
 status=0
 ./depot ask office.db "$day" </dev/null >"$room/said" 2>"$room/told" || status=$?
 compare "the log is to be folded in" '3; store Q4 depot: cannot close office.db: database or disk is full' "$status; $(paste -sd' ' "$room/told")"
@@ -170,4 +193,4 @@ serve
 has_all "after a new start"
 kill "$office"
 ended "$office" || true
-echo "full_disk: $cases cases: what was answered is there, before there is room and after, and standard error is told"
+echo "full_disk: $cases cases: what was answered is there, before there is room and after, and standard error says so"

@@ -1,5 +1,5 @@
 -- What the log is told of one connection more, and of the end.
-use Rattle.std.proofs.Common.{◌≡◌, ◌≤◌, ◌-◌, ◌^◌, ◌++◌, ◌∷◌, [], ◌∙◌, List, Option, map, ap, append-nil, refl, subst, sym}
+use Rattle.std.proofs.Common.{◌≡◌, ◌++◌, ◌∷◌, [], ◌∙◌, List, Option, map, ap, append-nil, refl, subst, sym}
 use Rattle.std.proofs.lemmas.List.{map-append}
 use Rattle.desk_log.specs.Logging.{IsLogged, Log}
 use Rattle.desk_log.specs.Watching.{first_watch, lines_at, watch_after}
@@ -18,11 +18,11 @@ watch_more connections last watch next note so_far is one =
     cc
 
 pub lines_more : (connections : List Connection) (last : Connection) (watch : Watch) (note : Option OfficeNote) (old mid new : Log) → watch ≡ watch_of connections → note ≡ noted last
-    → old.failures ≤ 2 ^ 64 - 1 → IsLogged (lines_of connections) old mid → IsLogged (lines_at watch note) mid new → IsLogged (lines_of (connections ++ last ∷ [])) old new
-lines_more connections last watch note old mid new so_far is fits lines one =
+    → IsLogged (lines_of connections) old mid → IsLogged (lines_at watch note) mid new → IsLogged (lines_of (connections ++ last ∷ [])) old new
+lines_more connections last watch note old mid new so_far is lines one =
     let more : lines_of (connections ++ last ∷ []) ≡ lines_of connections ++ lines_at watch note =
     rw (map-append, so_far, is) (lines_after first_watch (map noted connections) (noted last)) in
-    subst (λ (lines : List (List _)). IsLogged lines old new) (sym more) (more_lines (lines_of connections) (lines_at watch note) old mid new fits lines one)
+    subst (λ (lines : List (List _)). IsLogged lines old new) (sym more) (more_lines (lines_of connections) (lines_at watch note) old mid new lines one)
 
 pub no_end : (lines : List (List _)) (old new : Log) → IsLogged lines old new → IsLogged (lines ++ []) old new
 no_end lines old new are = subst (λ (lines : List (List _)). IsLogged lines old new) (sym (append-nil lines)) are

@@ -147,8 +147,6 @@ pub fn serve_connections<S: Alter, P: Peer, L: Listener<Stream = P>, E: Write>(
         × IsLogged (all_lines result count connections)
         (log_of E.Write log.old) (log_of E.Write log.new) }
 {
-    // What its type says of the number of failures.
-    let _failures = log.failures();
     let mut watch = Watch::new();
     let mut answered = 0;
     for taken in 0..count {

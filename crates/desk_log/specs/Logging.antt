@@ -1,6 +1,5 @@
 -- What a log gets of lines. `old` is the log before and `new` the log after.
-use Rattle.std.specs.Prelude.{◌≡◌, ◌⊎◌, ℕ, List, [], ◌∷◌, Option, ⊤, take}
-use Rattle.std.specs.List.{concat}
+use Rattle.std.specs.Prelude.{◌≡◌, ◌⊎◌, ℕ, List, [], ◌∷◌, Option, take}
 use Rattle.std.specs.Io.KnownBytes.{Appends}
 use Rattle.std.specs.declared.io.Write.{Ghosts as Writes}
 use Rattle.desk_devices.specs.Devices.{HasFailed, device_of, failures_of}
@@ -14,15 +13,15 @@ pub record Log : Type 0 where
 abbrev pub log_of : {W : Type 0} → Writes W → Counted W → Log
 log_of w counted = record { held = w.contents (device_of counted); failures = failures_of counted }
 
--- of each line a beginning: nothing, a part or all of it
-abbrev pub AreBeginnings : List (List ℕ) → List (List ℕ) → Type 0
-AreBeginnings [] [] = ⊤
-AreBeginnings (part ∷ parts) (line ∷ lines) = ((count : ℕ) × (part ≡ take count line)) × AreBeginnings parts lines
-AreBeginnings _ _ = ⊥
+-- the log got all of the line; or, where a call on it failed, a beginning: nothing, a part or all of it
+pub record IsLineLogged (line : List ℕ) (old new : Log) : Type 0 where
+  pub part : List ℕ
+  pub count : ℕ
+  pub begins : part ≡ take count line
+  pub written : Appends old.held new.held part
+  pub whole : HasFailed old.failures new.failures ⊎ ((new.failures ≡ old.failures) × (part ≡ line))
 
--- Of each line the log got a beginning, one after the other. It got all of each, unless a call on it failed.
-pub record IsLogged (lines : List (List ℕ)) (old new : Log) : Type 0 where
-  pub parts : List (List ℕ)
-  pub each : AreBeginnings parts lines
-  pub written : Appends old.held new.held (concat parts)
-  pub whole : HasFailed old.failures new.failures ⊎ ((new.failures ≡ old.failures) × (parts ≡ lines))
+-- and these lines, one after the other
+abbrev pub IsLogged : List (List ℕ) → Log → Log → Type 0
+IsLogged [] old new = new ≡ old
+IsLogged (line ∷ more) old new = (mid : Log) × IsLineLogged line old mid × IsLogged more mid new

@@ -1,2 +1,3 @@
 pub mod ServingLemmas
 pub mod RefusalLemmas
+mod NoteLemmas

@@ -55,12 +55,12 @@ IsAnswered g request reply old new =
 -- ---- the same, and what is noted of the office's answer
 
 -- the request that the office served
-abbrev pub request_in : {day : Date} {bytes : List ℕ} {old new : State} {answer : Answer} → ServesBytes day bytes old new answer → Request
-request_in serves = serves.2.item.2
+abbrev pub request_in : {day : Date} {heard : HeardValue} {old new : State} {answer : Answer} → IsHeardServed day heard old new answer → Request
+request_in it = it.item.2
 
 abbrev pub ServesNoted : Date → List ℕ → Option OfficeNote → State → State → Answer → Type 0
 ServesNoted day bytes note old new answer =
-    (serves : ServesBytes day bytes old new answer) × (note ≡ Some (note_of (request_in serves) answer))
+    (serves : ServesBytes day bytes old new answer) × (note ≡ Some (note_of (request_in serves.2) answer))
 
 -- of what the desk refuses nothing is noted
 abbrev pub IsNoted : {S : Type 0} → Ghosts S → DeskRequest → DeskReply → Option OfficeNote → Held S → Held S → Type 0

@@ -1,15 +1,16 @@
 -- What comes of connections, and of a port that can't be had.
-use Rattle.std.proofs.Common.{◌≡◌, ◌+◌, ◌<◌, ◌∙◌, ℕ, List, [], Option, Err, inl, length, ◌≤◌, refl, sym, subst}
+use Rattle.std.proofs.Common.{◌≡◌, ◌+◌, ◌<◌, ◌∙◌, ℕ, List, [], ◌∷◌, Option, Err, inl, length, ◌≤◌, refl, sym, subst}
 use Rattle.jiff.specs.Types.{Date}
+use Rattle.std.specs.List.{AllByRecursion}
 use Rattle.sqlite.specs.Held.{Held}
 use Rattle.sqlite.specs.Store.{Ghosts}
 use Rattle.desk_listening.specs.Accepting.{CountsAs}
+use Rattle.desk_listening.specs.Listening as listening
 use Rattle.desk_listening.specs.Listening.{Connection, IsAfterAll}
-use Rattle.desk_listening.specs.Logging.{all_lines}
-use Rattle.desk_log.specs.Logging.{IsLogged, Log}
+use Rattle.desk_serving.specs.Serving.{IsItemOf}
 use Rattle.desk_listening.specs.declared.accepting.Served.{Served}
 use Rattle.office_commands.specs.Deeds.{AreDone, Deed, deeds_of_connections}
-use Rattle.office_commands.specs.Tasks.{IsPortFor, Listens}
+use Rattle.office_commands.specs.Tasks.{IsPortFor, IsServedItsOwn, Listens}
 use Rattle.office_commands.specs.Texts.{IsUnheard}
 use Rattle.office_commands.specs.Traffic.{Said}
 use Rattle.office_commands.specs.declared.fault.CommandFault.{CommandFault}
@@ -24,6 +25,15 @@ module _ {S : Type 0} (g : Ghosts S) (day : Date) (old new : Held S) where
       → IsAfterAll g day connections old new → Logged connections → (served : List Connection) × (length served < count) × AreDone g (deeds_of_connections day served) old new × Logged served
   served_fewer count served connections Logged fewer counts after logged =
       (connections, subst (λ (n : ℕ). n < count) (sym counts.0) fewer, connections_are_done g day connections old new after, logged)
+
+-- each connection is served what its bytes ask
+pub all_own : {S : Type 0} (g : Ghosts S) (day : Date) (connections : List Connection) (old new : Held S) → IsAfterAll g day connections old new → AllByRecursion (IsServedItsOwn day) connections
+all_own g day [] old new after = tt
+all_own g day (listening.served bytes item answer whole ∷ more) old new after =
+    let it = after.1 in
+    ((it.0, it.1, subst (IsItemOf day it.0) it.3 it.2.asks), all_own g day more after.0 new after.2)
+all_own g day (listening.refused bytes refusal ∷ more) old new after = (tt, all_own g day more after.0 new after.2)
+all_own g day (listening.lost ∷ more) old new after = (tt, all_own g day more after.0 new after.2)
 
 -- the port can't be had
 pub unheard : {S : Type 0} (T : Type 0) (g : Ghosts S) (day : Date) (office : Held S) (fault : CommandFault) (port count : ℕ) (held : Said) → IsUnheard fault → port ≤ 65_535

@@ -1,6 +1,7 @@
 -- What is to be done with an open office, and what the input gives, and the output and the log get as it is done. `was` is the traffic before
 -- and `now` the traffic after; `old` is the office before and `new` the office after.
-use Rattle.std.specs.Prelude.{◌≡◌, ◌≢◌, ◌⊎◌, ◌<◌, ◌≤◌, ◌+◌, ◌∷◌, ◌++◌, [], ℕ, Bool, true, false, List, Option, None, Some, Result, Ok, Err, IfErr, IsErrAnd, codes, decimal, length, take}
+use Rattle.std.specs.Prelude.{◌≡◌, ◌≢◌, ◌⊎◌, ◌<◌, ◌≤◌, ◌+◌, ◌∷◌, ◌++◌, [], ℕ, Bool, true, false, List, Option, None, Some, Result, Ok, Err, ⊤, IfErr, IsErrAnd, codes, decimal, length, take}
+use Rattle.std.specs.List.{AllByRecursion}
 use Rattle.std.specs.Io.KnownBytes.{Appends, IsAtEnd}
 use denote.Ref.{Bor}
 use Rattle.jiff.specs.Types.{Date}
@@ -8,11 +9,13 @@ use Rattle.sqlite.specs.Held.{Held}
 use Rattle.sqlite.specs.Store.{Ghosts}
 use Rattle.office_core.specs.Policies.{PolicyValue}
 use Rattle.desk_routes.specs.declared.refusal.DeskRefusal.TheVariants.{Truncated}
+use Rattle.desk_hearing.specs.Asked.{HeardValue}
 use Rattle.desk_hearing.specs.Hearing.{Hears}
+use Rattle.desk_listening.specs.Listening as listening
 use Rattle.desk_listening.specs.Listening.{Connection}
 use Rattle.desk_listening.specs.Logging.{all_lines}
-use Rattle.desk_log.specs.Logging.{IsLogged}
-use Rattle.desk_serving.specs.Serving.{DeskRequest}
+use Rattle.desk_log.specs.Logging.{IsLogged, Log}
+use Rattle.desk_serving.specs.Serving.{DeskRequest, IsItemOf}
 use Rattle.http_desk.specs.Records.{BeginsWithNone}
 use Rattle.http_desk.specs.RecordLists.{AreRecords, answer_texts, max_records, request_texts}
 use Rattle.http_desk.specs.Replaying.{IsBegun, IsNoRecord}
@@ -160,6 +163,16 @@ pub record Listening : Type 0 where
   pub port : ℕ
   pub count : ℕ
 
+-- what was served over a connection is what its bytes ask, on that day
+abbrev pub IsServedItsOwn : Date → Connection → Type 0
+IsServedItsOwn day (listening.served bytes item answer whole) = (heard : HeardValue) × Hears bytes (Ok heard) × IsItemOf day heard item
+IsServedItsOwn day (listening.refused bytes refusal) = ⊤
+IsServedItsOwn day listening.lost = ⊤
+
+-- the log gets the lines of these connections, and of their end, where as many came as were asked for
+abbrev pub IsLogOf : {T E : Type 0} → Date → Result T E → ℕ → List Connection → Log → Log → Type 0
+IsLogOf day result count connections was now = AllByRecursion (IsServedItsOwn day) connections × IsLogged (all_lines result count connections) was now
+
 -- The port is told, and then so many connections are served on that day, one after the other, of which the log is told. Where the port can't be had, nothing
 -- is written; where it can't be told, a beginning of the line; and no connection is served. Where one can't be accepted, those before it were served.
 abbrev pub Listens : {T : Type 0} → Listening → Result T CommandFault → List Deed → Said → Said → Type 0
@@ -167,7 +180,7 @@ Listens desk result deeds was now =
     (IsErrAnd result IsUnheard × (deeds ≡ []) × (now ≡ was))
     ⊎ ((IsErrAnd result IsUnsaid × (deeds ≡ []) × IsCutShort (listening_text desk.port) was.output now.output × (now.log ≡ was.log))
     ⊎ ((served : List Connection) × IfErr result IsUnaccepted × AreServedFor result desk.count served × (deeds ≡ deeds_of_connections desk.day served)
-    × Appends was.output now.output (listening_text desk.port) × IsLogged (all_lines result desk.count served) was.log now.log))
+    × Appends was.output now.output (listening_text desk.port) × IsLogOf desk.day result desk.count served was.log now.log))
 
 -- ---- a task
 

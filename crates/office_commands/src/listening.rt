@@ -6,10 +6,9 @@ ghost use Rattle.std.specs.IoError.{error_kind};
 ghost use Rattle.streams.specs.Writing.{IsCutShort};
 ghost use Rattle.desk_listening.specs.Listening.{Connection};
 ghost use Rattle.desk_devices.specs.Devices.{device_of};
-ghost use Rattle.desk_listening.specs.Logging.{all_lines};
-ghost use Rattle.desk_log.specs.Logging.{IsLogged, log_of};
+ghost use Rattle.desk_log.specs.Logging.{log_of};
 ghost use Rattle.office_commands.specs.Deeds.{AreDone, Deed, deeds_of_connections};
-ghost use Rattle.office_commands.specs.Tasks.{AreServedFor, IsPortFor, Listens, listening_text};
+ghost use Rattle.office_commands.specs.Tasks.{AreServedFor, IsLogOf, IsPortFor, Listens, listening_text};
 ghost use Rattle.office_commands.specs.Texts.{IsUnaccepted, IsUnheard, IsUnsaid, device_failure};
 ghost use Rattle.office_commands.specs.Traffic.{said_of};
 ghost use Rattle.office_commands.specs.Works.{IsQuiet};
@@ -110,7 +109,7 @@ fn say_listening<O: Write>(
     }
 }
 
-/// Serves so many connections on that day, one after the other, and tells the log where requests fail.
+/// Serves that number of connections on that day, one after the other, and tells the log where requests fail.
 fn serve_sockets<S: Alter, E: Write>(
     alloc: Global,
     office: &mut Office<S>,
@@ -121,8 +120,7 @@ fn serve_sockets<S: Alter, E: Write>(
 ) -> Result<Done, CommandFault>
     ensures serves { (served : List Connection) × AreServedFor result count served
         × AreDone S.Store (deeds_of_connections day served) office.old office.new
-        × IsLogged (all_lines result count served)
-        (log_of E.Write log.old) (log_of E.Write log.new) }
+        × IsLogOf day result count served (log_of E.Write log.old) (log_of E.Write log.new) }
     ensures quiet { IfOk result IsQuiet }
     ensures unaccepted { IfErr result IsUnaccepted }
 {
@@ -134,7 +132,7 @@ fn serve_sockets<S: Alter, E: Write>(
     }
 }
 
-/// Says where the desk listens, and serves so many connections on that day, one after the other.
+/// Says where the desk listens, and serves that number of connections on that day, one after the other.
 fn serve_office<S: Alter, O: Write, E: Write>(
     alloc: Global,
     office: &mut Office<S>,
@@ -156,7 +154,7 @@ fn serve_office<S: Alter, O: Write, E: Write>(
     }
 }
 
-/// Takes the port, and then serves so many connections there on that day, and tells the log where
+/// Takes the port, and then serves that number of connections there on that day, and tells the log where
 /// requests fail. Where the port can't be had, nothing is said or served.
 pub fn serve_at<S: Alter, O: Write, E: Write>(
     rt: &HostRuntime,

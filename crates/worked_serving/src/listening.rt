@@ -8,7 +8,7 @@ use office_core::Day;
 use office_engine::Office;
 use sqlite::Alter;
 use std::alloc::Global;
-use std::io::ErrorKind;
+use std::io::{ErrorKind, Write};
 use std::net::TcpListener;
 use std::test::Fail;
 use std::time::Duration;
@@ -95,9 +95,6 @@ pub struct Queue {
     /// What ends the serving, where the listener doesn't wait for a connection.
     pub stops: Option<ErrorKind>,
 }
-
-/// A log in memory, which may fail.
-pub type Log = Counted<FailAt<Vec<u8>>>;
 
 /// One peer, which is answered.
 pub const ONE: Queue = Queue {
@@ -203,12 +200,12 @@ static QUEUES: [Queue; 15] = [
 ];
 
 /// Serves the peers of a queue. Fails where other connections are answered, or the serving ends otherwise.
-fn serve_queue<S: Alter>(
+fn serve_queue<S: Alter, E: Write>(
     alloc: Global,
     office: &mut Office<S>,
     sockets: &mut Sockets<'_>,
     queue: &Queue,
-    log: &mut Log,
+    log: &mut Counted<E>,
 ) -> Result<(), Fail> {
     let day = Day::read("2024-03-01").ok_or("day")?;
     let patience = Patience {
@@ -229,12 +226,12 @@ fn serve_queue<S: Alter>(
 
 /// Has the peers of a queue call, serves them, and hears what they got. Who was refused any wait isn't
 /// heard: what it sent was not read, so that its connection is reset.
-pub fn take_queue<S: Alter>(
+pub fn take_queue<S: Alter, E: Write>(
     rt: &HostRuntime,
     office: &mut Office<S>,
     listener: &TcpListener,
     queue: &Queue,
-    log: &mut Log,
+    log: &mut Counted<E>,
 ) -> Result<(), Fail> {
     listener.set_nonblocking(queue.stops.is_some())?;
     let streams = call_all(rt, queue.peers, listener.local_addr()?)?;
@@ -250,8 +247,7 @@ pub fn take_queue<S: Alter>(
 pub fn take_peers<S: Alter>(rt: &HostRuntime, office: &mut Office<S>) -> Result<(), Fail> {
     let listener = TcpListener::bind(rt, "127.0.0.1:0")?;
     for queue in &QUEUES {
-        let memory = Vec::new(rt.alloc());
-        let mut log = Counted::new(FailAt::new(memory, Portion::All, u64::MAX));
+        let mut log = Counted::new(Vec::new(rt.alloc()));
         take_queue(rt, office, &listener, queue, &mut log)?;
     }
     Ok(())

@@ -8,6 +8,8 @@ use crate::peers::{Peer, Then};
 use http_desk::{Counted, FailAt, Portion};
 use office_engine::Office;
 use sqlite::Alter;
+use std::io;
+use std::io::{Error, ErrorKind, Write};
 use std::net::TcpListener;
 use std::test::Fail;
 
@@ -88,7 +90,38 @@ const LINES: &[u8] = b"depot: connection 2: a reading was answered Store, 1 in a
     depot: connection 21: a change was answered Store, 1 in a row\n\
     depot: serving ended after the connections that were asked for: 21\n";
 
-/// A log that takes so many bytes at a call, fails after so many calls, and has this many bytes of the
+/// The same without the third line.
+const LINES_BUT_ONE: &[u8] = b"depot: connection 2: a reading was answered Store, 1 in a row\n\
+    depot: connection 3: a change was answered Store, 1 in a row\n\
+    depot: connection 18: a change was answered Store, 10 in a row\n\
+    depot: connection 20: a change was accepted again, after 10 in a row, the last answered Store\n\
+    depot: connection 21: a change was answered Store, 1 in a row\n\
+    depot: serving ended after the connections that were asked for: 21\n";
+
+/// A log in memory. The call after those that are left fails, and no other.
+#[derive(Drop)]
+struct FailsOnce {
+    memory: Vec<u8>,
+    calls_left: u64,
+    has_failed: bool,
+}
+
+impl Write for FailsOnce {
+    fn write(&mut self, buf: &[u8]) -> io::Result<usize> {
+        if self.calls_left == 0 && !self.has_failed {
+            self.has_failed = true;
+            return Err(Error::from(ErrorKind::StorageFull));
+        }
+        self.calls_left = self.calls_left.saturating_sub(1);
+        self.memory.write(buf)
+    }
+
+    fn flush(&mut self) -> io::Result<()> {
+        Ok(())
+    }
+}
+
+/// A log that takes a portion at a call, fails after this number of calls, and has this many bytes of the
 /// lines then.
 struct LogCase {
     portion: Portion,
@@ -145,6 +178,21 @@ fn take_log<S: Alter>(
     compare(rt.alloc(), &log.device().memory, wanted)
 }
 
+/// Serves the peers with a log that fails to take the third line, and takes those after it.
+fn take_mending_log<S: Alter>(
+    rt: &HostRuntime,
+    office: &mut Office<S>,
+    listener: &TcpListener,
+) -> Result<(), Fail> {
+    let mut log = Counted::new(FailsOnce {
+        memory: Vec::new(rt.alloc()),
+        calls_left: 2,
+        has_failed: false,
+    });
+    take_queue(rt, office, listener, &TROUBLED, &mut log)?;
+    compare(rt.alloc(), &log.device().memory, LINES_BUT_ONE)
+}
+
 /// The peers of an office that fails for one of them, on 2024-03-01.
 pub fn take_troubles<S: Alter + Drop>(
     rt: &HostRuntime,
@@ -155,5 +203,6 @@ pub fn take_troubles<S: Alter + Drop>(
     for case in &LOGS {
         take_log(rt, &mut office, &listener, case)?;
     }
+    take_mending_log(rt, &mut office, &listener)?;
     altered(office, MENDS)
 }

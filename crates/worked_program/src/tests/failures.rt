@@ -84,7 +84,7 @@ static FAILURES: [(&str, u64, Taking, Taking); 14] = [
         Taking::All,
         Taking::Fails,
     ),
-    // Nor does serving end where a line of it can't be written.
+    // A `serve` whose last line can't be written ends well all the same.
     (
         "serve,--port,0,--count,1,:memory:,2024-03-01|~maps~|Accepted|~denied~#|",
         u64::MAX,

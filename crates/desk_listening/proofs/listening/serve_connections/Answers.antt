@@ -1,7 +1,6 @@
 use mir.Val.{bool_byte}
-use Rattle.std.proofs.Common.{◌≡◌, ◌≤◌, ◌+◌, ◌-◌, ◌^◌, ◌∷◌, ◌++◌, [], ◌∙◌, ap, subst, sym, refl, arith}
+use Rattle.std.proofs.Common.{◌≡◌, ◌+◌, ◌∷◌, ◌++◌, [], ◌∙◌, ap, subst, sym, refl, arith}
 use Rattle.std.proofs.lemmas.List.{length_push}
-use Rattle.desk_devices.specs.Devices.{failures_of}
 use Rattle.desk_log.specs.Lines.{end_line}
 use Rattle.desk_log.specs.Logging.{log_of}
 use Rattle.desk_log.specs.declared.watch.Watch.{Watch}
@@ -28,7 +27,6 @@ loop-taken-preserved g c =
     let one = c.in-Ok.ensures.served in
     let added : c.from-answered.result ≡ bool_byte c.in-Ok.next.answered = c.from-answered.ensures in
     let treats = Treats (record { peer = g.P.Peer; reads = g.P.Reader.Read; writes = g.P.Writer.Write }) c.args.patience.now in
-    let fits : failures_of c.args.log.now ≤ 2 ^ 64 - 1 = omega arith in
     record {
       came = (
         came.0 ++ one.0 ∷ [],
@@ -37,7 +35,7 @@ loop-taken-preserved g c =
         one_more g.S.Store c.args.day came.0 one.0 c.args.office.now c.loop-taken.office c.serve_next.new.office came.3 one.3,
         takes_more g.L.Listener treats came.0 one.0 c.args.listener.now c.loop-taken.listener c.serve_next.new.listener came.4 one.4,
         watch_more came.0 one.0 c.loop-taken.watch c.tell-watch.result c.in-Ok.next.note came.5 one.2 c.tell-watch.ensures.watch,
-        lines_more came.0 one.0 c.loop-taken.watch c.in-Ok.next.note (log_of g.E.Write c.args.log.now) (log_of g.E.Write c.loop-taken.log) (log_of g.E.Write c.tell-watch.new.log) came.5 one.2 fits came.6 c.tell-watch.ensures.told,
+        lines_more came.0 one.0 c.loop-taken.watch c.in-Ok.next.note (log_of g.E.Write c.args.log.now) (log_of g.E.Write c.loop-taken.log) (log_of g.E.Write c.tell-watch.new.log) came.5 one.2 came.6 c.tell-watch.ensures.told,
       );
       few = omega (arith, c.loop-taken.invariant.few, added, small c.in-Ok.next.answered);
       counted = c.tell-watch.ensures.counted;
@@ -62,7 +60,6 @@ returns-in-Err-clause-served g c =
 pub returns-clause-served : goal.returns-clause-served
 returns-clause-served g c =
     let came = c.loop-taken.invariant.came in
-    let fits : failures_of c.args.log.now ≤ 2 ^ 64 - 1 = omega arith in
     let all : c.loop-taken.taken ≡ c.args.count = omega (arith, c.loop-taken-test.false, c.loop-taken.auto.taken-end) in (
       came.0,
       c.loop-taken.listener,
@@ -71,5 +68,5 @@ returns-clause-served g c =
       is_run g.S.Store c.args.day came.0 c.args.office.now c.loop-taken.office came.3,
       came.4,
       refl,
-      more_lines (lines_of came.0) (end_line c.args.count ∷ []) (log_of g.E.Write c.args.log.now) (log_of g.E.Write c.loop-taken.log) (log_of g.E.Write c.tell_end.new.log) fits came.6 c.tell_end.ensures,
+      more_lines (lines_of came.0) (end_line c.args.count ∷ []) (log_of g.E.Write c.args.log.now) (log_of g.E.Write c.loop-taken.log) (log_of g.E.Write c.tell_end.new.log) came.6 c.tell_end.ensures,
     )

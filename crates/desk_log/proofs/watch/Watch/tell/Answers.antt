@@ -1,6 +1,3 @@
-use Rattle.std.proofs.Common.{subst, sym, ◌∙◌}
-use Rattle.desk_log.specs.Watching.{IsCounted}
-use Rattle.desk_log.specs.declared.watch.Watch.{Watch}
 use Rattle.desk_log.proofs.WatchingLemmas.{still_counted}
 use Rattle.desk_log.proofs.watch.Watch.tell.Goals as goal
 
