@@ -1,0 +1,6 @@
+pub mod Values
+pub mod Asking
+pub mod Refusals
+pub mod Answers
+pub mod Changes
+pub mod Serving

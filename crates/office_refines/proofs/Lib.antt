@@ -1,0 +1,4 @@
+pub mod ComesTo
+pub mod Readings
+pub mod Refusals
+pub mod Answers

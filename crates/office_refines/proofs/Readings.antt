@@ -1,0 +1,187 @@
+-- What the rows of a legal history come to, forwards: since they are in their ranges, each is read, and what is read is the history's.
+use Rattle.std.proofs.Common.{◌≡◌, ℕ, ◌+◌, ◌<◌, ◌≤◌, ℤ, pos, Bool, true, false, List, [], ◌∷◌, length, Option, Some, None, ◌≤ℤ◌, ◌&&◌, IfSome, filter, find, map, slice_get, option_map, refl, sym, ap, subst, ◌∙◌, arith, if◌then◌else◌}
+use Rattle.std.specs.List.{AllByRecursion}
+use Rattle.std.specs.Option.{option_map_or}
+use Rattle.std.proofs.lemmas.Bool.{and_parts}
+use Rattle.std.proofs.lemmas.Option.{same_Some}
+use Rattle.std.proofs.lemmas.Slice.Eq.{bytes_eq-Decides}
+use Rattle.jiff.specs.Types.{Date}
+use Rattle.jiff.specs.Words.{epoch_day}
+use Rattle.office_core.specs.Actions.{action_text}
+use Rattle.jiff_core.proofs.SignedLemmas.{signed_arith}
+use Rattle.office_core.specs.Days.{IsDayNumber}
+use Rattle.office_core.specs.FirstOf.{◌>>=◌}
+use Rattle.office_core.specs.Names.{IsName}
+use Rattle.office_core.specs.Policies.{role_of}
+use Rattle.office_core.specs.Verdicts.{denial_verdict}
+use Rattle.office_core.specs.declared.action.Action.{Action}
+use Rattle.office_core.specs.declared.action.Action.TheVariants as acts
+use Rattle.office_core.specs.declared.answer.LiveHold.{LiveHold}
+use Rattle.office_core.specs.declared.rule.Decision.{Decision}
+use Rattle.office_core.proofs.OptionLemmas.{find_some}
+use Rattle.office_rows.specs.Matching.{matching_rule}
+use Rattle.office_rows.specs.Rows as rows
+use Rattle.office_rows.specs.Rows.{CallerRow, HoldRow, OfficeRow, RuleRow, Tables, caller_named, due_numbered, is_caller, this_version}
+use Rattle.office_history.specs.Histories.{History, Deposit, Hold, Target, OnDeposit, OnCollection, OnClass, covers, deposit_numbered, destruction_day, due, hold_numbered, holds, is_live, least_hold, live_holds, policy, reaches}
+use Rattle.office_history.specs.Lists.{numbers}
+use Rattle.office_history.specs.Answers.{live_hold, scope_of}
+use Rattle.office_history.specs.Pictures.{deposit_row, due_number, due_row, held_class, held_collection, held_deposit, hold_row, picture}
+use Rattle.office_history.specs.Refusals.{deciding_rule, deciding_rule_at, denial, facts_of, refusal_in}
+use Rattle.office_history.specs.RowRanges.{AreInRange, AreNumbered, IsCallerRow, IsDepositRow, IsDueRow, IsHoldRow, IsRuleRow}
+use Rattle.office_history.specs.Runs.{IsLegal}
+use Rattle.office_history.proofs.LegalReadings.{legal_policy}
+use Rattle.office_by_rows.specs.Values.{due_of_number, if_any}
+use Rattle.office_by_rows.specs.Asking.{Days, Visit, are_released_on_days, counted_hold_in, days_of, decision_by, decision_for, denial_in, hold_by, is_over, or_empty, role_in}
+use Rattle.office_by_rows.specs.Refusals.{disposal_facts}
+use Rattle.office_by_rows.proofs.Days.{due_back}
+use Rattle.office_asking.specs.ByRows.{IsHoldIn}
+use Rattle.office_asking.specs.Holds.{IsHoldOf, scope_in}
+use Rattle.office_asking.specs.Asking.{place_and_effect, rule_and_effect}
+use Rattle.office_refines.proofs.ComesTo.{counted_is, days_told, decision_is, facts_told, hold_told, least_is, on_days, role_is}
+use Rattle.office_asking.proofs.DepositTold.{deposit_told}
+use Rattle.office_asking.proofs.DuesTold.{due_told}
+use Rattle.office_asking.proofs.HoldTold.{hold_rows_are, live_told}
+use Rattle.office_asking.proofs.MatchTold.{rule_told}
+use Rattle.office_asking.proofs.NumberedRows.{found_at, same_count}
+use Rattle.office_asking.proofs.PolicyTold.{role_told}
+
+-- what is so of all is so of what is found
+pub found_all : {A : Type 0} (P : A → Type 0) (p : A → Bool) (xs : List A) (x : A) → AllByRecursion P xs → find p xs ≡ Some x → P x
+found_all P p [] x all e = absurd cc
+found_all {A = A} P p (y ∷ xs) x all e = by (p y) e (λ rest. found_all P p xs x all.1 rest)
+  where
+    by : (b : Bool) → (if b then Some y else find p xs) ≡ Some x → (find p xs ≡ Some x → P x) → P x
+    by true e behind = subst P (same_Some _ _ e) all.0
+    by false e behind = behind e
+
+-- the number of a row that is found
+numbered_at : {A : Type 0} (number : A → ℤ) (p : A → Bool) (n : ℕ) (xs : List A) (x : A) → AreNumbered number n xs → find p xs ≡ Some x → (m : ℕ) × (number x ≡ pos m) × (n ≤ m) × (m < n + length xs)
+numbered_at number p n [] x all e = absurd cc
+numbered_at number p n (y ∷ xs) x all e = by (p y) e (λ rest. numbered_at number p (n + 1) xs x all.1 rest)
+  where
+    by : (b : Bool) → (if b then Some y else find p xs) ≡ Some x → (find p xs ≡ Some x → (m : ℕ) × (number x ≡ pos m) × (n + 1 ≤ m) × (m < n + 1 + length xs)) → (m : ℕ) × (number x ≡ pos m) × (n ≤ m) × (m < n + length (y ∷ xs))
+    by true e behind = (n, ap number (sym (same_Some _ _ e)) ∙ all.0, omega arith, omega arith)
+    by false e behind = let it = behind e in (it.0, it.1, omega (arith, it.2), omega (arith, it.3))
+
+-- the first that is kept passes
+first_kept : {A : Type 0} (p : A → Bool) (xs : List A) (x : A) (more : List A) → filter p xs ≡ x ∷ more → p x ≡ true
+first_kept p [] x more e = absurd cc
+first_kept {A = A} p (y ∷ xs) x more e = by (p y) refl e (λ rest. first_kept p xs x more rest)
+  where
+    by : (b : Bool) → p y ≡ b → (if b then y ∷ filter p xs else filter p xs) ≡ x ∷ more → (filter p xs ≡ x ∷ more → p x ≡ true) → p x ≡ true
+    by true is e behind = let same : y ≡ x = cc in subst (λ z. p z ≡ true) same is
+    by false is e behind = behind e
+
+module _ (h : History) (legal : IsLegal h) (ranged : AreInRange this_version (picture this_version h)) where
+  abbrev t : Tables
+  t = picture this_version h
+
+  pub role_exact : (caller : List ℕ) → role_in t caller ≡ Some (role_of (policy h) caller)
+  role_exact caller = role_is caller (option_map (λ (c : CallerRow). c.role) (caller_named caller t.callers)) (named (caller_named caller t.callers) refl) ∙ ap Some (role_told caller (policy h).callers)
+    where
+      named : (o : Option CallerRow) → caller_named caller t.callers ≡ o → IfSome (option_map (λ (c : CallerRow). c.role) o) (λ role. IsName caller × IsName role)
+      named None is = tt
+      named (Some row) is =
+          let it = found_all IsCallerRow (is_caller caller) t.callers row ranged.callers is in
+          (subst IsName ((bytes_eq-Decides row.name caller).0 (find_some (is_caller caller) t.callers row is)) it.name, it.role)
+
+  pub decision_exact : (day : Date) (caller : List ℕ) (action : Action) (collection class : Option (List ℕ)) → decision_for t (role_of (policy h) caller) day action collection class ≡ Some (deciding_rule h day caller action collection class)
+  decision_exact day caller action collection class =
+      by (matching_rule (role_of (policy h) caller) (action_text action) (or_empty collection) (or_empty class) (epoch_day day) t.rules) refl (deciding_rule h day caller action collection class)
+      (rule_told (policy h) (record { role = role_of (policy h) caller; action = action; collection = collection; class = class; day = day }) (legal_policy h legal))
+    where
+      by : (o : Option RuleRow) → matching_rule (role_of (policy h) caller) (action_text action) (or_empty collection) (or_empty class) (epoch_day day) t.rules ≡ o → (d : Option Decision) → option_map place_and_effect o ≡ option_map rule_and_effect d → if_any decision_by o ≡ Some d
+      by None is None told = refl
+      by None is (Some d) told = absurd cc
+      by (Some row) is None told = absurd cc
+      by (Some row) is (Some d) told =
+          let both = same_Some _ _ told in
+          let place = numbered_at (λ (row : RuleRow). row.place) _ 1 t.rules row ranged.places is in
+          let at : d.rule ≡ place.0 = same_count d.rule place.0 (sym (ap (λ p. p.0) both) ∙ place.1) in
+          let in_range : IsRuleRow row = found_all IsRuleRow _ t.rules row ranged.rules is in
+          ap (option_map Some) (decision_is row d (record { rule = sym (ap (λ p. p.0) both); from_one = omega (arith, at, place.2); among_few = omega (arith, at, place.3, ranged.few_rules); effect = sym (ap (λ p. p.1) both); in_range = in_range }))
+
+  pub denial_exact : (visit : Visit) (action : Action) (collection class : Option (List ℕ)) → denial_in t visit action collection class ≡ Some (denial h visit.day visit.caller action collection class)
+  denial_exact visit action collection class =
+      (λ i. role_exact visit.caller i >>= λ role. decision_for t role visit.day action collection class >>= λ decision. Some (refusal_in (denial_verdict decision)))
+      ∙ (λ i. decision_exact visit.day visit.caller action collection class i >>= λ decision. Some (refusal_in (denial_verdict decision)))
+
+  -- ---- a hold that is there
+
+  pub hold_at : (k : ℕ) → rows.hold_numbered (pos k) t.holds ≡ option_map (hold_row h k) (hold_numbered h k)
+  hold_at k = ap (rows.hold_numbered (pos k)) (hold_rows_are h) ∙ found_at (hold_row h) (λ r. r.number) (λ m x. refl) (holds h) k
+
+  pub hold_ranged : (k : ℕ) (found : Date × Hold) → hold_numbered h k ≡ Some found → IsHoldRow t (hold_row h k found)
+  hold_ranged k found there = found_all (IsHoldRow t) (rows.is_hold (pos k)) t.holds (hold_row h k found) ranged.holds (hold_at k ∙ ap (option_map (hold_row h k)) there)
+
+  scope_is : (target : Target) → Some (scope_of target) ≡ scope_in (held_deposit target) (held_collection target) (held_class target)
+  scope_is (OnDeposit m) = refl
+  scope_is (OnCollection name) = refl
+  scope_is (OnClass name) = refl
+
+  hold_is : (k : ℕ) (found : Date × Hold) → hold_numbered h k ≡ Some found → IsHoldOf (hold_row h k found) (live_hold k found)
+  hold_is k found there = let it = hold_ranged k found there in record { number = refl; matter = refl; on = scope_is found.1.target; placed = refl; is_day = it.placed; is_matter = it.matter }
+
+  pub hold_told_exact : (k : ℕ) (found : Date × Hold) → hold_numbered h k ≡ Some found → hold_by (hold_row h k found) ≡ Some (live_hold k found)
+  hold_told_exact k found there = hold_told (hold_row h k found) (live_hold k found) (hold_is k found there)
+
+  -- ---- a deposit that is there
+
+  abbrev first_limit : List OfficeRow → ℤ
+  first_limit [] = pos 0
+  first_limit (row ∷ rows) = row.max_holds
+
+  module _ (n : ℕ) (found : Date × Deposit) (there : deposit_numbered h n ≡ Some found) where
+    pub row_there : rows.deposit_numbered (pos n) t.deposits ≡ Some (deposit_row h n found)
+    row_there = deposit_told h n ∙ ap (option_map (deposit_row h n)) there
+
+    abbrev days : Days
+    days = record { closed = found.1.closed; deposited = found.0; gone = destruction_day h n }
+
+    pub days_exact : days_of (deposit_row h n found) ≡ Some days
+    days_exact =
+        let it = found_all (IsDepositRow t) (rows.is_deposit (pos n)) t.deposits (deposit_row h n found) ranged.deposits row_there in
+        days_told (deposit_row h n found) (record { closed = found.1.closed; deposited = found.0; gone = destruction_day h n }) (record { closed = refl; deposited = refl; in_turn = it.in_turn; gone = refl; are_days = (it.closed, it.deposited, it.gone) })
+
+    pub kept_there : due_numbered (pos n) t.dues ≡ Some (due_row h n found)
+    kept_there = due_told h n ∙ ap (option_map (due_row h n)) there
+
+    kept_ranged : IsDueRow ranged.office_row (due_row h n found)
+    kept_ranged = found_all (IsDueRow ranged.office_row) (rows.is_due_of (pos n)) t.dues (due_row h n found) ranged.dues kept_there
+
+    pub due_exact : due_of_number (due_number (due h found.1)) ≡ Some (due h found.1)
+    due_exact = due_back (due_number (due h found.1)) (due h found.1) refl kept_ranged.due
+
+    -- a live hold over it has a row, which tells it
+    hold_there : (k : ℕ) → covers h k n found.1 ≡ true → (told : LiveHold) × IsHoldIn t k told
+    hold_there k over = by (hold_numbered h k) refl over
+      where
+        by : (o : Option (Date × Hold)) → hold_numbered h k ≡ o → option_map_or (λ hold. reaches hold.1.target n found.1) o false ≡ true → (told : LiveHold) × IsHoldIn t k told
+        by None is e = absurd cc
+        by (Some hold) is e =
+            (live_hold k hold, record { row = hold_row h k hold; there = hold_at k ∙ ap (option_map (hold_row h k)) is; is = hold_is k hold is })
+
+    released : (hs : List HoldRow) → AllByRecursion (IsHoldRow t) hs → AllByRecursion (λ (r : HoldRow). is_over n found.1.collection found.1.class r ≡ true → IfSome r.released IsDayNumber) hs
+    released [] all = tt
+    released (r ∷ hs) all = (λ _. all.0.released, released hs all.1)
+
+    pub released_days : are_released_on_days n found.1.collection found.1.class t ≡ true
+    released_days = on_days n found.1.collection found.1.class t.holds (released t.holds ranged.holds)
+
+    pub hold_exact : counted_hold_in t (pos (length (live_holds h n found.1))) n found.1.collection found.1.class ≡ Some (least_hold h n found.1)
+    hold_exact = by (live_holds h n found.1) refl
+      where
+        by : (ks : List ℕ) → live_holds h n found.1 ≡ ks → counted_hold_in t (pos (length ks)) n found.1.collection found.1.class ≡ Some (slice_get ks 0)
+        by [] is = refl
+        by (k ∷ ks) is =
+            let over = (and_parts (is_live h k) (covers h k n found.1) (first_kept (λ m. is_live h m && covers h m n found.1) (numbers (length (holds h))) k ks is)).1 in
+            let told = hold_there k over in
+            let most : pos (length (k ∷ ks)) ≤ℤ pos h.max_holds = subst (λ m. pos (length (k ∷ ks)) ≤ℤ m) (sym (ap first_limit ranged.one_office)) (subst (λ xs. pos (length xs) ≤ℤ ranged.office_row.max_holds) is kept_ranged.holds.1) in
+            counted_is n found.1.collection found.1.class t (pos (length (k ∷ ks))) k
+            (record { limits = record { max_deposits = pos h.max_deposits; max_holds = pos h.max_holds }; are = refl; is = (omega (arith, signed_arith), most) })
+            (least_is n found.1.collection found.1.class t k (map pos ks) told.0 (released t.holds ranged.holds) (live_told h n found.1 this_version ∙ ap (map pos) is) told.1)
+
+    pub facts_exact : (visit : Visit) → disposal_facts t (role_of (policy h) visit.caller) visit.day n (deposit_row h n found) ≡ Some (facts_of h visit.day visit.caller acts.Dispose n found.1)
+    facts_exact visit =
+        facts_told t (role_of (policy h) visit.caller) visit.day n (deposit_row h n found) days (deciding_rule_at h visit.day visit.caller acts.Dispose found.1) (due_row h n found) (due h found.1) (least_hold h n found.1)
+        days_exact (decision_exact visit.day visit.caller acts.Dispose (Some found.1.collection) (Some found.1.class)) kept_there due_exact hold_exact
