@@ -18,7 +18,7 @@ if [ -z "${HAS_MOUNTS-}" ]; then
     exec env HAS_MOUNTS=yes unshare --mount "${user[@]}" "$0" "$program"
 fi
 room=$(mktemp -d)
-trap 'kill $(jobs -p) 2>/dev/null || true; cd /; umount "$room/disk" "$room/other"; rm -rf "$room"' EXIT
+trap 'kill $(jobs -p) 2>/dev/null || true; wait; cd /; umount "$room/disk" "$room/other"; rm -rf "$room"' EXIT
 mkdir "$room/disk" "$room/other"
 mount -t tmpfs -o size=6m office "$room/disk"
 mount -t tmpfs -o size=1m backups "$room/other"
