@@ -29,9 +29,9 @@ use Rattle.sql_meaning.proofs.Changing.{revises}
 use Rattle.office_tables.specs.Schema.{office_schema, class_table, class_tree}
 use Rattle.office_rows.specs.Rows.{Tables, ClassRow, is_class, class_named, with_years, with_new_class, with_class}
 use Rattle.office_tables.specs.Tables.{IsOffice, Becomes, tables_of, class_in}
-use Rattle.office_tables.specs.Contents.{KeepsOnce}
+use Rattle.office_tables.specs.Contents.{HasSameContents}
 use Rattle.office_tables.proofs.TablePlaces.{of_classes}
-use Rattle.office_tables.proofs.Frames.{idle, becomes, leaves_once}
+use Rattle.office_tables.proofs.Frames.{idle, becomes, same_contents}
 use Rattle.office_tables.proofs.ClassTexts.{years_text, revise_text, revised_columns, add_class_text, class_meanings}
 use Rattle.office_tables.proofs.Columns.{all_given}
 use Rattle.office_tables.proofs.RowsRead.{finds_named}
@@ -74,9 +74,9 @@ adds_class old new name years count office h =
     let end = appended db class_table source (Text name ∷ Int years ∷ []) (of_classes office.whole.shaped) cast_is in
     becomes old new edit count edit.news office (refl, (refl, tt)) done _ (ap (λ rows. record (tables_of old.now) { classes = rows }) (ap (map class_in) end ∙ map-append class_in (db class_tree) _))
 
-pub adds_class_once : (old new : State) (name : List ℕ) (years : ℤ) (count : ℕ) → IsOffice old.now → Executes add_class_text (Text name ∷ Int years ∷ []) old new (Ok count) → KeepsOnce old.now → KeepsOnce new.now
-adds_class_once old new name years count office h =
-    leaves_once old new _ count _ (inserts add_class_text (Text name ∷ Int years ∷ []) old new office_schema office.whole.schema_is 3 class_table refl idle (all_given 2) 3 class_meanings.add_class_means refl refl count h)
+pub adds_class_same : (old new : State) (name : List ℕ) (years : ℤ) (count : ℕ) → IsOffice old.now → Executes add_class_text (Text name ∷ Int years ∷ []) old new (Ok count) → HasSameContents old.now new.now
+adds_class_same old new name years count office h =
+    same_contents old new _ count _ (inserts add_class_text (Text name ∷ Int years ∷ []) old new office_schema office.whole.schema_is 3 class_table refl idle (all_given 2) 3 class_meanings.add_class_means refl refl count h) refl refl
 
 -- ---- other years
 
@@ -102,9 +102,9 @@ revises_class old new name years count office h =
       done.change.counted ∙ counted db class_table done.answer keep (shown_of (Text name ∷ Int years ∷ []) revised_columns) class_in (is_class name) (λ r. refl) (few old.now office name) done.shows,
     )
 
-pub revises_class_once : (old new : State) (name : List ℕ) (years : ℤ) (count : ℕ) → IsOffice old.now → Executes revise_text (Text name ∷ Int years ∷ []) old new (Ok count) → KeepsOnce old.now → KeepsOnce new.now
-revises_class_once old new name years count office h =
-    leaves_once old new _ count _ (updates revise_text (Text name ∷ Int years ∷ []) old new office_schema office.whole.schema_is 3 class_table refl idle (as_program (scan class_tree (by_text 1) revised_columns [])) class_meanings.revise_means count h).2
+pub revises_class_same : (old new : State) (name : List ℕ) (years : ℤ) (count : ℕ) → IsOffice old.now → Executes revise_text (Text name ∷ Int years ∷ []) old new (Ok count) → HasSameContents old.now new.now
+revises_class_same old new name years count office h =
+    same_contents old new _ count _ (updates revise_text (Text name ∷ Int years ∷ []) old new office_schema office.whole.schema_is 3 class_table refl idle (as_program (scan class_tree (by_text 1) revised_columns [])) class_meanings.revise_means count h).2 refl refl
 
 -- where the UPDATE counted none, the INSERT is left to do; where it counted one, nothing is
 pub puts_class : (t : Tables) (name : List ℕ) (years : ℤ) (mid : Database) (count : ℕ) → Becomes mid (with_years name years t) → count ≡ (if list_any (is_class name) t.classes then 1 else 0)

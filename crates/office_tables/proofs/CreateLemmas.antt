@@ -19,7 +19,7 @@ use Rattle.std.specs.List.{IsDistinct}
 use Rattle.sql_meaning.specs.Columns.{int_at}
 use Rattle.office_tables.specs.Contents.{AreKeptOnce, KeepsOnce}
 use Rattle.office_tables.specs.Tables.{Becomes, tables_of, content_in, office_in}
-use Rattle.office_tables.proofs.Frames.{idle, becomes_shaped, leaves_once}
+use Rattle.office_tables.proofs.Frames.{idle, becomes_shaped, same_contents, kept_once}
 use Rattle.office_tables.proofs.CreateTexts.{start_text, start_terms, start_means}
 
 pub starts_office : (old new : State) (deposits holds : ℤ) (count : ℕ) → IsBlank office_schema old.now → Executes start_text (Int deposits ∷ Int holds ∷ []) old new (Ok count)
@@ -49,7 +49,7 @@ blank_once db blank =
 
 pub starts_once : (old new : State) (deposits holds : ℤ) (count : ℕ) → IsBlank office_schema old.now → Executes start_text (Int deposits ∷ Int holds ∷ []) old new (Ok count) → KeepsOnce new.now
 starts_once old new deposits holds count blank h =
-    leaves_once old new _ count _ (inserts start_text (Int deposits ∷ Int holds ∷ []) old new office_schema blank.schema_is 0 office_table refl idle start_terms 5 start_means refl refl count h) (blank_once old.now blank)
+    kept_once (same_contents old new _ count _ (inserts start_text (Int deposits ∷ Int holds ∷ []) old new office_schema blank.schema_is 0 office_table refl idle start_terms 5 start_means refl refl count h) refl refl) (blank_once old.now blank)
 
 -- what a crash leaves of an office that was made and committed
 pub leaves_made : (end : State) (tables : Tables) → ((db : Trees) → IsTrue end.is_open → end.may_leave db → db ≡ end.committed.trees) → IsMade end tables

@@ -16,7 +16,7 @@ use Rattle.office_tables.specs.Schema.{office_schema, all_tables, emptied_trees,
 use Rattle.office_rows.specs.Rows.{Tables}
 use Rattle.sql_meaning.specs.Columns.{int_at}
 use Rattle.office_tables.specs.Tables.{IsOffice, Becomes, tables_of, contents_of, content_in}
-use Rattle.office_tables.specs.Contents.{references_of, AreKeptOnce, KeepsOnce}
+use Rattle.office_tables.specs.Contents.{references_of, AreKeptOnce, KeepsOnce, HasSameContents}
 use Rattle.office_tables.proofs.TablePlaces.{of_office, of_callers, of_old_rules, of_classes, of_collections, of_deposits, of_files, of_old_holds, of_contents, of_holds, of_rules}
 
 -- no reference of the schema acts
@@ -73,6 +73,18 @@ module _ (old new : State) (edit : Edit) (count : ℕ) (written : List Row) (cha
   pub references_after : references_of new.now ≡ references_of (with_edit edit old.now)
   references_after = ap (map (λ (row : Row). int_at row 3)) file_rows_after
 
-  -- contents that are kept once stay so, where the change is of another table
-  pub leaves_once : KeepsOnce (with_edit edit old.now) → KeepsOnce new.now
-  leaves_once once = subst₂ AreKeptOnce (sym references_after) (sym contents_after) once
+  -- they are the same where the change is of another table
+  pub same_contents : contents_of (with_edit edit old.now) ≡ contents_of old.now → references_of (with_edit edit old.now) ≡ references_of old.now → HasSameContents old.now new.now
+  same_contents contents references = record { contents = contents_after ∙ contents; references = references_after ∙ references }
+
+-- so contents that were kept once still are
+pub kept_once : {old new : Database} → HasSameContents old new → KeepsOnce old → KeepsOnce new
+kept_once same once = subst₂ AreKeptOnce (sym same.references) (sym same.contents) once
+
+-- where no row changed
+pub same_as : {old new : Database} → new ≡ old → HasSameContents old new
+same_as same = record { contents = ap contents_of same; references = ap references_of same }
+
+-- one after another
+pub same_after : {old mid new : Database} → HasSameContents old mid → HasSameContents mid new → HasSameContents old new
+same_after first second = record { contents = second.contents ∙ first.contents; references = second.references ∙ first.references }

@@ -29,7 +29,7 @@ pub mod FileLemmas
 pub mod OpenLemmas
 pub mod OrderLemmas
 pub mod HeldLemmas
-pub mod OnceLemmas
+pub mod SameContents
 pub mod DueTexts
 pub mod DueLemmas
 pub mod MatchTexts

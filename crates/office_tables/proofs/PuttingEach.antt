@@ -7,9 +7,10 @@ use Rattle.sqlite.specs.State.{HasCleanDisk}
 use Rattle.sqlite.specs.Held.{Held, state}
 use Rattle.office_rows.specs.Rows.{Tables}
 use Rattle.office_tables.specs.Calls.{GoesOnInside, GoesOnInTurn, Writes}
-use Rattle.office_tables.specs.Contents.{LeavesOnce}
+use Rattle.office_tables.specs.Contents.{LeavesContents}
 use Rattle.office_tables.specs.Tables.{IsOffice, tables_of}
 use Rattle.office_tables.specs.declared.fault.TableFault.{TableFault}
+use Rattle.office_tables.proofs.Frames.{same_after}
 use Rattle.office_tables.proofs.InTurn.{clean_first, turn_next}
 use Rattle.office_tables.proofs.PolicyLemmas.{next_added}
 
@@ -17,17 +18,17 @@ use Rattle.office_tables.proofs.PolicyLemmas.{next_added}
 pub record ArePut {S X : Type 0} (g : Ghosts S) (put_each : List X → Tables → Tables) (all rest : List X) (old now : MutBor (Held S)) : Type 0 where
   pub inside : GoesOnInTurn {T = Unit {0}} g old now (Ok tt)
   pub becomes : HasCleanDisk (state g now.now) → IsOffice (state g old.now).now → IsOffice (state g now.now).now × (put_each rest (tables_of (state g now.now).now) ≡ put_each all (tables_of (state g old.now).now))
-  pub once : LeavesOnce {T = Unit {0}} {E = TableFault} g old.now now.now (Ok tt)
+  pub contents : LeavesContents {T = Unit {0}} {E = TableFault} g old.now now.now (Ok tt)
 
 module _ {X : Type 0} (put : X → Tables → Tables) (put_each : List X → Tables → Tables) (in_turn : (x : X) (xs : List X) (t : Tables) → put_each (x ∷ xs) t ≡ put_each xs (put x t)) where
   pub puts_next : {S : Type 0} {g : Ghosts S} {old now new : MutBor (Held S)} {count : ℕ} (all : List X) (i : ℕ) (x : X) → x ≡ get_or all i x → i < length all → ArePut g put_each all (drop i all) old now
-      → GoesOnInside g now new (Ok count) → Writes {E = TableFault} g now.now new.now (Ok count) (put x) → LeavesOnce {E = TableFault} g now.now new.now (Ok count) → ArePut g put_each all (drop (i + 1) all) old new
-  puts_next {g = g} {old} {now} {new} all i x is low before inside writes once = record {
+      → GoesOnInside g now new (Ok count) → Writes {E = TableFault} g now.now new.now (Ok count) (put x) → LeavesContents {E = TableFault} g now.now new.now (Ok count) → ArePut g put_each all (drop (i + 1) all) old new
+  puts_next {g = g} {old} {now} {new} all i x is low before inside writes contents = record {
     inside = turn_next before.inside inside;
     becomes = λ clean office.
         let there = before.becomes (clean_first inside.stays clean) office in
         next_added put put_each in_turn all i x is low (tables_of (state g old.now).now) (state g now.now).now (state g new.now).now (writes clean there.0) there.1;
-    once = λ clean office kept.
+    contents = λ clean office.
         let early = clean_first inside.stays clean in
-        once clean (before.becomes early office).0 (before.once early office kept);
+        same_after (before.contents early office) (contents clean (before.becomes early office).0);
   }

@@ -44,6 +44,15 @@ KeepsOnce db = AreKeptOnce (references_of db) (contents_of db)
 
 -- ---- what a call makes of them
 
+-- the contents are as they were, and so is which of them each file has
+pub record HasSameContents (old new : Database) : Type 0 where
+  pub contents : contents_of new ≡ contents_of old
+  pub references : references_of new ≡ references_of old
+
+-- a call that isn't about contents leaves them so
+abbrev pub LeavesContents : {S T E : Type 0} → Ghosts S → Held S → Held S → Result T E → Type 0
+LeavesContents g old new result = HasCleanDisk (state g new) → IsOffice (state g old).now → OnOk result (HasSameContents (state g old).now (state g new).now)
+
 -- contents that were kept once still are
 abbrev pub LeavesOnce : {S T E : Type 0} → Ghosts S → Held S → Held S → Result T E → Type 0
 LeavesOnce g old new result = HasCleanDisk (state g new) → IsOffice (state g old).now → KeepsOnce (state g old).now → OnOk result (KeepsOnce (state g new).now)

@@ -2,7 +2,7 @@
 
 ghost use Rattle.std.specs.Prelude.{◌≡◌, option_map, if◌then◌else◌};
 ghost use Rattle.office_rows.specs.Rows.{class_named, has_class, with_class, with_new_class, with_years, has_collection, with_collection, with_new_collection};
-ghost use Rattle.office_tables.specs.Contents.{LeavesOnce};
+ghost use Rattle.office_tables.specs.Contents.{LeavesContents, LeavesOnce};
 ghost use Rattle.office_tables.specs.Calls.{GoesOnInside, Keeps, Tells, Writes};
 
 use crate::fault::Result;
@@ -28,7 +28,7 @@ fn revise_class<S: Alter>(tx: &mut Transaction<'_, S>, name: &str, years: i64) -
     ensures inside { GoesOnInside S.Store tx.old.conn tx.new.conn result }
     ensures becomes { Writes S.Store tx.old.conn.now tx.new.conn.now result
         (with_years name.now years) }
-    ensures once { LeavesOnce S.Store tx.old.conn.now tx.new.conn.now result }
+    ensures contents { LeavesContents S.Store tx.old.conn.now tx.new.conn.now result }
     ensures counted { Tells S.Store tx.old.conn.now tx.new.conn.now result (λ tables count.
         count ≡ (if has_class name.now tables then 1 else 0)) }
 {
@@ -44,7 +44,7 @@ fn add_class<S: Alter>(tx: &mut Transaction<'_, S>, name: &str, years: i64) -> R
     ensures inside { GoesOnInside S.Store tx.old.conn tx.new.conn result }
     ensures becomes { Writes S.Store tx.old.conn.now tx.new.conn.now result
         (with_new_class name.now years) }
-    ensures once { LeavesOnce S.Store tx.old.conn.now tx.new.conn.now result }
+    ensures contents { LeavesContents S.Store tx.old.conn.now tx.new.conn.now result }
 {
     change(
         tx,
@@ -60,6 +60,7 @@ pub fn put_class<S: Alter>(tx: &mut Transaction<'_, S>, name: &str, years: i64) 
     ensures inside { GoesOnInside S.Store tx.old.conn tx.new.conn result }
     ensures becomes { Writes S.Store tx.old.conn.now tx.new.conn.now result
         (with_class name.now years) }
+    ensures contents { LeavesContents S.Store tx.old.conn.now tx.new.conn.now result }
     ensures once { LeavesOnce S.Store tx.old.conn.now tx.new.conn.now result }
 {
     if revise_class(tx, name, years)? == 0 {
@@ -90,7 +91,7 @@ fn add_collection<S: Alter>(tx: &mut Transaction<'_, S>, name: &str) -> Result<u
     ensures inside { GoesOnInside S.Store tx.old.conn tx.new.conn result }
     ensures becomes { Writes S.Store tx.old.conn.now tx.new.conn.now result
         (with_new_collection name.now) }
-    ensures once { LeavesOnce S.Store tx.old.conn.now tx.new.conn.now result }
+    ensures contents { LeavesContents S.Store tx.old.conn.now tx.new.conn.now result }
 {
     change(
         tx,
@@ -106,6 +107,7 @@ pub fn put_collection<S: Alter>(tx: &mut Transaction<'_, S>, name: &str) -> Resu
     ensures inside { GoesOnInside S.Store tx.old.conn tx.new.conn result }
     ensures becomes { Writes S.Store tx.old.conn.now tx.new.conn.now result
         (with_collection name.now) }
+    ensures contents { LeavesContents S.Store tx.old.conn.now tx.new.conn.now result }
     ensures once { LeavesOnce S.Store tx.old.conn.now tx.new.conn.now result }
 {
     if !has_collection(tx, name)? {

@@ -6,7 +6,7 @@ ghost use Rattle.sqlite.specs.Held.{state};
 ghost use Rattle.sql_meaning.specs.Columns.{int_at};
 ghost use Rattle.office_rows.specs.Rows.{deposit_numbered, deposit_by, has_class, has_collection, last_number, with_deposit, with_gone};
 ghost use Rattle.office_tables.specs.Tables.{IsOffice};
-ghost use Rattle.office_tables.specs.Contents.{LeavesOnce};
+ghost use Rattle.office_tables.specs.Contents.{LeavesContents, LeavesOnce};
 ghost use Rattle.office_tables.specs.Calls.{GoesOnInside, Keeps, Shows, Tells, Writes};
 ghost use Rattle.office_tables.specs.Deposits.{shown_deposit, added_row, IsAdded};
 
@@ -244,7 +244,7 @@ fn add_deposit<S: Alter>(tx: &mut Transaction<'_, S>, deposit: NewDeposit<'_>) -
         → IsOffice (state S.Store tx.old.conn.now).now
         → OnOk result
         (IsAdded (added_row deposit.entry) (state S.Store tx.old.conn.now).now (state S.Store tx.new.conn.now).now) }
-    ensures once { LeavesOnce S.Store tx.old.conn.now tx.new.conn.now result }
+    ensures contents { LeavesContents S.Store tx.old.conn.now tx.new.conn.now result }
 {
     change(
         tx,
@@ -278,6 +278,7 @@ pub fn put_deposit<S: Alter>(tx: &mut Transaction<'_, S>, deposit: NewDeposit<'_
         IsTrue (has_collection deposit.entry.collection.now tables)) }
     ensures its_class { Tells S.Store tx.old.conn.now tx.new.conn.now result (λ tables _.
         IsTrue (has_class deposit.entry.class.now tables)) }
+    ensures contents { LeavesContents S.Store tx.old.conn.now tx.new.conn.now result }
     ensures once { LeavesOnce S.Store tx.old.conn.now tx.new.conn.now result }
 {
     add_deposit(tx, deposit)?;
@@ -291,6 +292,7 @@ pub fn mark_gone<S: Alter>(tx: &mut Transaction<'_, S>, number: u32, day: i64) -
     ensures inside { GoesOnInside S.Store tx.old.conn tx.new.conn result }
     ensures becomes { Writes S.Store tx.old.conn.now tx.new.conn.now result
         (with_gone (pos number) day) }
+    ensures contents { LeavesContents S.Store tx.old.conn.now tx.new.conn.now result }
     ensures once { LeavesOnce S.Store tx.old.conn.now tx.new.conn.now result }
 {
     change(

@@ -7,7 +7,7 @@ ghost use Rattle.office_rows.specs.Rows.{beside, due_numbered, with_due, with_ho
 ghost use Rattle.office_rows.specs.Told.{due_places, class_closings};
 ghost use Rattle.office_tables.specs.Tables.{IsOffice, Becomes, tables_of};
 ghost use Rattle.office_tables.specs.Calls.{GoesOnInside, Keeps, Shows, Tells, Writes};
-ghost use Rattle.office_tables.specs.Contents.{LeavesOnce};
+ghost use Rattle.office_tables.specs.Contents.{LeavesContents, LeavesOnce};
 ghost use Rattle.office_tables.specs.Dues.{shown_due, shown_beside, shown_place, shown_closing, FitMore};
 
 use crate::deposits::DepositRow;
@@ -183,7 +183,7 @@ fn set_day<S: Alter>(tx: &mut Transaction<'_, S>, number: u32, day: i64) -> Resu
     ensures inside { GoesOnInside S.Store tx.old.conn tx.new.conn result }
     ensures becomes { Writes S.Store tx.old.conn.now tx.new.conn.now result
         (with_due (pos number) (Some day)) }
-    ensures once { LeavesOnce S.Store tx.old.conn.now tx.new.conn.now result }
+    ensures contents { LeavesContents S.Store tx.old.conn.now tx.new.conn.now result }
 {
     change(
         tx,
@@ -198,7 +198,7 @@ fn clear_day<S: Alter>(tx: &mut Transaction<'_, S>, number: u32) -> Result<()>
     ensures inside { GoesOnInside S.Store tx.old.conn tx.new.conn result }
     ensures becomes { Writes S.Store tx.old.conn.now tx.new.conn.now result
         (with_due (pos number) None) }
-    ensures once { LeavesOnce S.Store tx.old.conn.now tx.new.conn.now result }
+    ensures contents { LeavesContents S.Store tx.old.conn.now tx.new.conn.now result }
 {
     change(
         tx,
@@ -216,6 +216,7 @@ pub fn set_due<S: Alter>(tx: &mut Transaction<'_, S>, number: u32, due: Option<i
     ensures inside { GoesOnInside S.Store tx.old.conn tx.new.conn result }
     ensures becomes { Writes S.Store tx.old.conn.now tx.new.conn.now result
         (with_due (pos number) due) }
+    ensures contents { LeavesContents S.Store tx.old.conn.now tx.new.conn.now result }
     ensures once { LeavesOnce S.Store tx.old.conn.now tx.new.conn.now result }
 {
     match due {
@@ -232,6 +233,7 @@ pub fn set_holds<S: Alter>(tx: &mut Transaction<'_, S>, number: u32, holds: i64)
     ensures inside { GoesOnInside S.Store tx.old.conn tx.new.conn result }
     ensures becomes { Writes S.Store tx.old.conn.now tx.new.conn.now result
         (with_holds (pos number) holds) }
+    ensures contents { LeavesContents S.Store tx.old.conn.now tx.new.conn.now result }
     ensures once { LeavesOnce S.Store tx.old.conn.now tx.new.conn.now result }
 {
     change(
@@ -253,6 +255,7 @@ pub fn add_holds<S: Alter>(tx: &mut Transaction<'_, S>, collection: &str, by: i6
         → OnOk result
         (Becomes (state S.Store tx.new.conn.now).now
         (with_more_holds collection.now by (tables_of (state S.Store tx.old.conn.now).now))) }
+    ensures contents { LeavesContents S.Store tx.old.conn.now tx.new.conn.now result }
     ensures once { LeavesOnce S.Store tx.old.conn.now tx.new.conn.now result }
 {
     change(
@@ -274,6 +277,7 @@ pub fn add_holds_class<S: Alter>(tx: &mut Transaction<'_, S>, class: &str, by: i
         → OnOk result
         (Becomes (state S.Store tx.new.conn.now).now
         (with_more_holds_class class.now by (tables_of (state S.Store tx.old.conn.now).now))) }
+    ensures contents { LeavesContents S.Store tx.old.conn.now tx.new.conn.now result }
     ensures once { LeavesOnce S.Store tx.old.conn.now tx.new.conn.now result }
 {
     change(

@@ -5,7 +5,7 @@ ghost use Rattle.std.specs.Prelude.{◌≡◌, ℕ, IfErr, OnOk, pos, Some, None
 ghost use Rattle.sql_meaning.specs.Columns.{int_at};
 ghost use Rattle.office_tables.specs.Faults.{IsFailure};
 ghost use Rattle.office_rows.specs.Rows.{hold_numbered, last_number, with_hold, with_released, live_holds, is_live_on, is_live_within, is_live_of_class};
-ghost use Rattle.office_tables.specs.Contents.{LeavesOnce};
+ghost use Rattle.office_tables.specs.Contents.{LeavesContents, LeavesOnce};
 ghost use Rattle.office_tables.specs.Calls.{GoesOnInside, Keeps, Shows, Tells, Writes};
 ghost use Rattle.office_tables.specs.ShownHolds.{shown_hold, placed_row, is_on};
 ghost use Rattle.office_tables.specs.Releases.{is_outside_of, is_over};
@@ -171,7 +171,7 @@ fn add_hold<S: Alter>(
     })) }
     ensures new_number { Tells S.Store tx.old.conn.now tx.new.conn.now result (λ tables _.
         hold_numbered (pos number) tables.holds ≡ None) }
-    ensures once { LeavesOnce S.Store tx.old.conn.now tx.new.conn.now result }
+    ensures contents { LeavesContents S.Store tx.old.conn.now tx.new.conn.now result }
 {
     change(
         tx,
@@ -196,6 +196,7 @@ pub fn put_hold<S: Alter>(
         (with_hold (placed_row target.entry (pos number) matter.now placed)) }
     ensures new_number { Tells S.Store tx.old.conn.now tx.new.conn.now result (λ tables _.
         hold_numbered (pos number) tables.holds ≡ None) }
+    ensures contents { LeavesContents S.Store tx.old.conn.now tx.new.conn.now result }
     ensures once { LeavesOnce S.Store tx.old.conn.now tx.new.conn.now result }
 {
     match target {
@@ -216,6 +217,7 @@ pub fn end_hold<S: Alter>(tx: &mut Transaction<'_, S>, number: u32, day: i64) ->
     ensures inside { GoesOnInside S.Store tx.old.conn tx.new.conn result }
     ensures becomes { Writes S.Store tx.old.conn.now tx.new.conn.now result
         (with_released (pos number) day) }
+    ensures contents { LeavesContents S.Store tx.old.conn.now tx.new.conn.now result }
     ensures once { LeavesOnce S.Store tx.old.conn.now tx.new.conn.now result }
 {
     change(

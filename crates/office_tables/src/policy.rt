@@ -4,7 +4,7 @@ ghost use Rattle.std.specs.Prelude.{◌≡◌, ℕ, IfOk, IfErr, map, option_map
 ghost use Rattle.sql_meaning.specs.Columns.{bytes_at};
 ghost use Rattle.office_tables.specs.Faults.{IsFailure};
 ghost use Rattle.office_rows.specs.Rows.{caller_named, without_callers, without_rules, with_caller, with_rule, with_callers, with_rules, with_policy};
-ghost use Rattle.office_tables.specs.Contents.{LeavesOnce};
+ghost use Rattle.office_tables.specs.Contents.{LeavesContents, LeavesOnce};
 ghost use Rattle.office_rows.specs.Matching.{matching_rule};
 ghost use Rattle.office_tables.specs.Calls.{GoesOnInTurn, GoesOnInside, Keeps, Shows, Tells, Writes};
 ghost use Rattle.office_tables.specs.ShownPolicy.{shown_rule};
@@ -194,7 +194,7 @@ pub fn match_rule<S: Alter>(
 fn drop_callers<S: Alter>(tx: &mut Transaction<'_, S>) -> Result<usize>
     ensures inside { GoesOnInside S.Store tx.old.conn tx.new.conn result }
     ensures becomes { Writes S.Store tx.old.conn.now tx.new.conn.now result without_callers }
-    ensures once { LeavesOnce S.Store tx.old.conn.now tx.new.conn.now result }
+    ensures contents { LeavesContents S.Store tx.old.conn.now tx.new.conn.now result }
 {
     change(tx, "DELETE FROM caller", &[])
 }
@@ -203,7 +203,7 @@ fn drop_callers<S: Alter>(tx: &mut Transaction<'_, S>) -> Result<usize>
 fn drop_rules<S: Alter>(tx: &mut Transaction<'_, S>) -> Result<usize>
     ensures inside { GoesOnInside S.Store tx.old.conn tx.new.conn result }
     ensures becomes { Writes S.Store tx.old.conn.now tx.new.conn.now result without_rules }
-    ensures once { LeavesOnce S.Store tx.old.conn.now tx.new.conn.now result }
+    ensures contents { LeavesContents S.Store tx.old.conn.now tx.new.conn.now result }
 {
     change(tx, "DELETE FROM rule_5", &[])
 }
@@ -213,7 +213,7 @@ fn add_caller<S: Alter>(tx: &mut Transaction<'_, S>, name: &str, role: &str) -> 
     ensures inside { GoesOnInside S.Store tx.old.conn tx.new.conn result }
     ensures becomes { Writes S.Store tx.old.conn.now tx.new.conn.now result
         (with_caller (record { name = name.now; role = role.now })) }
-    ensures once { LeavesOnce S.Store tx.old.conn.now tx.new.conn.now result }
+    ensures contents { LeavesContents S.Store tx.old.conn.now tx.new.conn.now result }
 {
     change(
         tx,
@@ -226,7 +226,7 @@ fn add_caller<S: Alter>(tx: &mut Transaction<'_, S>, name: &str, role: &str) -> 
 fn add_rule<S: Alter>(tx: &mut Transaction<'_, S>, rule: &RuleRow) -> Result<usize>
     ensures inside { GoesOnInside S.Store tx.old.conn tx.new.conn result }
     ensures becomes { Writes S.Store tx.old.conn.now tx.new.conn.now result (with_rule rule.now) }
-    ensures once { LeavesOnce S.Store tx.old.conn.now tx.new.conn.now result }
+    ensures contents { LeavesContents S.Store tx.old.conn.now tx.new.conn.now result }
 {
     let role: &str = &rule.role;
     let action: &str = &rule.action;
@@ -253,7 +253,7 @@ fn add_callers<S: Alter>(tx: &mut Transaction<'_, S>, callers: &[CallerRow]) -> 
     ensures inside { GoesOnInTurn S.Store tx.old.conn tx.new.conn result }
     ensures becomes { Writes S.Store tx.old.conn.now tx.new.conn.now result
         (with_callers callers.now) }
-    ensures once { LeavesOnce S.Store tx.old.conn.now tx.new.conn.now result }
+    ensures contents { LeavesContents S.Store tx.old.conn.now tx.new.conn.now result }
 {
     for caller in callers {
         add_caller(tx, &caller.name, &caller.role)?;
@@ -265,7 +265,7 @@ fn add_callers<S: Alter>(tx: &mut Transaction<'_, S>, callers: &[CallerRow]) -> 
 fn add_rules<S: Alter>(tx: &mut Transaction<'_, S>, rules: &[RuleRow]) -> Result<()>
     ensures inside { GoesOnInTurn S.Store tx.old.conn tx.new.conn result }
     ensures becomes { Writes S.Store tx.old.conn.now tx.new.conn.now result (with_rules rules.now) }
-    ensures once { LeavesOnce S.Store tx.old.conn.now tx.new.conn.now result }
+    ensures contents { LeavesContents S.Store tx.old.conn.now tx.new.conn.now result }
 {
     for rule in rules {
         add_rule(tx, rule)?;
@@ -284,6 +284,7 @@ pub fn put_policy<S: Alter>(
     ensures inside { GoesOnInside S.Store tx.old.conn tx.new.conn result }
     ensures becomes { Writes S.Store tx.old.conn.now tx.new.conn.now result
         (with_policy callers.now rules.now) }
+    ensures contents { LeavesContents S.Store tx.old.conn.now tx.new.conn.now result }
     ensures once { LeavesOnce S.Store tx.old.conn.now tx.new.conn.now result }
 {
     drop_callers(tx)?;

@@ -3,7 +3,7 @@ use Rattle.std.proofs.lemmas.Int.{to_z-of_z}
 use Rattle.sqlite.specs.State.{HasCleanDisk}
 use Rattle.sqlite.specs.Held.{state}
 use Rattle.sql_meaning.proofs.Results.{on_ok}
-use Rattle.office_tables.proofs.ClassLemmas.{adds_class_once, adds_class}
+use Rattle.office_tables.proofs.ClassLemmas.{adds_class_same, adds_class}
 use Rattle.office_tables.proofs.classes.add_class.Goals as goal
 
 pub returns : goal.returns
@@ -12,5 +12,5 @@ returns g c =
     record {
       inside = search rules;
       becomes = λ clean office. on_ok c.change.result (λ count h. adds_class _ _ c.args.name.now c.args.years count office h) (ran clean);
-      once = λ clean office kept. on_ok c.change.result (λ count h. adds_class_once _ _ c.args.name.now c.args.years count office h kept) (ran clean);
+      contents = λ clean office. on_ok c.change.result (λ count h. adds_class_same _ _ c.args.name.now c.args.years count office h) (ran clean);
     }

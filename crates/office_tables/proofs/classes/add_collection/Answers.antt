@@ -1,11 +1,11 @@
 use Rattle.sql_meaning.proofs.Results.{on_ok}
 use Rattle.office_tables.proofs.CollectionLemmas.{adds_collection}
-use Rattle.office_tables.proofs.OnceLemmas.{add_collection_once}
+use Rattle.office_tables.proofs.SameContents.{add_collection_same}
 use Rattle.office_tables.proofs.classes.add_collection.Goals as goal
 
 pub returns-clause-becomes : goal.returns-clause-becomes
 returns-clause-becomes g c clean office =
     on_ok c.change.result (λ count h. adds_collection _ _ c.args.name.now count office h) (rw c.params-to_sql.ensures at (c.change.ensures.ran clean))
 
-pub returns-clause-once : goal.returns-clause-once
-returns-clause-once g c clean office kept = on_ok c.change.result (λ count h. add_collection_once _ _ _ count office h kept) (c.change.ensures.ran clean)
+pub returns-clause-contents : goal.returns-clause-contents
+returns-clause-contents g c clean office = on_ok c.change.result (λ count h. add_collection_same _ _ _ count office h) (c.change.ensures.ran clean)

@@ -4,7 +4,7 @@ use Rattle.std.proofs.lemmas.Result.{IfOk-weaker}
 use Rattle.sqlite.specs.State.{HasCleanDisk}
 use Rattle.sqlite.specs.Held.{state}
 use Rattle.sql_meaning.proofs.Results.{on_ok}
-use Rattle.office_tables.proofs.ClassLemmas.{revises_class_once, revises_class}
+use Rattle.office_tables.proofs.ClassLemmas.{revises_class_same, revises_class}
 use Rattle.office_tables.proofs.classes.revise_class.Goals as goal
 
 pub returns : goal.returns
@@ -13,6 +13,6 @@ returns g c =
     record {
       inside = search rules;
       becomes = λ clean office. on_ok c.change.result (λ count h. (revises_class _ _ c.args.name.now c.args.years count office h).0) (ran clean);
-      once = λ clean office kept. on_ok c.change.result (λ count h. revises_class_once _ _ c.args.name.now c.args.years count office h kept) (ran clean);
+      contents = λ clean office. on_ok c.change.result (λ count h. revises_class_same _ _ c.args.name.now c.args.years count office h) (ran clean);
       counted = λ clean office. IfOk-weaker c.change.result _ _ (λ count h. (revises_class _ _ c.args.name.now c.args.years count office h).1) (ran clean);
     }

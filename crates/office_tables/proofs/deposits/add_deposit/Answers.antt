@@ -3,7 +3,7 @@ use Rattle.std.proofs.lemmas.Int.{to_z-of_z}
 use Rattle.sql_meaning.proofs.Results.{on_ok}
 use Rattle.office_tables.specs.Deposits.{added_row}
 use Rattle.office_tables.proofs.DepositAdded.{is_added}
-use Rattle.office_tables.proofs.OnceLemmas.{add_deposit_once}
+use Rattle.office_tables.proofs.SameContents.{add_deposit_same}
 use Rattle.office_tables.proofs.deposits.add_deposit.Goals as goal
 
 pub returns-clause-added : goal.returns-clause-added
@@ -16,5 +16,5 @@ returns-clause-added g c clean office =
     let ran = rw (c.params-to_sql.ensures, c.params-to_sql-2.ensures, c.params-to_sql-3.ensures, c.params-to_sql-4.ensures, c.params-to_sql-5.ensures, c.params-to_sql-6.ensures, c.params-to_sql-7.ensures, c.params-to_sql-8.ensures, closed, deposited, files, bytes) at (c.change.ensures.ran clean) in
     on_ok c.change.result (λ count h. is_added _ _ (added_row d) refl count office h) ran
 
-pub returns-clause-once : goal.returns-clause-once
-returns-clause-once g c clean office kept = on_ok c.change.result (λ count h. add_deposit_once _ _ _ count office h kept) (c.change.ensures.ran clean)
+pub returns-clause-contents : goal.returns-clause-contents
+returns-clause-contents g c clean office = on_ok c.change.result (λ count h. add_deposit_same _ _ _ count office h) (c.change.ensures.ran clean)

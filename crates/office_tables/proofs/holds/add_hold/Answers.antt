@@ -5,7 +5,7 @@ use Rattle.sqlite.specs.Held.{state}
 use Rattle.office_rows.specs.Rows.{HoldRow}
 use Rattle.office_tables.proofs.HoldLemmas.{params_of, puts_hold, hold_was_new, bound_number, bound_text}
 use Rattle.office_tables.proofs.HoldTexts.{put_text}
-use Rattle.office_tables.proofs.OnceLemmas.{add_hold_once}
+use Rattle.office_tables.proofs.SameContents.{add_hold_same}
 use Rattle.office_tables.proofs.holds.add_hold.Goals as goal
 
 abbrev put : ℕ → Option ℕ → Option (Bor (List ℕ)) → Option (Bor (List ℕ)) → List ℕ → ℤ → HoldRow
@@ -42,5 +42,5 @@ returns g c =
       inside = search rules;
       becomes = λ clean office. puts_hold old new hold refl c.in_ok-change.field-0 office (ran clean);
       new_number = λ clean office. hold_was_new old new hold refl c.in_ok-change.field-0 office (ran clean);
-      once = λ clean office kept. add_hold_once _ old new c.in_ok-change.field-0 office (ran clean) kept;
+      contents = λ clean office. add_hold_same _ old new c.in_ok-change.field-0 office (ran clean);
     }

@@ -3,7 +3,7 @@ use mir.Val.{SFits}
 use Rattle.std.proofs.lemmas.Int.{to_z-of_z}
 use Rattle.sql_meaning.proofs.Results.{on_ok}
 use Rattle.office_tables.proofs.PolicyLemmas.{adds_rule}
-use Rattle.office_tables.proofs.OnceLemmas.{add_rule_once}
+use Rattle.office_tables.proofs.SameContents.{add_rule_same}
 use Rattle.office_tables.proofs.policy.add_rule.Goals as goal
 
 pub returns-clause-becomes : goal.returns-clause-becomes
@@ -25,5 +25,5 @@ returns-clause-becomes g c clean office =
     let ran = rw (c.params-to_sql.ensures, c.params-to_sql-2.ensures, c.params-to_sql-3.ensures, c.params-to_sql-4.ensures, c.params-to_sql-5.ensures, c.params-to_sql-6.ensures, c.params-to_sql-7.ensures, c.params-to_sql-8.ensures, c.deref-role.ensures, c.deref-action.ensures, c.deref-collection.ensures, c.deref-class.ensures, to_z-of_z w64 inside.place place_fits, to_z-of_z w64 inside.effect effect_fits, to_z-of_z w64 inside.first first_fits, to_z-of_z w64 inside.last last_fits, place, effect, role, action, collection, class, first, last) at (c.change.ensures.ran clean) in
     on_ok c.change.result (λ count h. adds_rule _ _ row count office h) ran
 
-pub returns-clause-once : goal.returns-clause-once
-returns-clause-once g c clean office kept = on_ok c.change.result (λ count h. add_rule_once _ _ _ count office h kept) (c.change.ensures.ran clean)
+pub returns-clause-contents : goal.returns-clause-contents
+returns-clause-contents g c clean office = on_ok c.change.result (λ count h. add_rule_same _ _ _ count office h) (c.change.ensures.ran clean)

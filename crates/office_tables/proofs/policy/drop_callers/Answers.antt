@@ -1,11 +1,11 @@
 use Rattle.sql_meaning.proofs.Results.{on_ok}
 use Rattle.office_tables.proofs.PolicyLemmas.{drops_callers}
-use Rattle.office_tables.proofs.OnceLemmas.{drop_callers_once}
+use Rattle.office_tables.proofs.SameContents.{drop_callers_same}
 use Rattle.office_tables.proofs.policy.drop_callers.Goals as goal
 
 pub returns-clause-becomes : goal.returns-clause-becomes
 returns-clause-becomes g c clean office =
     on_ok c.change.result (λ count h. drops_callers _ _ count office h) (c.change.ensures.ran clean)
 
-pub returns-clause-once : goal.returns-clause-once
-returns-clause-once g c clean office kept = on_ok c.change.result (λ count h. drop_callers_once _ _ _ count office h kept) (c.change.ensures.ran clean)
+pub returns-clause-contents : goal.returns-clause-contents
+returns-clause-contents g c clean office = on_ok c.change.result (λ count h. drop_callers_same _ _ _ count office h) (c.change.ensures.ran clean)

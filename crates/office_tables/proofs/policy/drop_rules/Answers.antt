@@ -1,11 +1,11 @@
 use Rattle.sql_meaning.proofs.Results.{on_ok}
 use Rattle.office_tables.proofs.PolicyLemmas.{drops_rules}
-use Rattle.office_tables.proofs.OnceLemmas.{drop_rules_once}
+use Rattle.office_tables.proofs.SameContents.{drop_rules_same}
 use Rattle.office_tables.proofs.policy.drop_rules.Goals as goal
 
 pub returns-clause-becomes : goal.returns-clause-becomes
 returns-clause-becomes g c clean office =
     on_ok c.change.result (λ count h. drops_rules _ _ count office h) (c.change.ensures.ran clean)
 
-pub returns-clause-once : goal.returns-clause-once
-returns-clause-once g c clean office kept = on_ok c.change.result (λ count h. drop_rules_once _ _ _ count office h kept) (c.change.ensures.ran clean)
+pub returns-clause-contents : goal.returns-clause-contents
+returns-clause-contents g c clean office = on_ok c.change.result (λ count h. drop_rules_same _ _ _ count office h) (c.change.ensures.ran clean)

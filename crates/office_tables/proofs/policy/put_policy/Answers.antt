@@ -3,6 +3,7 @@ use Rattle.sqlite.specs.State.{HasCleanDisk}
 use Rattle.sqlite.specs.Held.{state}
 use Rattle.office_tables.specs.Tables.{IsOffice, tables_of}
 use Rattle.office_tables.proofs.PolicyLemmas.{puts_policy}
+use Rattle.office_tables.proofs.Frames.{kept_once, same_after}
 use Rattle.office_tables.proofs.InTurn.{clean_first}
 use Rattle.office_tables.proofs.policy.put_policy.Goals as goal
 
@@ -16,10 +17,14 @@ returns g c =
     let first = λ (clean : HasCleanDisk new) (office : IsOffice old.now). c.in_ok-drop_callers.ensures.becomes (clean1 clean) office in
     let second = λ (clean : HasCleanDisk new) (office : IsOffice old.now). c.in_ok-drop_rules.ensures.becomes (clean2 clean) (first clean office).office in
     let third = λ (clean : HasCleanDisk new) (office : IsOffice old.now). c.in_ok-add_callers.ensures.becomes (clean3 clean) (second clean office).office in
+    let same = λ (clean : HasCleanDisk new) (office : IsOffice old.now).
+    same_after (c.in_ok-drop_callers.ensures.contents (clean1 clean) office)
+    (same_after (c.in_ok-drop_rules.ensures.contents (clean2 clean) (first clean office).office)
+    (same_after (c.in_ok-add_callers.ensures.contents (clean3 clean) (second clean office).office) (c.in_ok-add_rules.ensures.contents clean (third clean office).office))) in
     record {
       inside = search rules;
       becomes = λ clean office. puts_policy (tables_of old.now) c.args.callers.now c.args.rules.now _ _ _ new.now (first clean office) (second clean office) (third clean office)
           (c.in_ok-add_rules.ensures.becomes clean (third clean office).office);
-      once = λ clean office kept. c.in_ok-add_rules.ensures.once clean (third clean office).office (c.in_ok-add_callers.ensures.once (clean3 clean) (second clean office).office
-          (c.in_ok-drop_rules.ensures.once (clean2 clean) (first clean office).office (c.in_ok-drop_callers.ensures.once (clean1 clean) office kept)));
+      contents = same;
+      once = λ clean office kept. kept_once (same clean office) kept;
     }
