@@ -17,6 +17,10 @@ DUE_ROWS = (
     "SELECT number, collection, class, due FROM deposit WHERE gone IS NULL AND holds = 0 AND due >= ?2"
     " AND due <= ?1 ORDER BY number"
 )
+ADD_HOLDS = (
+    "UPDATE deposit SET holds = CASE WHEN typeof(holds + ?2) = 'integer' THEN holds + ?2 END"
+    " WHERE collection = ?1"
+)
 HOLD = "SELECT number, deposit, collection, class, matter, placed, released FROM hold_4"
 HOLDS_ON_DEPOSIT = (
     "SELECT number FROM hold_4 WHERE deposit = ?1 AND released IS NULL ORDER BY number"
@@ -133,7 +137,7 @@ class Statements:
         self.rows("SELECT name FROM collection WHERE name = ?1", "tax")
         self.asker("hold", klass="")
         self.rows(PUT_HOLD, self.next_hold(), None, "tax", None, "suit", DAY)
-        self.rows("UPDATE deposit SET holds = holds + ?2 WHERE collection = ?1", "tax", 1)
+        self.rows(ADD_HOLDS, "tax", 1)
 
     def revise(self, number):
         """The class has eleven years, and then ten."""

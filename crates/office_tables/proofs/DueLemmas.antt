@@ -1,9 +1,8 @@
 -- What the statements on due days and on counts of holds do to the rows of an office.
-use Rattle.std.proofs.Common.{IsTrue, ◌≡◌, ◌⊎◌, ◌&&◌, ℕ, ℤ, pos, ◌+ℤ◌, List, [], ◌∷◌, map, filter, slice_get, option_map, Bool, true, false, Some, None, Ok, refl, sym, ap, ap₂, subst, ◌∙◌, inl, inr, if◌then◌else◌}
-use Rattle.std.specs.List.{AllByRecursion}
+use Rattle.std.proofs.Common.{IsTrue, ◌≡◌, ◌⊎◌, ◌&&◌, codes, Float, is_nan, ℕ, ℤ, pos, ◌+ℤ◌, List, [], ◌∷◌, map, filter, slice_get, option_map, Bool, true, false, Some, None, Ok, refl, sym, ap, ap₂, subst, subst₂, ◌∙◌, inl, inr, if◌then◌else◌}
 use Rattle.std.specs.Ordering.{int_cmp, is_le, is_ge}
 use Rattle.sqlite.specs.declared.types.Value.{Value}
-use Rattle.sqlite.specs.declared.types.Value.TheVariants.{Null, Int, Text}
+use Rattle.sqlite.specs.declared.types.Value.TheVariants.{Null, Int, Real, Text}
 use Rattle.sqlite.specs.Order.{Row, column, value_cmp}
 use Rattle.sqlite.specs.Edit.{id_in, edit_of, edited}
 use Rattle.sqlite.specs.Rowids.TheVariants.{Given}
@@ -11,32 +10,38 @@ use Rattle.sqlite.specs.Cast.{cast, cast_row}
 use Rattle.sqlite.specs.Kind.TheVariants as kind
 use Rattle.sqlite.specs.Tree.{rowid}
 use Rattle.sqlite.specs.Collation.TheVariants.{Binary}
-use Rattle.sqlite.specs.Ops.{binary, is_true, fits_i64, from_truth}
+use Rattle.sqlite.specs.Ops.{unary, binary, is_true, fits_i64, from_truth}
 use Rattle.sqlite.specs.State.{State, Shown, Executes}
 use Rattle.sqlite_sql.specs.declared.ops.BinaryOp.TheVariants.{Compare, Arith}
 use Rattle.sqlite_sql.specs.declared.ops.CompareOp.TheVariants.{Eq, Ge, Le}
 use Rattle.sqlite_sql.specs.declared.ops.ArithOp.TheVariants.{Add}
+use Rattle.sqlite_sql.specs.declared.ops.UnaryOp.TheVariants.{TypeOf}
+use Rattle.sqlite_sql.specs.Ops.{int_or, real}
+use Rattle.std.proofs.lemmas.Bool.{cases_Bool}
 use Rattle.sqlite_value.proofs.OrderLemmas.{value_cmp-Int}
 use Rattle.sqlite_trees.specs.View.{is_int}
+use Rattle.sqlite_rules.specs.Lists.{Has}
 use Rattle.sqlite_rules.specs.Calls.{ids_of}
 use Rattle.sqlite_rules.proofs.ListLemmas.{all_has, all_from}
+use Rattle.sqlite_rules.proofs.ProbeLemmas.{mapped_has}
 use Rattle.sqlite_rules.proofs.TableLemmas.{int_is}
 use Rattle.sqlite_keyed.proofs.ListLemmas.{ascending_weaker, map-map, filter-map}
 use Rattle.sql_meaning.specs.Columns.{int_at, bytes_at, maybe_int}
-use Rattle.sql_meaning.proofs.Keys.{same_int}
+use Rattle.sql_meaning.proofs.Keys.{same_int, same_text}
 use Rattle.sqlite.specs.Command.TheVariants.{Update}
 use Rattle.sql_meaning.proofs.Scanning.{scan, as_program, passes, shown_of, finds_one}
 use Rattle.sql_meaning.proofs.Writing.{Means}
 use Rattle.sql_meaning.proofs.Reading.{reads_same, reads_rising}
 use Rattle.sql_meaning.proofs.TextKeys.{IsText, has_text, by_text, each_passes}
 use Rattle.sql_meaning.proofs.RowidKeys.{by_number, has_number, each_numbered, few_numbered, rising}
-use Rattle.sql_meaning.proofs.Edits.{decoded, cast_null, cast_int}
+use Rattle.sql_meaning.proofs.Edits.{decoded, cast_null, cast_int, map_alike}
 use Rattle.sql_meaning.proofs.Changing.{revises}
+use Rattle.sql_meaning.proofs.Whole.{rows_after}
 use Rattle.sql_meaning.proofs.ManyRows.{revises_all}
 use Rattle.office_tables.specs.Schema.{office_schema, deposit_table, deposit_tree}
 use Rattle.office_rows.specs.Rows.{DepositRow, DueRow, is_due_of, due_numbered, with_due, with_holds, beside, more_holds, with_more_holds, with_more_holds_class, is_within, is_of_class, of_class, least_number, is_by, is_disposable}
 use Rattle.office_rows.specs.Told.{place_row, closing_of, due_places, class_closings}
-use Rattle.office_tables.specs.Dues.{shown_due, shown_beside, shown_place, shown_closing, FitMore}
+use Rattle.office_tables.specs.Dues.{shown_due, shown_beside, shown_place, shown_closing, FitMore, dues_of}
 use Rattle.office_tables.specs.Tables.{IsOffice, Becomes, tables_of, deposit_in, due_in}
 use Rattle.office_tables.proofs.TablePlaces.{of_deposits}
 use Rattle.office_tables.proofs.Frames.{idle, becomes}
@@ -125,16 +130,64 @@ sets_holds old new n holds count office h =
 
 -- ---- more holds over those that pass
 
-sum_is : (m n : ℤ) → fits_i64 (m +ℤ n) ≡ true → binary (Arith Add) (Int m) (Int n) ≡ Int (m +ℤ n)
-unfolding binary
-sum_is m n fits = rw fits refl
+-- the sum, and NULL where 64 bits don't hold it
+abbrev sum_or_null : ℤ → ℤ → Value
+sum_or_null m n = if fits_i64 (m +ℤ n) then Int (m +ℤ n) else Null
 
-fit_at : (by : ℤ) (rows : List Row) → FitMore by (map due_in rows) → AllByRecursion (λ r. fits_i64 (int_at r 11 +ℤ by) ≡ true) rows
-fit_at by [] fit = tt
-fit_at by (r ∷ rows) fit = (fit.0, fit_at by rows fit.1)
+abbrev if_integer : Value → Value
+if_integer v = if is_true (binary (Compare Eq Binary) (unary TypeOf v) (Text (codes "integer"))) then v else Null
+
+-- a sum that 64 bits don't hold is a float, or NULL
+float_left : (x : Float) → if_integer (real x) ≡ Null
+unfolding unary
+float_left x = elim (is_nan x) as (λ b. if_integer (if b then Null else Real x) ≡ Null) [
+  | true ↦ ap (λ b. if b then Null else Null) (same_text (codes "null") (codes "integer"))
+  | false ↦ ap (λ b. if b then Real x else Null) (same_text (codes "real") (codes "integer"))
+]
+
+sum_left : (n : ℤ) (x : Float) (b : Bool) → if_integer (int_or (if b then Some n else None) (real x)) ≡ (if b then Int n else Null)
+unfolding unary
+sum_left n x true = ap (λ b. if b then Int n else Null) (same_text (codes "integer") (codes "integer"))
+sum_left n x false = float_left x
+
+sum_is : (m n : ℤ) → if_integer (binary (Arith Add) (Int m) (Int n)) ≡ sum_or_null m n
+unfolding binary
+sum_is m n = sum_left (m +ℤ n) _ (fits_i64 (m +ℤ n))
+
+cast_sum : (m n : ℤ) → cast kind.Integer (sum_or_null m n) ≡ sum_or_null m n
+cast_sum m n = elim (fits_i64 (m +ℤ n)) as (λ b. cast kind.Integer (if b then Int (m +ℤ n) else Null) ≡ (if b then Int (m +ℤ n) else Null)) [ true ↦ cast_int (m +ℤ n) | false ↦ cast_null ]
+
+-- what stands there as an integer is the sum
+sum_fits : (m n k : ℤ) → sum_or_null m n ≡ Int k → fits_i64 (m +ℤ n) ≡ true
+sum_fits m n k = by (fits_i64 (m +ℤ n))
+  where
+    by : (b : Bool) → (if b then Int (m +ℤ n) else Null) ≡ Int k → b ≡ true
+    by true is = refl
+    by false is = absurd cc
+
+abbrev set_sum : ℤ → Row → Row
+set_sum by r = with_last (column r 9) (column r 10) (sum_or_null (int_at r 11) by) r
 
 abbrev set_more : ℤ → Row → Row
 set_more by r = with_last (column r 9) (column r 10) (Int (int_at r 11 +ℤ by)) r
+
+-- where each of those fits, the sums are set
+sums_set : (by : ℤ) (keep : Row → Bool) (rows : List Row) → ((r : Row) → Has rows r → keep r ≡ true → fits_i64 (int_at r 11 +ℤ by) ≡ true)
+    → map (λ r. if keep r then set_sum by r else r) rows ≡ map (λ r. if keep r then set_more by r else r) rows
+sums_set by keep rows fits = map_alike (λ r. if keep r then set_sum by r else r) (λ r. if keep r then set_more by r else r) rows (λ r there. one r (keep r) (fits r there))
+  where
+    one : (r : Row) (b : Bool) → (b ≡ true → fits_i64 (int_at r 11 +ℤ by) ≡ true) → (if b then set_sum by r else r) ≡ (if b then set_more by r else r)
+    one r true fit = ap (λ b. with_last (column r 9) (column r 10) (if b then Int (int_at r 11 +ℤ by) else Null) r) (fit refl)
+    one r false fit = refl
+
+-- and so do those of the typed rows
+fit_those : (those : DepositRow → Bool) (by : ℤ) (keep : Row → Bool) → ((r : Row) → those (deposit_in r) ≡ keep r) → (rows : List Row)
+    → ((r : Row) → Has rows r → keep r ≡ true → fits_i64 (int_at r 11 +ℤ by) ≡ true) → FitMore by (map (λ p. p.1) (filter (λ p. those p.0) (beside (map deposit_in rows) (map due_in rows))))
+fit_those those by keep tests [] fits = tt
+fit_those those by keep tests (r ∷ rows) fits = elim (cases_Bool (those (deposit_in r))) [
+  | inl is ↦ rw is (fits r (inl refl) (sym (tests r) ∙ is), fit_those those by keep tests rows (λ x there. fits x (inr there)))
+  | inr isnt ↦ rw isnt (fit_those those by keep tests rows (λ x there. fits x (inr there)))
+]
 
 -- the typed rows, in two lists beside one another
 more_decoded : (those : DepositRow → Bool) (by : ℤ) (keep : Row → Bool) → ((r : Row) → those (deposit_in r) ≡ keep r) → (rows : List Row)
@@ -149,34 +202,42 @@ more_decoded those by keep tests (r ∷ rows) = rw (tests r) (ap₂ (λ y more. 
 -- a text by which each deposit with that text in the column gets as many more
 module _ (text : List ℕ) (place : ℕ) (means : Means office_schema text (Update 5 (as_program (scan deposit_tree (by_text place) more_columns [])))) (typed : (r : Row) → IsDepositRow r → IsText place r)
     (those : DepositRow → Bool) (name : List ℕ) (tests : (r : Row) → those (deposit_in r) ≡ has_text place name r) where
-  adds_to : (old new : State) (by : ℤ) (count : ℕ) → IsOffice old.now → FitMore by (tables_of old.now).dues → Executes text (Text name ∷ Int by ∷ []) old new (Ok count)
-      → Becomes new.now (record (tables_of old.now) { dues = more_holds those by (tables_of old.now).deposits (tables_of old.now).dues })
-  adds_to old new by count office fit h =
+  adds_to : (old new : State) (by : ℤ) (count : ℕ) → IsOffice old.now → Executes text (Text name ∷ Int by ∷ []) old new (Ok count)
+      → Becomes new.now (record (tables_of old.now) { dues = more_holds those by (tables_of old.now).deposits (tables_of old.now).dues }) × FitMore by (dues_of those (tables_of old.now))
+  adds_to old new by count office h =
       let db = old.now.trees in
       let shaped = of_deposits office.whole.shaped in
       let keep : Row → Bool = has_text place name in
       let rows_are = deposit_rows old.now office in
       let texts = all_from (IsText place) (db deposit_tree) (λ r there. typed r (all_has IsDepositRow (db deposit_tree) r rows_are there)) in
       let done = revises_all text (Text name ∷ Int by ∷ []) old new office_schema office.whole.schema_is 5 deposit_table refl idle shaped (by_text place) more_columns keep (each_passes place name (Int by ∷ []) (db deposit_tree) texts)
-      means (set_more by) (λ r. refl) (λ r there kept.
+      means (set_sum by) (λ r. refl) (λ r there kept.
       let it = all_has IsDepositRow (db deposit_tree) r rows_are there in
-      let fits = all_has _ (db deposit_tree) r (fit_at by (db deposit_tree) fit) there in
-      let sum : binary (Arith Add) (column r 11) (Int by) ≡ Int (int_at r 11 +ℤ by) = ap (λ v. binary (Arith Add) v (Int by)) it.8 ∙ sum_is (int_at r 11) by fits in (
+      let sum : if_integer (binary (Arith Add) (column r 11) (Int by)) ≡ sum_or_null (int_at r 11) by = ap (λ v. if_integer (binary (Arith Add) v (Int by))) it.8 ∙ sum_is (int_at r 11) by in (
         ap (λ v. cast_row deposit_table (rowid r ∷ Null ∷ column r 2 ∷ column r 3 ∷ column r 4 ∷ column r 5 ∷ column r 6 ∷ column r 7 ∷ column r 8 ∷ column r 9 ∷ column r 10 ∷ v ∷ [])) sum
-            ∙ cast_last (column r 9) (column r 10) (Int (int_at r 11 +ℤ by)) r it (all_has _ (db deposit_tree) r shaped.1 there) (keeps_int (column r 9) it.9) (keeps_int (column r 10) it.7) (cast_int (int_at r 11 +ℤ by)),
+            ∙ cast_last (column r 9) (column r 10) (sum_or_null (int_at r 11) by) r it (all_has _ (db deposit_tree) r shaped.1 there) (keeps_int (column r 9) it.9) (keeps_int (column r 10) it.7) (cast_sum (int_at r 11) by),
         refl,
       )) count h in
       let edit = edit_of db deposit_table (ids_of done.answer) Given 1 done.answer in
-      let deposits_are : map deposit_in (edited db edit) ≡ map deposit_in (db deposit_tree) = ap (map deposit_in) done.made ∙ kept_alike deposit_in keep (set_more by) (λ r. refl) (db deposit_tree) in
-      let dues_are = more_decoded those by keep tests (db deposit_tree) in
-      becomes old new edit count edit.news office (refl, (refl, tt)) done.change _ (ap₂ (λ rows dues. record (tables_of old.now) { deposits = rows; dues = dues }) deposits_are (ap (map due_in) done.made ∙ dues_are))
+      let revised : Row → Row = λ r. if keep r then set_sum by r else r in
+      let after = becomes old new edit count edit.news office (refl, (refl, tt)) done.change _ refl in
+      let rows_now : new.now.trees deposit_tree ≡ map revised (db deposit_tree) = of_deposits (rows_after office_schema old new edit count edit.news done.change) ∙ done.made in
+      let fits : (r : Row) → Has (db deposit_tree) r → keep r ≡ true → fits_i64 (int_at r 11 +ℤ by) ≡ true = λ r there kept.
+      let set_there : Has (new.now.trees deposit_tree) (set_sum by r) = subst₂ (λ rs x. Has rs x) (sym rows_now) (ap (λ b. if b then set_sum by r else r) kept) (mapped_has revised (db deposit_tree) r there) in
+      sum_fits (int_at r 11) by (int_at (set_sum by r) 11) (all_has IsDepositRow (new.now.trees deposit_tree) (set_sum by r) (deposit_rows new.now after.office) set_there).8 in
+      let made = done.made ∙ sums_set by keep (db deposit_tree) fits in
+      let deposits_are : map deposit_in (edited db edit) ≡ map deposit_in (db deposit_tree) = ap (map deposit_in) made ∙ kept_alike deposit_in keep (set_more by) (λ r. refl) (db deposit_tree) in
+      let dues_are = more_decoded those by keep tests (db deposit_tree) in (
+        becomes old new edit count edit.news office (refl, (refl, tt)) done.change _ (ap₂ (λ rows dues. record (tables_of old.now) { deposits = rows; dues = dues }) deposits_are (ap (map due_in) made ∙ dues_are)),
+        fit_those those by keep tests (db deposit_tree) fits,
+      )
 
-pub adds_holds : (old new : State) (collection : List ℕ) (by : ℤ) (count : ℕ) → IsOffice old.now → FitMore by (tables_of old.now).dues → Executes add_holds_text (Text collection ∷ Int by ∷ []) old new (Ok count)
-    → Becomes new.now (with_more_holds collection by (tables_of old.now))
+pub adds_holds : (old new : State) (collection : List ℕ) (by : ℤ) (count : ℕ) → IsOffice old.now → Executes add_holds_text (Text collection ∷ Int by ∷ []) old new (Ok count)
+    → Becomes new.now (with_more_holds collection by (tables_of old.now)) × FitMore by (dues_of (is_within collection) (tables_of old.now))
 adds_holds old new collection = adds_to add_holds_text 3 due_meanings.add_holds_means (λ r it. it.1) (is_within collection) collection (λ r. refl) old new
 
-pub adds_holds_class : (old new : State) (class : List ℕ) (by : ℤ) (count : ℕ) → IsOffice old.now → FitMore by (tables_of old.now).dues → Executes add_holds_class_text (Text class ∷ Int by ∷ []) old new (Ok count)
-    → Becomes new.now (with_more_holds_class class by (tables_of old.now))
+pub adds_holds_class : (old new : State) (class : List ℕ) (by : ℤ) (count : ℕ) → IsOffice old.now → Executes add_holds_class_text (Text class ∷ Int by ∷ []) old new (Ok count)
+    → Becomes new.now (with_more_holds_class class by (tables_of old.now)) × FitMore by (dues_of (is_of_class class) (tables_of old.now))
 adds_holds_class old new class = adds_to add_holds_class_text 4 due_meanings.add_holds_class_means (λ r it. it.2) (is_of_class class) class (λ r. refl) old new
 
 -- ---- what may be destroyed

@@ -1,7 +1,7 @@
 -- What the statements on due days, counts of holds and deciding rules mean under the schema of an office.
 use Rattle.std.proofs.Common.{ℕ, pos, List, [], ◌∷◌, codes, refl}
-use Rattle.sqlite.specs.declared.types.Value.TheVariants.{Null, Int}
-use Rattle.sqlite.specs.Term.{Term, lit, col, op2}
+use Rattle.sqlite.specs.declared.types.Value.TheVariants.{Null, Int, Text}
+use Rattle.sqlite.specs.Term.{Term, lit, col, op1, op2, case}
 use Rattle.sqlite.specs.Collation.TheVariants.{Binary}
 use Rattle.sqlite.specs.Command.TheVariants.{Update}
 use Rattle.sqlite.specs.Listing.{understood}
@@ -9,6 +9,7 @@ use Rattle.sqlite_tied.specs.Compute.{everything}
 use Rattle.sqlite_sql.specs.declared.ops.BinaryOp.TheVariants.{Compare, Is, Arith}
 use Rattle.sqlite_sql.specs.declared.ops.CompareOp.TheVariants.{Eq, Ge, Le}
 use Rattle.sqlite_sql.specs.declared.ops.ArithOp.TheVariants.{Add}
+use Rattle.sqlite_sql.specs.declared.ops.UnaryOp.TheVariants.{TypeOf}
 use Rattle.sql_meaning.proofs.Scanning.{scan, as_program}
 use Rattle.sql_meaning.proofs.Reading.{Asks}
 use Rattle.sql_meaning.proofs.RowidKeys.{by_number, rising}
@@ -52,14 +53,20 @@ beside_columns = col 1 0 ∷ col 1 2 ∷ col 1 3 ∷ col 1 4 ∷ col 1 5 ∷ col
 
 -- ---- more holds over a collection, or over a class
 
+-- the sum, and NULL where 64 bits don't hold it: there the sum is a float
+abbrev pub more_holds_term : Term
+more_holds_term =
+    let sum = op2 (Arith Add) (col 1 11) (col 0 1) in
+    case (op2 (Compare Eq Binary) (op1 TypeOf sum) (lit (Text (codes "integer")))) sum (lit Null)
+
 abbrev pub more_columns : List Term
-more_columns = deposit_with 11 (op2 (Arith Add) (col 1 11) (col 0 1))
+more_columns = deposit_with 11 more_holds_term
 
 abbrev pub add_holds_text : List ℕ
-add_holds_text = codes "UPDATE deposit SET holds = holds + ?2 WHERE collection = ?1"
+add_holds_text = codes "UPDATE deposit SET holds = CASE WHEN typeof(holds + ?2) = 'integer' THEN holds + ?2 END WHERE collection = ?1"
 
 abbrev pub add_holds_class_text : List ℕ
-add_holds_class_text = codes "UPDATE deposit SET holds = holds + ?2 WHERE class = ?1"
+add_holds_class_text = codes "UPDATE deposit SET holds = CASE WHEN typeof(holds + ?2) = 'integer' THEN holds + ?2 END WHERE class = ?1"
 
 -- ---- what may be destroyed
 

@@ -1,14 +1,11 @@
 //! When deposits fall due, and how many live holds cover each.
 
-ghost use Rattle.std.specs.Prelude.{◌≡◌, Some, None, OnOk, pos, option_map, slice_get, map};
-ghost use Rattle.sqlite.specs.State.{HasCleanDisk};
-ghost use Rattle.sqlite.specs.Held.{state};
-ghost use Rattle.office_rows.specs.Rows.{beside, due_numbered, with_due, with_holds, with_more_holds, with_more_holds_class};
+ghost use Rattle.std.specs.Prelude.{◌≡◌, Some, None, pos, option_map, slice_get, map};
+ghost use Rattle.office_rows.specs.Rows.{beside, due_numbered, is_of_class, is_within, with_due, with_holds, with_more_holds, with_more_holds_class};
 ghost use Rattle.office_rows.specs.Told.{due_places, class_closings};
-ghost use Rattle.office_tables.specs.Tables.{IsOffice, Becomes, tables_of};
 ghost use Rattle.office_tables.specs.Calls.{GoesOnInside, Keeps, Shows, Tells, Writes};
 ghost use Rattle.office_tables.specs.Contents.{LeavesContents, LeavesOnce};
-ghost use Rattle.office_tables.specs.Dues.{shown_due, shown_beside, shown_place, shown_closing, FitMore};
+ghost use Rattle.office_tables.specs.Dues.{shown_due, shown_beside, shown_place, shown_closing, FitMore, dues_of};
 
 use crate::deposits::DepositRow;
 use crate::fault::Result;
@@ -249,18 +246,16 @@ pub fn set_holds<S: Alter>(tx: &mut Transaction<'_, S>, number: u32, holds: i64)
 /// Fails with `Memory` or `Store`, and with `Store` where a count would leave 64 bits.
 pub fn add_holds<S: Alter>(tx: &mut Transaction<'_, S>, collection: &str, by: i64) -> Result<()>
     ensures inside { GoesOnInside S.Store tx.old.conn tx.new.conn result }
-    ensures becomes { HasCleanDisk (state S.Store tx.new.conn.now)
-        → IsOffice (state S.Store tx.old.conn.now).now
-        → FitMore by (tables_of (state S.Store tx.old.conn.now).now).dues
-        → OnOk result
-        (Becomes (state S.Store tx.new.conn.now).now
-        (with_more_holds collection.now by (tables_of (state S.Store tx.old.conn.now).now))) }
+    ensures becomes { Writes S.Store tx.old.conn.now tx.new.conn.now result
+        (with_more_holds collection.now by) }
+    ensures fits { Tells S.Store tx.old.conn.now tx.new.conn.now result (λ tables _.
+        FitMore by (dues_of (is_within collection.now) tables)) }
     ensures contents { LeavesContents S.Store tx.old.conn.now tx.new.conn.now result }
     ensures once { LeavesOnce S.Store tx.old.conn.now tx.new.conn.now result }
 {
     change(
         tx,
-        "UPDATE deposit SET holds = holds + ?2 WHERE collection = ?1",
+        "UPDATE deposit SET holds = CASE WHEN typeof(holds + ?2) = 'integer' THEN holds + ?2 END WHERE collection = ?1",
         params![collection, by],
     )?;
     Ok(())
@@ -271,18 +266,16 @@ pub fn add_holds<S: Alter>(tx: &mut Transaction<'_, S>, collection: &str, by: i6
 /// Fails with `Memory` or `Store`, and with `Store` where a count would leave 64 bits.
 pub fn add_holds_class<S: Alter>(tx: &mut Transaction<'_, S>, class: &str, by: i64) -> Result<()>
     ensures inside { GoesOnInside S.Store tx.old.conn tx.new.conn result }
-    ensures becomes { HasCleanDisk (state S.Store tx.new.conn.now)
-        → IsOffice (state S.Store tx.old.conn.now).now
-        → FitMore by (tables_of (state S.Store tx.old.conn.now).now).dues
-        → OnOk result
-        (Becomes (state S.Store tx.new.conn.now).now
-        (with_more_holds_class class.now by (tables_of (state S.Store tx.old.conn.now).now))) }
+    ensures becomes { Writes S.Store tx.old.conn.now tx.new.conn.now result
+        (with_more_holds_class class.now by) }
+    ensures fits { Tells S.Store tx.old.conn.now tx.new.conn.now result (λ tables _.
+        FitMore by (dues_of (is_of_class class.now) tables)) }
     ensures contents { LeavesContents S.Store tx.old.conn.now tx.new.conn.now result }
     ensures once { LeavesOnce S.Store tx.old.conn.now tx.new.conn.now result }
 {
     change(
         tx,
-        "UPDATE deposit SET holds = holds + ?2 WHERE class = ?1",
+        "UPDATE deposit SET holds = CASE WHEN typeof(holds + ?2) = 'integer' THEN holds + ?2 END WHERE class = ?1",
         params![class, by],
     )?;
     Ok(())
