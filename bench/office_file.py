@@ -38,7 +38,7 @@ COUNT_HOLDS = (
     " + (SELECT count(*) FROM hold_4 AS hold WHERE hold.class = deposit.class AND released IS NULL)"
 )
 EPOCH = datetime.date(1970, 1, 1)
-CONTENT_ALIKE = "SELECT id FROM content WHERE mark = ?1 AND bytes = ?2"
+CONTENT_ALIKE = "SELECT id FROM content WHERE mark = ?1 AND bytes = ?2 ORDER BY id"
 PUT_CONTENT = "INSERT INTO content (mark, size, bytes) VALUES (?1, ?2, ?3)"
 LAST_CONTENT = "SELECT id FROM content ORDER BY id DESC LIMIT 1"
 PUT_FILE = "INSERT INTO file (deposit, path, content) VALUES (?1, ?2, ?3)"

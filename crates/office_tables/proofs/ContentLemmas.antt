@@ -1,5 +1,5 @@
 -- What the statements on contents do to the rows of an office.
-use Rattle.std.proofs.Common.{arith, ◌≡◌, ◌&&◌, ◌||◌, ◌⊎◌, ◌==◌, ap₂, not, bytes_eq, ℕ, ℤ, pos, ◌+ℤ◌, List, [], ◌∷◌, ◌++◌, map, filter, fold, length, slice_get, option_map, unwrap_or, Bool, true, false, Option, None, Some, Ok, refl, sym, ap, subst, subst₂, ◌∙◌, inl, inr}
+use Rattle.std.proofs.Common.{arith, ◌≡◌, ◌&&◌, ◌||◌, ◌⊎◌, ◌==◌, ap₂, not, bytes_eq, ℕ, ℤ, pos, ◌+ℤ◌, List, [], ◌∷◌, ◌++◌, map, filter, find, fold, length, slice_get, option_map, unwrap_or, Bool, true, false, Option, None, Some, Ok, refl, sym, ap, subst, subst₂, ◌∙◌, inl, inr}
 use Rattle.std.specs.List.{AllByRecursion, IsDistinct, list_any}
 use Rattle.std.proofs.lemmas.Slice.Eq.{bytes_eq-Decides}
 use Rattle.sha2.specs.Sha256.{sha256}
@@ -27,7 +27,7 @@ use Rattle.sqlite_keyed.proofs.KeyedLemmas.{same_int as same_number}
 use Rattle.sqlite_catalog.proofs.ListFacts.{filter_all}
 use Rattle.sqlite_rules.specs.Lists.{Has}
 use Rattle.sqlite_rules.specs.Calls.{ids_of}
-use Rattle.sqlite_rules.proofs.ListLemmas.{all_has, all_from, has_filtered, has_kept, some_has, some_from}
+use Rattle.sqlite_rules.proofs.ListLemmas.{all_has, all_from, has_filtered, has_found, has_kept, some_has, some_from}
 use Rattle.sqlite_rules.proofs.ProbeLemmas.{has_mapped, mapped_has}
 use Rattle.sqlite_rules.proofs.TableLemmas.{int_is}
 use Rattle.sqlite_schema.specs.declared.schema.Constraint.TheVariants.{Datatype, NotNull, ForeignKey}
@@ -37,8 +37,8 @@ use Rattle.sqlite_trees.specs.View.{IsShaped}
 use Rattle.sqlite_trees.specs.declared.store.Shape.TheVariants as shape
 use Rattle.sql_meaning.specs.Columns.{int_at, bytes_at}
 use Rattle.sql_meaning.proofs.Writing.{Changes, inserts}
-use Rattle.sql_meaning.proofs.Scanning.{passes, shown_of, answer_sound, answer_complete}
-use Rattle.sql_meaning.proofs.Reading.{reads_same, reads_scan, reads_rising, finds_part}
+use Rattle.sql_meaning.proofs.Scanning.{passes, shown_of}
+use Rattle.sql_meaning.proofs.Reading.{reads_same, reads_rising, finds_part}
 use Rattle.sql_meaning.proofs.Limited.{reads_some}
 use Rattle.sql_meaning.proofs.Keys.{found_by, int_itself, same_int, same_blob}
 use Rattle.sql_meaning.proofs.RowidKeys.{by_number, has_number, each_numbered, few_numbered, one_numbered, rising}
@@ -49,7 +49,7 @@ use Rattle.sql_meaning.proofs.Changing.{drops}
 use Rattle.office_tables.specs.Schema.{office_schema, content_table, file_table, file_tree, content_tree}
 use Rattle.office_rows.specs.Rows.{FileRow, ContentRow, is_content, content_numbered, bytes_under, is_alike, next_id, last_number, with_content, with_file, file_at, Tables}
 use Rattle.office_tables.specs.Tables.{IsOffice, tables_of, contents_of, content_in, file_in}
-use Rattle.office_tables.specs.Contents.{references_of, StandOnce, IsMarked, AreUsed, KeepsOnce, KeepsFiles, content_after, IsContentAdded, IsContentThere, IsNewContent, IsContentKept, IsFileAdded, IsMarkedPut, AreFilesDropped, AreUsedOr, IsTidied}
+use Rattle.office_tables.specs.Contents.{references_of, StandOnce, IsMarked, AreUsed, KeepsOnce, KeepsFiles, content_after, IsContentAdded, IsNewContent, number_alike, content_number, IsContentKept, IsFileAdded, IsMarkedPut, AreFilesDropped, AreUsedOr, IsTidied}
 use Rattle.office_tables.proofs.TablePlaces.{of_files, of_contents}
 use Rattle.office_tables.proofs.Frames.{idle, becomes, with_edit, contents_after, references_after, file_rows_after}
 use Rattle.office_tables.proofs.LastRow.{reads_last}
@@ -168,33 +168,17 @@ passes_likeness mark bytes r it = ap₂ ◌&&◌
 each_like : (db : Database) → IsOffice db → (mark bytes : List ℕ) → AllByRecursion (λ r. passes (Blob mark ∷ Blob bytes ∷ []) by_likeness r ≡ is_like mark bytes r) (db.trees content_tree)
 each_like db office mark bytes = all_from _ (db.trees content_tree) (λ r there. passes_likeness mark bytes r (all_has IsContentRow (db.trees content_tree) r (content_rows db office) there))
 
--- the number that a row shows is that of a content with the mark and the bytes
+-- the first row shows the number of the first content with the mark and the bytes
 pub finds_alike : (old new : State) (mark bytes : List ℕ) (rows : List Row) → IsOffice old.now → Shown alike_text (Blob mark ∷ Blob bytes ∷ []) old new rows
-    → (new.now ≡ old.now) × (rows ≡ [] → list_any (is_alike mark bytes) (contents_of old.now) ≡ false)
-    × ((x : Row) → slice_get rows 0 ≡ Some x → (c : ContentRow) × Has (contents_of old.now) c × (int_at x 0 ≡ c.id) × (is_alike mark bytes c ≡ true))
+    → (new.now ≡ old.now) × (number_alike mark bytes (contents_of old.now) ≡ option_map (λ row. int_at row 0) (slice_get rows 0))
 finds_alike old new mark bytes rows office h =
     let params : Row = Blob mark ∷ Blob bytes ∷ [] in
-    let db = old.now.trees in
-    let each = each_like old.now office mark bytes in
-    let found = reads_scan office_schema alike_text content_tree by_likeness (only 0) [] content_meanings.asks_alike params old new office.whole.schema_is rows h in (
-      reads_same office_schema alike_text content_tree by_likeness (only 0) [] content_meanings.asks_alike params old new office.whole.schema_is rows h,
-      λ none. elim (cases_Bool (list_any (is_alike mark bytes) (contents_of old.now))) [
-        | inl some ↦ absurd (
-            let c = some_has (is_alike mark bytes) (contents_of old.now) some in
-            let r = has_mapped content_in (db content_tree) c.0 c.1 in
-            let keeps : is_like mark bytes r.0 ≡ true = ap (is_alike mark bytes) (sym r.2) ∙ c.2 in
-            let x = answer_complete db params content_tree by_likeness (only 0) [] rows (is_like mark bytes) found each r.0 r.1 keeps in
-            subst (λ rs. Has rs (shown_of params (only 0) r.0)) none x)
-        | inr isnt ↦ isnt
-      ],
-      λ x first.
-          let r = answer_sound db params content_tree by_likeness (only 0) [] rows (is_like mark bytes) found each x (first_has rows x first) in
-          (content_in r.0, mapped_has content_in (db content_tree) r.0 r.1, ap (λ row. int_at row 0) r.3, r.2),
+    let stored = old.now.trees content_tree in
+    let ascends = ascending_weaker _ _ (λ a b lower. rw lower refl) stored (of_contents office.whole.shaped).0 in
+    let is = reads_rising office_schema alike_text content_tree by_likeness (only 0) rising content_meanings.asks_alike params old new office.whole.schema_is rows h (is_like mark bytes) (each_like old.now office mark bytes) ascends in (
+      reads_same office_schema alike_text content_tree by_likeness (only 0) rising content_meanings.asks_alike params old new office.whole.schema_is rows h,
+      finds_part stored rows (is_like mark bytes) (shown_of params (only 0)) content_in (is_alike mark bytes) (λ r. refl) is (λ (c : ContentRow). c.id) (λ row. int_at row 0) (λ r. refl),
     )
-  where
-    first_has : (rs : List Row) (x : Row) → slice_get rs 0 ≡ Some x → Has rs x
-    first_has [] x is = absurd cc
-    first_has (r ∷ rs) x is = let same : r ≡ x = cc in inl (sym same)
 
 pub finds_last : (old new : State) (rows : List Row) → IsOffice old.now → Shown last_text [] old new rows
     → (new.now ≡ old.now) × (last_number (λ (c : ContentRow). c.id) (contents_of old.now) ≡ option_map (λ row. int_at row 0) (slice_get rows 0))
@@ -319,9 +303,20 @@ removes_content old new id count office h =
 
 -- ---- what the calls in turn say
 
--- a row that shows a content with the mark and the bytes
-pub found_alike : (mark bytes : List ℕ) (db : Database) → IsOffice db → (x : Row) → (c : ContentRow) → Has (contents_of db) c → int_at x 0 ≡ c.id → is_alike mark bytes c ≡ true → IsContentThere mark bytes (int_at x 0) db
-found_alike mark bytes db office x c there is alike = record { content = c; there = there; numbered = ap (λ n. content_numbered n (contents_of db)) is ∙ content_there db office c there; alike = alike }
+-- the content whose number was found, if one was
+alike_there : (mark bytes : List ℕ) (cs : List ContentRow) (id : ℤ) → number_alike mark bytes cs ≡ Some id → (c : ContentRow) × Has cs c × (is_alike mark bytes c ≡ true) × (c.id ≡ id)
+alike_there mark bytes cs id = by (find (is_alike mark bytes) cs) refl
+  where
+    by : (o : Option ContentRow) → find (is_alike mark bytes) cs ≡ o → option_map (λ (c : ContentRow). c.id) o ≡ Some id → (c : ContentRow) × Has cs c × (is_alike mark bytes c ≡ true) × (c.id ≡ id)
+    by None found is = absurd cc
+    by (Some c) found is = let it = has_found (is_alike mark bytes) cs c found in (c, it.0, it.1, same_Some c.id id is)
+
+none_alike : (mark bytes : List ℕ) (cs : List ContentRow) → number_alike mark bytes cs ≡ None → list_any (is_alike mark bytes) cs ≡ false
+none_alike mark bytes [] none = refl
+none_alike mark bytes (c ∷ cs) none = elim (cases_Bool (is_alike mark bytes c)) [
+  | inl is ↦ absurd (let some : Some c.id ≡ None = rw is at none in cc)
+  | inr isnt ↦ rw isnt (none_alike mark bytes cs (rw isnt at none))
+]
 
 last_is : (cs : List ContentRow) (c : ContentRow) → last_number (λ (d : ContentRow). d.id) (cs ++ c ∷ []) ≡ Some c.id
 last_is [] c = refl
@@ -387,19 +382,25 @@ pub is_marked_put : (n : ℤ) (path mark bytes : List ℕ) (id : ℤ) (old mid n
     → IsMarkedPut (record { deposit = n; path = path; content = bytes }) mark old new
 is_marked_put n path mark bytes id old mid new office (inl reused) added =
     let cs = contents_of old in
-    let there = reused.there in
+    let there = alike_there mark bytes cs id reused.found in
     let same_contents : contents_of new ≡ cs = added.contents ∙ ap contents_of reused.same in
-    let has_bytes : there.content.bytes ≡ bytes = (bytes_eq-Decides there.content.bytes bytes).0 (and_parts _ _ there.alike).1 in
-    let under : bytes_under (contents_of mid) id ≡ bytes = ap (λ db. bytes_under (contents_of db) id) reused.same ∙ ap (λ (o : Option ContentRow). unwrap_or (option_map (λ c. c.bytes) o) []) there.numbered ∙ has_bytes in
-    let found : list_any (is_alike mark bytes) cs ≡ true = some_from (is_alike mark bytes) cs there.content there.there there.alike in
+    let same_references : references_of new ≡ references_of old ++ id ∷ [] = added.references ∙ ap (λ db. references_of db ++ id ∷ []) reused.same in
+    let number : content_number mark bytes cs ≡ id = ap (λ (o : Option ℤ). unwrap_or o (next_id cs)) reused.found in
+    let has_bytes : there.0.bytes ≡ bytes = (bytes_eq-Decides there.0.bytes bytes).0 (and_parts _ _ there.2).1 in
+    let numbered : content_numbered id cs ≡ Some there.0 = ap (λ m. content_numbered m cs) (sym there.3) ∙ content_there old (subst IsOffice reused.same office) there.0 there.1 in
+    let under : bytes_under (contents_of mid) id ≡ bytes = ap (λ db. bytes_under (contents_of db) id) reused.same ∙ ap (λ (o : Option ContentRow). unwrap_or (option_map (λ c. c.bytes) o) []) numbered ∙ has_bytes in
+    let found : list_any (is_alike mark bytes) cs ≡ true = some_from (is_alike mark bytes) cs there.0 there.1 there.2 in
     record {
       becomes = record { office = added.becomes.office; are = added.becomes.are ∙ with_bytes n path (bytes_under (contents_of mid) id) bytes (tables_of mid) (tables_of old) under (ap tables_of reused.same) };
       new_path = subst (λ db. file_at n path (tables_of db).files ≡ None) reused.same added.new_path;
       contents = same_contents ∙ let kept : cs ≡ with_content mark bytes cs = rw found refl in kept;
-      used = λ used. subst₂ AreUsed (sym (added.references ∙ ap (λ db. references_of db ++ id ∷ []) reused.same)) (sym same_contents) (held_used (references_of old ++ id ∷ []) cs (used_after (references_of old) id cs (used_held (references_of old) cs used)));
+      references = same_references ∙ ap (λ m. references_of old ++ m ∷ []) (sym number);
+      used = λ used. subst₂ AreUsed (sym same_references) (sym same_contents) (held_used (references_of old ++ id ∷ []) cs (used_after (references_of old) id cs (used_held (references_of old) cs used)));
     }
 is_marked_put n path mark bytes id old mid new office (inr (lacked, fresh)) added =
     let cs = contents_of old in
+    let none : list_any (is_alike mark bytes) cs ≡ false = none_alike mark bytes cs lacked in
+    let number : content_number mark bytes cs ≡ id = ap (λ (o : Option ℤ). unwrap_or o (next_id cs)) lacked ∙ sym fresh.numbered in
     let c = content_after cs mark bytes in
     let all = cs ++ c ∷ [] in
     let here : Has (contents_of mid) c = subst (λ xs. Has xs c) (sym fresh.contents) (has_pushed cs c) in
@@ -409,7 +410,8 @@ is_marked_put n path mark bytes id old mid new office (inr (lacked, fresh)) adde
     record {
       becomes = record { office = added.becomes.office; are = added.becomes.are ∙ with_bytes n path (bytes_under (contents_of mid) id) bytes (tables_of mid) (tables_of old) under fresh.keeps.becomes.are };
       new_path = subst (λ t. file_at n path t.files ≡ None) fresh.keeps.becomes.are added.new_path;
-      contents = added.contents ∙ fresh.contents ∙ let more : all ≡ with_content mark bytes cs = rw lacked refl in more;
+      contents = added.contents ∙ fresh.contents ∙ let more : all ≡ with_content mark bytes cs = rw none refl in more;
+      references = refs ∙ ap (λ m. references_of old ++ m ∷ []) (sym number);
       used = λ used. subst₂ AreUsed (sym refs) (sym (added.contents ∙ fresh.contents)) (held_used (references_of old ++ id ∷ []) all (all_push (λ (d : ContentRow). Has (references_of old ++ id ∷ []) d.id) cs c (used_after (references_of old) id cs (used_held (references_of old) cs used)) is_last));
     }
 

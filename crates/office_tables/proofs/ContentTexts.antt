@@ -28,7 +28,7 @@ abbrev pub by_likeness : List Term
 by_likeness = op2 (Compare Eq Binary) (col 1 2) (col 0 0) ∷ op2 (Compare Eq Binary) (col 1 4) (col 0 1) ∷ []
 
 abbrev pub alike_text : List ℕ
-alike_text = codes "SELECT id FROM content WHERE mark = ?1 AND bytes = ?2"
+alike_text = codes "SELECT id FROM content WHERE mark = ?1 AND bytes = ?2 ORDER BY id"
 
 abbrev pub last_text : List ℕ
 last_text = codes "SELECT id FROM content ORDER BY id DESC LIMIT 1"
@@ -61,7 +61,7 @@ remove_text = codes "DELETE FROM content WHERE id = ?1"
 
 pub record ContentMeanings : Type 0 where
   pub asks_bytes : Asks office_schema bytes_text content_tree by_number (only 4) []
-  pub asks_alike : Asks office_schema alike_text content_tree by_likeness (only 0) []
+  pub asks_alike : Asks office_schema alike_text content_tree by_likeness (only 0) rising
   pub asks_last : AsksLast office_schema last_text content_tree
   pub asks_contents : Asks office_schema contents_text content_tree [] size_columns rising
   pub asks_users : AsksSome office_schema users_text file_tree by_content (only 1)

@@ -1,5 +1,5 @@
 -- The contents that are kept once, and what the calls on them say. `old` is the database before a call and `new` the one after it.
-use Rattle.std.specs.Prelude.{◌≡◌, ℕ, ℤ, pos, List, [], ◌∷◌, ◌++◌, map, length, true, false, bytes_eq, Option, Some, None, ◌⊎◌, Result, IfOk, OnOk}
+use Rattle.std.specs.Prelude.{◌≡◌, ℕ, ℤ, pos, List, [], ◌∷◌, ◌++◌, map, length, true, false, bytes_eq, Option, Some, None, find, option_map, unwrap_or, ◌⊎◌, Result, IfOk, OnOk}
 use Rattle.std.specs.List.{AllByRecursion, IsDistinct, list_any}
 use Rattle.sha2.specs.Sha256.{sha256}
 use Rattle.sqlite.specs.Store.{Ghosts}
@@ -75,24 +75,17 @@ pub record IsContentAdded (mark bytes : List ℕ) (old new : Database) : Type 0 
   pub keeps : KeepsFiles old new
   pub contents : contents_of new ≡ contents_of old ++ content_after (contents_of old) mark bytes ∷ []
 
--- the content under this number is there, with this mark and these bytes
-pub record IsContentThere (mark bytes : List ℕ) (id : ℤ) (db : Database) : Type 0 where
-  pub content : ContentRow
-  pub there : Has (contents_of db) content
-  pub numbered : content_numbered id (contents_of db) ≡ Some content
-  pub alike : is_alike mark bytes content ≡ true
+-- the number of the first content with this mark and these bytes
+abbrev pub number_alike : List ℕ → List ℕ → List ContentRow → Option ℤ
+number_alike mark bytes contents = option_map (λ c. c.id) (find (is_alike mark bytes) contents)
 
--- none has this mark and these bytes
-abbrev pub LacksContent : List ℕ → List ℕ → Database → Type 0
-LacksContent mark bytes db = list_any (is_alike mark bytes) (contents_of db) ≡ false
+-- the number of the content that a file with this mark and these bytes gets: that of the first that has them, and the next where none has
+abbrev pub content_number : List ℕ → List ℕ → List ContentRow → ℤ
+content_number mark bytes contents = unwrap_or (number_alike mark bytes contents) (next_id contents)
 
-abbrev pub IsFoundContent : List ℕ → List ℕ → Database → Option ℤ → Type 0
-IsFoundContent mark bytes db None = LacksContent mark bytes db
-IsFoundContent mark bytes db (Some id) = IsContentThere mark bytes id db
-
--- one that has them was there already, and nothing changed
+-- one that has them was there already under this number, and nothing changed
 pub record IsReused (mark bytes : List ℕ) (id : ℤ) (old new : Database) : Type 0 where
-  pub there : IsContentThere mark bytes id old
+  pub found : number_alike mark bytes (contents_of old) ≡ Some id
   pub same : new ≡ old
 
 -- it came at the end under this number
@@ -101,9 +94,9 @@ pub record IsNewContent (mark bytes : List ℕ) (id : ℤ) (old new : Database) 
   pub numbered : id ≡ next_id (contents_of old)
   pub contents : contents_of new ≡ contents_of old ++ content_after (contents_of old) mark bytes ∷ []
 
--- a content with this mark and these bytes is there now under this number, and was added only where none was
+-- the first content with this mark and these bytes has this number now, and one was added only where none was
 abbrev pub IsContentKept : List ℕ → List ℕ → Database → Database → ℤ → Type 0
-IsContentKept mark bytes old new id = IsReused mark bytes id old new ⊎ (LacksContent mark bytes old × IsNewContent mark bytes id old new)
+IsContentKept mark bytes old new id = IsReused mark bytes id old new ⊎ ((number_alike mark bytes (contents_of old) ≡ None) × IsNewContent mark bytes id old new)
 
 -- a file came at the end, whose content is the one under this number
 pub record IsFileAdded (n : ℤ) (path : List ℕ) (id : ℤ) (old new : Database) : Type 0 where
@@ -118,11 +111,12 @@ pub record AreFilesDropped (n : ℤ) (old new : Database) : Type 0 where
   pub contents : contents_of new ≡ contents_of old
   pub references : (id : ℤ) → Has (references_of old) id → Has (references_of new) id ⊎ ((row : Row) × Has (old.trees file_tree) row × (int_eq (int_at row 1) n ≡ true) × (int_at row 3 ≡ id))
 
--- this file came at the end; its content was there under that mark, or came at the end too
+-- this file came at the end; its content is the first that was there under that mark, or came at the end too
 pub record IsMarkedPut (f : FileRow) (mark : List ℕ) (old new : Database) : Type 0 where
   pub becomes : Becomes new (with_file f (tables_of old))
   pub new_path : file_at f.deposit f.path (tables_of old).files ≡ None
   pub contents : contents_of new ≡ with_content mark f.content (contents_of old)
+  pub references : references_of new ≡ references_of old ++ content_number mark f.content (contents_of old) ∷ []
   pub used : AreUsed (references_of old) (contents_of old) → AreUsed (references_of new) (contents_of new)
 
 -- ---- contents that nobody keeps

@@ -1,12 +1,12 @@
 //! The files of deposits.
 
-ghost use Rattle.std.specs.Prelude.{◌≡◌, None, Some, pos, map, option_map, slice_get};
+ghost use Rattle.std.specs.Prelude.{◌≡◌, ◌++◌, ◌∷◌, [], None, Some, pos, map, option_map, slice_get};
 ghost use Rattle.sha2.specs.Sha256.{sha256};
 ghost use Rattle.sql_meaning.specs.Columns.{int_at};
 ghost use Rattle.office_rows.specs.Rows.{bytes_under, file_at, with_content, with_file, without_files};
 ghost use Rattle.office_tables.specs.Calls.{GoesOnInTurn, GoesOnInside, Keeps, Shows, Tells, Writes};
 ghost use Rattle.office_tables.specs.Tables.{contents_of, tables_of};
-ghost use Rattle.office_tables.specs.Contents.{AreFilesDropped, AreUsed, Does, IsFileAdded, IsMarkedPut, LeavesOnce, StandOnce, references_of};
+ghost use Rattle.office_tables.specs.Contents.{AreFilesDropped, AreUsed, Does, IsFileAdded, IsMarkedPut, LeavesOnce, StandOnce, content_number, references_of};
 ghost use Rattle.std.specs.List.{AllByRecursion};
 ghost use Rattle.office_tables.specs.Deposits.{shown_path, files_by_path};
 
@@ -76,7 +76,8 @@ fn put_kept<S: Alter>(
     add_file(tx, number, path, id)
 }
 
-/// Adds a file to the deposit of that number. A content that is kept under that mark is reused where its bytes are these.
+/// Adds a file to the deposit of that number. Its content is the first that is kept under that mark with
+/// these bytes; where there is none, it is kept at the end.
 ///
 /// Fails with `Store` where the deposit has a file of that path, and with `Memory` or `Store`.
 pub fn put_marked<S: Alter>(
@@ -93,6 +94,9 @@ pub fn put_marked<S: Alter>(
         file_at (pos number) path.now tables.files ≡ None) }
     ensures contents { Does S.Store tx.old.conn.now tx.new.conn.now result (λ old new _.
         contents_of new ≡ with_content mark.now content.now (contents_of old)) }
+    ensures references { Does S.Store tx.old.conn.now tx.new.conn.now result (λ old new _.
+        references_of new ≡ references_of old
+        ++ content_number mark.now content.now (contents_of old) ∷ []) }
     ensures used { Does S.Store tx.old.conn.now tx.new.conn.now result (λ old new _.
         AreUsed (references_of old) (contents_of old)
         → AreUsed (references_of new) (contents_of new)) }
@@ -120,6 +124,9 @@ pub fn put_file<S: Alter>(
         file_at (pos number) path.now tables.files ≡ None) }
     ensures contents { Does S.Store tx.old.conn.now tx.new.conn.now result (λ old new _.
         contents_of new ≡ with_content (sha256 content.now) content.now (contents_of old)) }
+    ensures references { Does S.Store tx.old.conn.now tx.new.conn.now result (λ old new _.
+        references_of new ≡ references_of old
+        ++ content_number (sha256 content.now) content.now (contents_of old) ∷ []) }
     ensures used { Does S.Store tx.old.conn.now tx.new.conn.now result (λ old new _.
         AreUsed (references_of old) (contents_of old)
         → AreUsed (references_of new) (contents_of new)) }

@@ -1,16 +1,15 @@
 //! The contents of files, each kept once.
 
-ghost use Rattle.std.specs.Prelude.{◌≡◌, ℤ, List, [], ◌∷◌, true, false, IfErr, IfOk, Some, map, filter, not, slice_get, option_map};
+ghost use Rattle.std.specs.Prelude.{◌≡◌, ℤ, List, [], ◌∷◌, true, IfErr, IfOk, Some, map, filter, not, slice_get, option_map};
 ghost use Rattle.std.specs.List.{list_any};
 ghost use Rattle.std.specs.Ordering.{int_eq};
-ghost use Rattle.sqlite_rules.specs.Lists.{Has};
 ghost use Rattle.sql_meaning.specs.Columns.{int_at, bytes_at};
-ghost use Rattle.office_rows.specs.Rows.{content_numbered, is_content, is_alike, last_number};
+ghost use Rattle.office_rows.specs.Rows.{content_numbered, is_content, last_number};
 ghost use Rattle.office_tables.specs.Schema.{file_tree};
 ghost use Rattle.office_tables.specs.Faults.{IsFailure};
 ghost use Rattle.office_tables.specs.Tables.{contents_of};
 ghost use Rattle.office_tables.specs.Calls.{GoesOnInTurn, GoesOnInside};
-ghost use Rattle.office_tables.specs.Contents.{Does, KeepsFiles, IsContentAdded, IsNewContent, IsContentKept, IsFoundContent, IsTidied};
+ghost use Rattle.office_tables.specs.Contents.{Does, KeepsFiles, IsContentAdded, IsNewContent, IsContentKept, IsTidied, number_alike};
 
 use crate::fault::{Result, TableFault};
 use crate::run::{ask, change, number_in};
@@ -28,19 +27,18 @@ fn rows_of_content<S: Alter>(tx: &mut Transaction<'_, S>, id: i64) -> Result<Vec
     ask(tx, "SELECT bytes FROM content WHERE id = ?1", params![id])
 }
 
-/// Rows that show the numbers of the contents with that mark and these bytes; the store compares the bytes.
+/// Rows that show the numbers of the contents with that mark and these bytes, ascending; the store
+/// compares the bytes.
 fn rows_alike<S: Alter>(tx: &mut Transaction<'_, S>, mark: &[u8], bytes: &[u8]) -> Result<Vec<Row>>
     ensures inside { GoesOnInside S.Store tx.old.conn tx.new.conn result }
     ensures found { Does S.Store tx.old.conn.now tx.new.conn.now result (λ old new rows.
         (new ≡ old)
-        × (rows.items ≡ [] → list_any (is_alike mark.now bytes.now) (contents_of old) ≡ false)
-        × ((x : _) → slice_get rows.items 0 ≡ Some x
-        → (c : _) × Has (contents_of old) c × (int_at x 0 ≡ c.id)
-        × (is_alike mark.now bytes.now c ≡ true))) }
+        × (number_alike mark.now bytes.now (contents_of old)
+        ≡ option_map (λ row. int_at row 0) (slice_get rows.items 0))) }
 {
     ask(
         tx,
-        "SELECT id FROM content WHERE mark = ?1 AND bytes = ?2",
+        "SELECT id FROM content WHERE mark = ?1 AND bytes = ?2 ORDER BY id",
         params![mark, bytes],
     )
 }
@@ -123,7 +121,7 @@ pub(crate) fn content_of<S: Alter>(tx: &mut Transaction<'_, S>, id: i64) -> Resu
     }
 }
 
-/// The number of a content with that mark and these bytes, if there is one.
+/// The number of the first content with that mark and these bytes, if there is one.
 fn content_alike<S: Alter>(
     tx: &mut Transaction<'_, S>,
     mark: &[u8],
@@ -131,7 +129,7 @@ fn content_alike<S: Alter>(
 ) -> Result<Option<i64>>
     ensures inside { GoesOnInside S.Store tx.old.conn tx.new.conn result }
     ensures found { Does S.Store tx.old.conn.now tx.new.conn.now result (λ old new found.
-        (new ≡ old) × IsFoundContent mark.now bytes.now old found) }
+        (new ≡ old) × (number_alike mark.now bytes.now (contents_of old) ≡ found)) }
 {
     let rows = rows_alike(tx, mark, bytes)?;
     match rows.first() {
@@ -163,7 +161,8 @@ fn new_content<S: Alter>(tx: &mut Transaction<'_, S>, mark: &[u8], bytes: &[u8])
     last_content(tx)
 }
 
-/// The number of a content with that mark and these bytes, which is added at the end where there is none.
+/// The number of the first content with that mark and these bytes; where there is none, one is added at
+/// the end.
 pub(crate) fn keep_content<S: Alter>(
     tx: &mut Transaction<'_, S>,
     mark: &[u8],
