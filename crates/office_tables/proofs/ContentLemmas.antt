@@ -1,5 +1,5 @@
 -- What the statements on contents do to the rows of an office.
-use Rattle.std.proofs.Common.{arith, ◌≡◌, ◌&&◌, ◌||◌, ◌⊎◌, ◌==◌, ap₂, not, bytes_eq, ℕ, ℤ, pos, ◌+ℤ◌, List, [], ◌∷◌, ◌++◌, map, filter, find, fold, length, slice_get, option_map, unwrap_or, Bool, true, false, Option, None, Some, Ok, refl, sym, ap, subst, subst₂, ◌∙◌, inl, inr}
+use Rattle.std.proofs.Common.{arith, ◌≡◌, ◌&&◌, ◌||◌, ◌⊎◌, ◌==◌, ap₂, not, bytes_eq, ℕ, ℤ, pos, ◌+ℤ◌, List, [], ◌∷◌, ◌++◌, map, filter, find, fold, length, slice_get, option_map, unwrap_or, Bool, true, false, Option, None, Some, Ok, refl, sym, ap, subst, subst₂, ◌∙◌, inl, inr, if◌then◌else◌}
 use Rattle.std.specs.List.{AllByRecursion, IsDistinct, list_any}
 use Rattle.std.proofs.lemmas.Slice.Eq.{bytes_eq-Decides}
 use Rattle.sha2.specs.Sha256.{sha256}
@@ -33,6 +33,7 @@ use Rattle.sqlite_rules.proofs.TableLemmas.{int_is}
 use Rattle.sqlite_schema.specs.declared.schema.Constraint.TheVariants.{Datatype, NotNull, ForeignKey}
 use Rattle.sqlite_schema.specs.Names.{same_name}
 use Rattle.sqlite_schema.specs.Rules.{agree, has_null}
+use Rattle.sqlite_trees.proofs.ListLemmas.{filter_same}
 use Rattle.sqlite_trees.specs.View.{IsShaped}
 use Rattle.sqlite_trees.specs.declared.store.Shape.TheVariants as shape
 use Rattle.sql_meaning.specs.Columns.{int_at, bytes_at}
@@ -49,7 +50,7 @@ use Rattle.sql_meaning.proofs.Changing.{drops}
 use Rattle.office_tables.specs.Schema.{office_schema, content_table, file_table, file_tree, content_tree}
 use Rattle.office_rows.specs.Rows.{FileRow, ContentRow, is_content, content_numbered, bytes_under, is_alike, next_id, last_number, with_content, with_file, file_at, Tables}
 use Rattle.office_tables.specs.Tables.{IsOffice, tables_of, contents_of, content_in, file_in}
-use Rattle.office_tables.specs.Contents.{references_of, StandOnce, IsMarked, AreUsed, KeepsOnce, KeepsFiles, content_after, IsContentAdded, IsNewContent, number_alike, content_number, IsContentKept, IsFileAdded, IsMarkedPut, AreFilesDropped, AreUsedOr, IsTidied}
+use Rattle.office_tables.specs.Contents.{references_of, StandOnce, IsMarked, AreUsed, KeepsOnce, KeepsFiles, content_after, IsContentAdded, IsNewContent, number_alike, content_number, IsContentKept, IsFileAdded, IsMarkedPut, AreFilesDropped, AreUsedOr, IsTidied, is_among, without_unused, references_within, references_without, contents_without}
 use Rattle.office_tables.proofs.TablePlaces.{of_files, of_contents}
 use Rattle.office_tables.proofs.Frames.{idle, becomes, with_edit, contents_after, references_after, file_rows_after}
 use Rattle.office_tables.proofs.LastRow.{reads_last}
@@ -424,9 +425,29 @@ sym_tidied id ids refs (c ∷ cs) there used = (
   sym_tidied id ids refs cs there used.1,
 )
 
+any_mapped : (p : ℤ → Bool) (rows : List Row) → list_any p (map (λ row. int_at row 3) rows) ≡ list_any (λ r. p (int_at r 3)) rows
+any_mapped p [] = refl
+any_mapped p (r ∷ rows) = ap (λ b. p (int_at r 3) || b) (any_mapped p rows)
+
+or_true : (b : Bool) → (b || true) ≡ true
+or_true true = refl
+or_true false = refl
+
+-- whether a file has the content of that number
+among_is : (id : ℤ) (db : Database) (used : Bool) → list_any (refers_to id) (db.trees file_tree) ≡ used → (c : ContentRow) → is_content id c ≡ true → is_among (references_of db) c ≡ used
+among_is id db used some c is = any_mapped (λ k. int_eq k c.id) (db.trees file_tree) ∙ ap (λ k. list_any (λ r. int_eq (int_at r 3) k) (db.trees file_tree)) (same_number c.id id is) ∙ some
+
+-- a content of another number stays
+others_stay : (id : ℤ) (refs : List ℤ) (c : ContentRow) → is_content id c ≡ false → (is_among refs c || not (is_content id c)) ≡ true
+others_stay id refs c isnt = ap (λ b. is_among refs c || not b) isnt ∙ or_true (is_among refs c)
+
 -- a content that some file has stays
 pub tidies_used : (id : ℤ) (ids : List ℤ) (old new : Database) → IsOffice old → new ≡ old → list_any (λ r. int_eq (int_at r 3) id) (old.trees file_tree) ≡ true → IsTidied (id ∷ ids) ids old new
 tidies_used id ids old new office same some =
+    let stays : (c : ContentRow) → (is_among (references_of old) c || not (is_content id c)) ≡ true = λ c. elim (cases_Bool (is_content id c)) [
+      | inl is ↦ ap (λ b. b || not (is_content id c)) (among_is id old true some c is)
+      | inr isnt ↦ others_stay id (references_of old) c isnt
+    ] in
     let it = some_has (λ r. int_eq (int_at r 3) id) (old.trees file_tree) some in
     let there : Has (references_of old) id = subst (Has (references_of old)) (same_number (int_at it.0 3) id it.2) (mapped_has (λ row. int_at row 3) (old.trees file_tree) it.0 it.1) in
     subst (λ db. IsTidied (id ∷ ids) ids old db) (sym same) (record {
@@ -434,6 +455,7 @@ tidies_used id ids old new office same some =
       once = λ once. once;
       marked = λ marked. marked;
       used = λ used. sym_tidied id ids (references_of old) (contents_of old) there used;
+      contents = ap (without_unused ids (references_of old)) (sym (filter_all (λ (c : ContentRow). is_among (references_of old) c || not (is_content id c)) (contents_of old) (λ c there. stays c)));
     })
 
 all_filtered : {X : Type 0} (P : X → Type 0) (keep : X → Bool) (xs : List X) → AllByRecursion P xs → AllByRecursion P (filter keep xs)
@@ -455,12 +477,19 @@ once_filtered keep (c ∷ cs) once = elim (cases_Bool (keep c)) [
     ]
 
 -- a content that no file has is taken out
-pub tidies_removed : (id : ℤ) (ids : List ℤ) (old new : Database) → KeepsFiles old new → contents_of new ≡ filter (λ c. not (is_content id c)) (contents_of old) → IsTidied (id ∷ ids) ids old new
-tidies_removed id ids old new keeps fewer =
+pub tidies_removed : (id : ℤ) (ids : List ℤ) (old new : Database) → KeepsFiles old new → contents_of new ≡ filter (λ c. not (is_content id c)) (contents_of old)
+    → list_any (refers_to id) (old.trees file_tree) ≡ false → IsTidied (id ∷ ids) ids old new
+tidies_removed id ids old new keeps fewer none =
     let cs = contents_of old in
     let others : ContentRow → Bool = λ c. not (is_content id c) in
+    let stays : ContentRow → Bool = λ c. is_among (references_of old) c || not (is_content id c) in
+    let alike : (c : ContentRow) → others c ≡ stays c = λ c. elim (cases_Bool (is_content id c)) [
+      | inl is ↦ sym (ap (λ b. b || not (is_content id c)) (among_is id old false none c is))
+      | inr isnt ↦ ap not isnt ∙ sym (others_stay id (references_of old) c isnt)
+    ] in
     record {
       keeps = keeps;
+      contents = ap₂ (λ refs ds. without_unused ids refs ds) keeps.references (fewer ∙ filter_same others stays cs (all_from (λ c. others c ≡ stays c) cs (λ c there. alike c)));
       once = λ once. subst StandOnce (sym fewer) (once_filtered others cs once);
       marked = λ marked. subst (AllByRecursion IsMarked) (sym fewer) (all_filtered IsMarked others cs marked);
       used = λ used. subst₂ (AreUsedOr ids) (sym keeps.references) (sym fewer) (all_from (λ (c : ContentRow). Has (references_of old) c.id ⊎ Has ids c.id) (filter others cs) (λ c there.
@@ -482,7 +511,44 @@ tidied_then a b c old mid new first second = record {
   once = λ once. second.once (first.once once);
   marked = λ marked. second.marked (first.marked marked);
   used = λ used. second.used (first.used used);
+  contents = second.contents ∙ first.contents;
 }
+
+-- ---- all of them at once
+
+filtered_twice : (p q r : ContentRow → Bool) → ((c : ContentRow) → (p c && q c) ≡ r c) → (cs : List ContentRow) → filter q (filter p cs) ≡ filter r cs
+filtered_twice p q r both [] = refl
+filtered_twice p q r both (c ∷ cs) = elim (cases_Bool (p c)) [
+  | inl is ↦ let e : q c ≡ r c = sym (ap (λ b. b && q c) is) ∙ both c in rw (is, e) (ap (λ more. if r c then c ∷ more else more) (filtered_twice p q r both cs))
+  | inr isnt ↦ let e : r c ≡ false = sym (both c) ∙ ap (λ b. b && q c) isnt in rw (isnt, e) (filtered_twice p q r both cs)
+]
+
+stays_twice : (a x y : Bool) → ((a || not x) && (a || not y)) ≡ (a || not (x || y))
+stays_twice true x y = refl
+stays_twice false true y = refl
+stays_twice false false y = refl
+
+without_each : (ids refs : List ℤ) (cs : List ContentRow) → without_unused ids refs cs ≡ filter (λ c. is_among refs c || not (list_any (λ id. is_content id c) ids)) cs
+without_each [] refs cs = sym (filter_all (λ (c : ContentRow). is_among refs c || true) cs (λ c there. or_true (is_among refs c)))
+without_each (id ∷ ids) refs cs =
+    without_each ids refs (filter (λ c. is_among refs c || not (is_content id c)) cs)
+    ∙ filtered_twice (λ c. is_among refs c || not (is_content id c)) (λ c. is_among refs c || not (list_any (λ k. is_content k c) ids)) (λ c. is_among refs c || not (is_content id c || list_any (λ k. is_content k c) ids))
+    (λ c. stays_twice (is_among refs c) (is_content id c) (list_any (λ k. is_content k c) ids)) cs
+
+-- a number is among those of one list where it is among those of the other
+same_among : (xs ys : List ℤ) (k : ℤ) → (Has xs k → Has ys k) → (Has ys k → Has xs k) → list_any (λ id. int_eq k id) xs ≡ list_any (λ id. int_eq id k) ys
+same_among xs ys k there back = elim (cases_Bool (list_any (λ id. int_eq k id) xs)) [
+  | inl some ↦
+      let x = some_has (λ id. int_eq k id) xs some in
+      some ∙ sym (some_from (λ id. int_eq id k) ys k (there (subst (Has xs) (sym (same_number k x.0 x.2)) x.1)) (int_itself k))
+  | inr none ↦ elim (cases_Bool (list_any (λ id. int_eq id k) ys)) [
+    | inl some ↦ absurd (
+        let y = some_has (λ id. int_eq id k) ys some in
+        let also : list_any (λ id. int_eq k id) xs ≡ true = some_from (λ id. int_eq k id) xs k (back (subst (Has ys) (same_number y.0 k y.2) y.1)) (int_itself k) in
+        let clash : true ≡ false = sym also ∙ none in cc)
+    | inr also ↦ none ∙ sym also
+  ]
+]
 
 -- ---- kept once
 
@@ -564,3 +630,20 @@ module _ (n : ℤ) (ids : List ℤ) (old mid new : Database) (theirs : (r : Row)
     marked = tidied.marked (subst (AllByRecursion IsMarked) (sym dropped.contents) kept.marked);
     used = drop_used kept.used;
   }
+
+  -- and what is left of references and contents, whatever they were
+  pub drop_references : references_of new ≡ references_without n (tables_of old).files (references_of old)
+  drop_references = tidied.keeps.references ∙ dropped.left
+
+  pub drop_contents : ((id : ℤ) → Has ids id → Has (references_within n (tables_of old).files (references_of old)) id) → ((id : ℤ) → Has (references_within n (tables_of old).files (references_of old)) id → Has ids id)
+      → contents_of new ≡ contents_without n (tables_of old).files (references_of old) (contents_of old)
+  drop_contents there back =
+      let cs = contents_of old in
+      let left = references_without n (tables_of old).files (references_of old) in
+      let gone = references_within n (tables_of old).files (references_of old) in
+      tidied.contents
+      ∙ ap₂ (λ refs ds. without_unused ids refs ds) dropped.left dropped.contents
+      ∙ without_each ids left cs
+      ∙ filter_same (λ c. is_among left c || not (list_any (λ id. is_content id c) ids)) (λ c. is_among left c || not (is_among gone c)) cs
+      (all_from (λ c. (is_among left c || not (list_any (λ id. is_content id c) ids)) ≡ (is_among left c || not (is_among gone c))) cs
+      (λ c _. ap (λ b. is_among left c || not b) (same_among ids gone c.id (there c.id) (back c.id))))

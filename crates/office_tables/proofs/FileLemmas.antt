@@ -46,7 +46,7 @@ use Rattle.sqlite_schema.specs.declared.schema.Keys.TheVariants.{Enforced}
 use Rattle.sqlite_schema.specs.Rules.{agree, equal}
 use Rattle.sql_meaning.specs.Columns.{int_at, bytes_at}
 use Rattle.sql_meaning.proofs.Writing.{Changes, inserts}
-use Rattle.sql_meaning.proofs.Scanning.{scan, passes, shown_of, answer_complete}
+use Rattle.sql_meaning.proofs.Scanning.{scan, passes, shown_of, answer_sound, answer_complete}
 use Rattle.sql_meaning.proofs.Reading.{reads_same, reads_one, reads_scan, finds_part}
 use Rattle.sql_meaning.proofs.Inserts.{none_before}
 use Rattle.sql_meaning.proofs.Keys.{found_by, bytes_itself, int_itself, same_key, unclashed, same_text, same_int, lone}
@@ -58,7 +58,7 @@ use Rattle.office_tables.specs.Schema.{office_schema, file_table, file_tree}
 use Rattle.office_rows.proofs.Order.{map_back}
 use Rattle.office_rows.specs.Rows.{FileRow, ContentRow, bytes_under, is_file_of, is_file_at, file_at, with_file}
 use Rattle.office_tables.specs.Tables.{IsOffice, Becomes, tables_of, contents_of, file_in}
-use Rattle.office_tables.specs.Contents.{references_of, IsFileAdded, AreFilesDropped}
+use Rattle.office_tables.specs.Contents.{references_of, references_where, references_within, IsFileAdded, AreFilesDropped}
 use Rattle.office_tables.specs.Deposits.{shown_path, path_cmp, files_by_path}
 use Rattle.office_tables.proofs.TablePlaces.{of_files}
 use Rattle.office_tables.proofs.Frames.{idle, becomes, with_edit, file_rows_after, contents_after, references_after}
@@ -136,15 +136,40 @@ finds_content old new n path rows office h =
       finds_part stored rows (has_place n path) (shown_of params (only 3)) (file_in contents) (is_file_at n path) (λ r. refl) is (λ (f : FileRow). f.content) (content_under contents) (λ r. refl),
     )
 
+-- the references of the files that pass are those in their rows
+references_are : (those : FileRow → Bool) (test : Row → Bool) (contents : List ContentRow) → ((r : Row) → those (file_in contents r) ≡ test r) → (rows : List Row)
+    → references_where those (map (file_in contents) rows) (map (λ row. int_at row 3) rows) ≡ map (λ row. int_at row 3) (filter test rows)
+references_are those test contents tests [] = refl
+references_are those test contents tests (r ∷ rows) = elim (cases_Bool (test r)) [
+  | inl is ↦ let those_is : those (file_in contents r) ≡ true = tests r ∙ is in rw (those_is, is) (ap (λ more. int_at r 3 ∷ more) (references_are those test contents tests rows))
+  | inr isnt ↦ let those_is : those (file_in contents r) ≡ false = tests r ∙ isnt in rw (those_is, isnt) (references_are those test contents tests rows)
+]
+
 -- the numbers of the contents of a deposit's files
 pub finds_contents : (old new : State) (n : ℤ) (rows : List Row) → IsOffice old.now → Shown ids_text (Int n ∷ []) old new rows
     → (new.now ≡ old.now) × ((r : Row) → Has (old.now.trees file_tree) r → has_deposit n r ≡ true → Has (map (λ row. int_at row 0) rows) (int_at r 3))
+    × ((id : ℤ) → Has (map (λ row. int_at row 0) rows) id → Has (references_within n (tables_of old.now).files (references_of old.now)) id)
+    × ((id : ℤ) → Has (references_within n (tables_of old.now).files (references_of old.now)) id → Has (map (λ row. int_at row 0) rows) id)
 finds_contents old new n rows office h =
     let params : Row = Int n ∷ [] in
     let db = old.now.trees in
-    let found = reads_scan office_schema ids_text file_tree by_deposit (only 3) [] file_meanings.asks_ids params old new office.whole.schema_is rows h in (
+    let each = each_of old.now office n in
+    let found = reads_scan office_schema ids_text file_tree by_deposit (only 3) [] file_meanings.asks_ids params old new office.whole.schema_is rows h in
+    let all : (r : Row) → Has (db file_tree) r → has_deposit n r ≡ true → Has (map (λ row. int_at row 0) rows) (int_at r 3) = λ r there keeps.
+    mapped_has (λ row. int_at row 0) rows _ (answer_complete db params file_tree by_deposit (only 3) [] rows (has_deposit n) found each r there keeps) in
+    let within : references_within n (tables_of old.now).files (references_of old.now) ≡ map (λ row. int_at row 3) (filter (has_deposit n) (db file_tree)) =
+    references_are (is_file_of n) (has_deposit n) (contents_of old.now) (λ r. refl) (db file_tree) in (
       reads_same office_schema ids_text file_tree by_deposit (only 3) [] file_meanings.asks_ids params old new office.whole.schema_is rows h,
-      λ r there keeps. mapped_has (λ row. int_at row 0) rows _ (answer_complete db params file_tree by_deposit (only 3) [] rows (has_deposit n) found (each_of old.now office n) r there keeps),
+      all,
+      λ id there.
+          let x = has_mapped (λ row. int_at row 0) rows id there in
+          let r = answer_sound db params file_tree by_deposit (only 3) [] rows (has_deposit n) found each x.0 x.1 in
+          let is : int_at r.0 3 ≡ id = sym (x.2 ∙ ap (λ row. int_at row 0) r.3) in
+          subst₂ (λ ids k. Has ids k) (sym within) is (mapped_has (λ row. int_at row 3) (filter (has_deposit n) (db file_tree)) r.0 (has_kept (has_deposit n) (db file_tree) r.0 r.1 r.2)),
+      λ id there.
+          let r = has_mapped (λ row. int_at row 3) (filter (has_deposit n) (db file_tree)) id (subst (λ ids. Has ids id) within there) in
+          let it = has_filtered (has_deposit n) (db file_tree) r.0 r.1 in
+          subst (Has (map (λ row. int_at row 0) rows)) (sym r.2) (all r.0 it.0 it.1),
     )
 
 -- ---- a new file
@@ -201,6 +226,7 @@ drops_files old new n count office h =
     record {
       becomes = becomes old new edit count _ office (refl, (refl, tt)) done.change _ (ap (λ rows. record (tables_of old.now) { files = rows }) (ap (map decode) done.made ∙ others_stay));
       contents = contents_after old new edit count _ done.change;
+      left = ap (map (λ row. int_at row 3)) rows ∙ sym (references_are (λ f. not (is_file_of n f)) (λ r. not (has_deposit n r)) (contents_of old.now) (λ r. refl) (db file_tree));
       references = λ id there.
           let r = has_mapped (λ row. int_at row 3) (db file_tree) id there in
           elim (cases_Bool (has_deposit n r.0)) [

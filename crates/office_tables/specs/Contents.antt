@@ -1,5 +1,5 @@
 -- The contents that are kept once, and what the calls on them say. `old` is the database before a call and `new` the one after it.
-use Rattle.std.specs.Prelude.{◌≡◌, ℕ, ℤ, pos, List, [], ◌∷◌, ◌++◌, map, length, true, false, bytes_eq, Option, Some, None, find, option_map, unwrap_or, ◌⊎◌, Result, IfOk, OnOk}
+use Rattle.std.specs.Prelude.{◌≡◌, ℕ, ℤ, pos, List, [], ◌∷◌, ◌++◌, map, filter, length, true, bytes_eq, Bool, not, ◌||◌, if◌then◌else◌, Option, Some, None, find, option_map, unwrap_or, ◌⊎◌, Result, IfOk, OnOk}
 use Rattle.std.specs.List.{AllByRecursion, IsDistinct, list_any}
 use Rattle.sha2.specs.Sha256.{sha256}
 use Rattle.sqlite.specs.Store.{Ghosts}
@@ -10,7 +10,7 @@ use Rattle.sqlite.specs.Order.{Row}
 use Rattle.sqlite.specs.Effect.{Database}
 use Rattle.sqlite_rules.specs.Lists.{Has}
 use Rattle.sql_meaning.specs.Columns.{int_at}
-use Rattle.office_rows.specs.Rows.{ContentRow, FileRow, content_numbered, bytes_under, next_id, with_content, is_alike, file_at, with_file, without_files}
+use Rattle.office_rows.specs.Rows.{ContentRow, FileRow, is_content, bytes_under, next_id, with_content, is_alike, is_file_of, file_at, with_file, without_files}
 use Rattle.office_tables.specs.Schema.{file_tree}
 use Rattle.office_tables.specs.Tables.{IsOffice, Becomes, tables_of, contents_of}
 
@@ -105,10 +105,40 @@ pub record IsFileAdded (n : ℤ) (path : List ℕ) (id : ℤ) (old new : Databas
   pub references : references_of new ≡ references_of old ++ id ∷ []
   pub new_path : file_at n path (tables_of old).files ≡ None
 
+-- ---- what goes with the files of a deposit
+
+-- the references of the files that pass; references stand in the order of the files
+abbrev pub references_where : (FileRow → Bool) → List FileRow → List ℤ → List ℤ
+references_where those [] references = []
+references_where those (f ∷ files) [] = []
+references_where those (f ∷ files) (id ∷ references) = if those f then id ∷ references_where those files references else references_where those files references
+
+-- those of the deposit's files
+abbrev pub references_within : ℤ → List FileRow → List ℤ → List ℤ
+references_within n = references_where (is_file_of n)
+
+-- those of all other files
+abbrev pub references_without : ℤ → List FileRow → List ℤ → List ℤ
+references_without n = references_where (λ f. not (is_file_of n f))
+
+-- one of the references is to the content
+abbrev pub is_among : List ℤ → ContentRow → Bool
+is_among references c = list_any (λ id. int_eq id c.id) references
+
+-- the contents without those that files of the deposit have and no other file
+abbrev pub contents_without : ℤ → List FileRow → List ℤ → List ContentRow → List ContentRow
+contents_without n files references = filter (λ c. is_among (references_without n files references) c || not (is_among (references_within n files references) c))
+
+-- the contents without those of these numbers to which no reference is
+abbrev pub without_unused : List ℤ → List ℤ → List ContentRow → List ContentRow
+without_unused [] references contents = contents
+without_unused (id ∷ ids) references contents = without_unused ids references (filter (λ c. is_among references c || not (is_content id c)) contents)
+
 -- the files of the deposit are gone, and a reference that was there is one of those that still are or was one of theirs
 pub record AreFilesDropped (n : ℤ) (old new : Database) : Type 0 where
   pub becomes : Becomes new (without_files n (tables_of old))
   pub contents : contents_of new ≡ contents_of old
+  pub left : references_of new ≡ references_without n (tables_of old).files (references_of old)
   pub references : (id : ℤ) → Has (references_of old) id → Has (references_of new) id ⊎ ((row : Row) × Has (old.trees file_tree) row × (int_eq (int_at row 1) n ≡ true) × (int_at row 3 ≡ id))
 
 -- this file came at the end; its content is the first that was there under that mark, or came at the end too
@@ -131,6 +161,7 @@ pub record IsTidied (ids rest : List ℤ) (old new : Database) : Type 0 where
   pub once : StandOnce (contents_of old) → StandOnce (contents_of new)
   pub marked : AllByRecursion IsMarked (contents_of old) → AllByRecursion IsMarked (contents_of new)
   pub used : AreUsedOr ids (references_of old) (contents_of old) → AreUsedOr rest (references_of new) (contents_of new)
+  pub contents : without_unused rest (references_of new) (contents_of new) ≡ without_unused ids (references_of old) (contents_of old)
 
 -- ---- what kept once comes to
 

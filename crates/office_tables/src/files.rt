@@ -6,7 +6,7 @@ ghost use Rattle.sql_meaning.specs.Columns.{int_at};
 ghost use Rattle.office_rows.specs.Rows.{bytes_under, file_at, with_content, with_file, without_files};
 ghost use Rattle.office_tables.specs.Calls.{GoesOnInTurn, GoesOnInside, Keeps, Shows, Tells, Writes};
 ghost use Rattle.office_tables.specs.Tables.{contents_of, tables_of};
-ghost use Rattle.office_tables.specs.Contents.{AreFilesDropped, AreUsed, Does, IsFileAdded, IsMarkedPut, LeavesOnce, StandOnce, content_number, references_of};
+ghost use Rattle.office_tables.specs.Contents.{AreFilesDropped, AreUsed, Does, IsFileAdded, IsMarkedPut, LeavesOnce, StandOnce, content_number, contents_without, references_of, references_without};
 ghost use Rattle.std.specs.List.{AllByRecursion};
 ghost use Rattle.office_tables.specs.Deposits.{shown_path, files_by_path};
 
@@ -203,6 +203,12 @@ pub fn drop_files<S: Alter>(tx: &mut Transaction<'_, S>, number: u32) -> Result<
     ensures inside { GoesOnInside S.Store tx.old.conn tx.new.conn result }
     ensures becomes { Writes S.Store tx.old.conn.now tx.new.conn.now result
         (without_files (pos number)) }
+    ensures references { Does S.Store tx.old.conn.now tx.new.conn.now result (λ old new _.
+        references_of new
+        ≡ references_without (pos number) (tables_of old).files (references_of old)) }
+    ensures contents { Does S.Store tx.old.conn.now tx.new.conn.now result (λ old new _.
+        contents_of new ≡ contents_without (pos number) (tables_of old).files
+        (references_of old) (contents_of old)) }
     ensures used { Does S.Store tx.old.conn.now tx.new.conn.now result (λ old new _.
         AreUsed (references_of old) (contents_of old)
         → AreUsed (references_of new) (contents_of new)) }

@@ -6,7 +6,7 @@ use Rattle.sqlite.specs.Order.{Row}
 use Rattle.sql_meaning.specs.Columns.{int_at}
 use Rattle.office_tables.specs.Tables.{IsOffice}
 use Rattle.office_tables.specs.Contents.{AreFilesDropped, IsTidied}
-use Rattle.office_tables.proofs.ContentLemmas.{drop_once, drop_used}
+use Rattle.office_tables.proofs.ContentLemmas.{drop_contents, drop_once, drop_references, drop_used}
 use Rattle.office_tables.proofs.FileLemmas.{finds_contents}
 use Rattle.office_tables.proofs.InTurn.{clean_first}
 use Rattle.office_tables.proofs.files.drop_files.Goals as goal
@@ -32,6 +32,8 @@ returns g c =
         office = (tidied clean office).keeps.becomes.office;
         are = (tidied clean office).keeps.becomes.are ∙ (dropped clean office).becomes.are;
       };
+      references = λ clean office. drop_references n ids old.now mid.now new.now (shown clean office).1 (dropped clean office) (tidied clean office);
+      contents = λ clean office. drop_contents n ids old.now mid.now new.now (shown clean office).1 (dropped clean office) (tidied clean office) (shown clean office).2 (shown clean office).3;
       used = λ clean office. drop_used n ids old.now mid.now new.now (shown clean office).1 (dropped clean office) (tidied clean office);
       once = λ clean office. drop_once n ids old.now mid.now new.now (shown clean office).1 (dropped clean office) (tidied clean office);
     }

@@ -1,4 +1,4 @@
-use Rattle.std.proofs.Common.{◌≡◌, true, not, filter, rules, sym, subst, ◌∙◌, w64}
+use Rattle.std.proofs.Common.{◌≡◌, true, false, not, filter, rules, sym, subst, ◌∙◌, w64}
 use Rattle.sqlite.specs.Effect.{Database}
 use Rattle.sqlite.specs.State.{HasCleanDisk}
 use Rattle.std.proofs.lemmas.Int.{to_z-of_z}
@@ -22,7 +22,8 @@ returns-in_ok-remove_content-clause-tidied g c clean office ids =
     let removed = rw id at (c.in_ok-remove_content.ensures.removed clean still) in
     let from_old : KeepsFiles old new × (contents_of new ≡ filter (λ k. not (is_content c.args.id k)) (contents_of old)) =
     subst (λ (db : Database). KeepsFiles db new × (contents_of new ≡ filter (λ k. not (is_content c.args.id k)) (contents_of db))) used.0 removed in
-    tidies_removed c.args.id ids old new from_old.0 from_old.1
+    let isnt : c.in_ok-is_used.field-0 ≡ false = search rules in
+    tidies_removed c.args.id ids old new from_old.0 from_old.1 (used.1 ∙ isnt)
 
 pub returns-else-not-branch-clause-tidied : goal.returns-else-not-branch-clause-tidied
 returns-else-not-branch-clause-tidied g c clean office ids =
