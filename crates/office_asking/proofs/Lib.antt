@@ -21,3 +21,9 @@ pub mod MatchTold
 pub mod DuesDeposited
 pub mod DuesTold
 pub mod OneAnswer
+pub mod ServedBy
+pub mod FirstTold
+pub mod ComesTo
+pub mod TellsNothing
+pub mod RowsRead
+pub mod AskerRead

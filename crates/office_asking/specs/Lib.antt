@@ -1,6 +1,7 @@
 pub mod Pictures
 pub mod Serving
 pub mod Asking
+pub mod Told
 pub mod Deposits
 pub mod Holds
 pub mod Limits

@@ -1,17 +1,20 @@
 //! Who asks, and what the rules say of it.
 
-ghost use Rattle.std.specs.Prelude.{◌≡◌, ◌↔◌, ◌⊎◌, ◌≤ℤ◌, pos, IfErr, IfOk, IfSome, IsTrue, OnOk, option_copied, option_map, string_bytes};
+ghost use Rattle.std.specs.Prelude.{◌≡◌, ◌↔◌, ◌⊎◌, ◌≤ℤ◌, pos, IfErr, IfOk, IfSome, IsTrue, None, OnOk, Some, option_copied, option_map, string_bytes};
+ghost use Rattle.std.specs.Option.{ok_or};
 ghost use Rattle.jiff.specs.Words.{IsBetween};
 ghost use Rattle.office_core.specs.Bounds.{max_rules};
 ghost use Rattle.office_core.specs.Days.{IsDayNumber};
 ghost use Rattle.office_core.specs.Names.{is_name, IsName};
 ghost use Rattle.office_core.specs.Policies.{or_stranger};
 ghost use Rattle.office_tables.specs.Faults.{IsFailure};
-ghost use Rattle.office_tables.specs.Calls.{GoesOnInside, Keeps, Tells};
+ghost use Rattle.office_tables.specs.Calls.{GoesOnInside, Keeps, Shows, Tells};
 ghost use Rattle.office_history.specs.Pictures.{effect_number};
 ghost use Rattle.office_history.specs.Refusals.{deciding_rule, denial};
 ghost use Rattle.office_history.specs.RowRanges.{IsActionText, IsPatternText, IsRuleRow};
-ghost use Rattle.office_asking.specs.Asking.{IsAsker, IsDecisionOf, Visit, or_empty, visit_on};
+ghost use Rattle.office_by_rows.specs.Asking.{decision_by, decision_for, denial_for, denial_in, role_by};
+ghost use Rattle.office_by_rows.specs.Values.{effect_of};
+ghost use Rattle.office_asking.specs.Asking.{IsAsker, IsDecisionOf, IsAskerBy, Visit, or_empty, role_name, visit_on};
 ghost use Rattle.office_asking.specs.ByRows.{IsAskerIn, IsDecisionBy, IsDenialBy, deciding_row};
 ghost use Rattle.office_asking.specs.Serving.{Finds};
 
@@ -65,6 +68,7 @@ fn are_bounds(first: i64, last: i64) -> bool
 
 /// What a rule says of what it matches.
 fn effect_of(rule: &RuleRow) -> Result<Effect, TableFault>
+    ensures reads { result ≡ ok_or (effect_of rule.now.effect) TableFault.Store }
     ensures effect { IfOk result (λ effect. effect_number effect ≡ rule.now.effect) }
     ensures range { OnOk result ((rule.now.effect ≡ pos 0) ⊎ (rule.now.effect ≡ pos 1)) }
     ensures told { IsRuleRow rule.now → IfErr result (λ fault. ⊥) }
@@ -91,6 +95,7 @@ fn is_rule(row: &RuleRow) -> bool
 
 /// The decision that a rule's row tells.
 fn decision_in(row: &RuleRow) -> Result<Decision, TableFault>
+    ensures reads { result ≡ ok_or (decision_by row.now) TableFault.Store }
     ensures decision { IfOk result (IsDecisionOf row.now) }
     ensures told { IsRuleRow row.now → IsBetween (pos 1) (pos max_rules) row.now.place
         → IfErr result (λ fault. ⊥) }
@@ -131,6 +136,23 @@ pub struct Asker {
     day: Day,
 }
 
+/// The caller as it asks, by its role where it has one. A text that is no name is a fault of the store.
+fn asker_of(caller: &str, role: Option<String>, day: Day) -> Result<Asker, TableFault>
+    ensures role { IfOk result (λ asker.
+        role_by caller.now (option_map string_bytes role) ≡ Some (role_name asker)) }
+    ensures day { IfOk result (λ asker. asker.day ≡ day) }
+    ensures store { IfErr result (λ fault.
+        (role_by caller.now (option_map string_bytes role) ≡ None) × (fault ≡ TableFault.Store)) }
+    ensures names { OnOk result
+        (IfSome (option_map string_bytes role) (λ role. IsName caller.now × IsName role)) }
+{
+    if are_names(caller, role.as_ref().map(|role| role.as_str())) {
+        Ok(Asker { role, day })
+    } else {
+        Err(TableFault::Store)
+    }
+}
+
 impl Asker {
     /// Reads the caller's role. The rules are asked by that day.
     ///
@@ -146,12 +168,11 @@ impl Asker {
             IsAsker h (visit_on day caller.now) asker) }
         ensures rows { Tells S.Store tx.old.conn.now tx.new.conn.now result (λ tables asker.
             IsAskerIn tables (visit_on day caller.now) asker) }
+        ensures reads { Shows S.Store tx.old.conn.now tx.new.conn.now result (λ tables asker.
+            IsAskerBy tables (visit_on day caller.now) asker) }
     {
         let role = role_of(tx, caller)?;
-        if !are_names(caller, role.as_ref().map(|role| role.as_str())) {
-            return Err(TableFault::Store);
-        }
-        Ok(Asker { role, day })
+        asker_of(caller, role, day)
     }
 
     /// The caller's role, which is `stranger` where the policy gives none.
@@ -183,6 +204,10 @@ impl Asker {
             → IsDecisionBy
             (deciding_row tables visit action (option_copied collection.entry)
             (option_copied class.entry)) decision) }
+        ensures reads { Shows S.Store tx.old.conn.now tx.new.conn.now result (λ tables decision.
+            decision_for tables (role_name self.now) self.now.day action
+            (option_copied collection.entry) (option_copied class.entry)
+            ≡ Some decision) }
     {
         let found = match_rule(
             tx,
@@ -220,6 +245,10 @@ impl Asker {
             → IsDenialBy
             (deciding_row tables visit action (option_copied collection.entry)
             (option_copied class.entry)) why) }
+        ensures reads { Shows S.Store tx.old.conn.now tx.new.conn.now result (λ tables why.
+            denial_for tables (role_name self.now) self.now.day action
+            (option_copied collection.entry) (option_copied class.entry)
+            ≡ Some why) }
     {
         match denial_verdict(self.decision(tx, action, collection, class)?) {
             Some(verdict) => Ok(refusal_of(verdict)),
@@ -250,6 +279,10 @@ pub fn denial<S: Alter>(
         IsDenialBy
         (deciding_row tables (visit_on day caller.now) action (option_copied collection.entry)
         (option_copied class.entry)) why) }
+    ensures reads { Shows S.Store tx.old.conn.now tx.new.conn.now result (λ tables why.
+        denial_in tables (visit_on day caller.now) action (option_copied collection.entry)
+        (option_copied class.entry)
+        ≡ Some why) }
 {
     let asker = Asker::read(tx, day, caller)?;
     asker.denial(tx, action, collection, class)

@@ -1,15 +1,20 @@
 //! A deposit that is asked for.
 
-ghost use Rattle.std.specs.Prelude.{◌≡◌, ℕ, IfErr, IfOk, List, Some, option_map};
+ghost use Rattle.std.specs.Prelude.{◌≡◌, ℕ, IfErr, IfOk, List, [], ◌∷◌, None, OnErr, Some, option_map, pos};
+ghost use Rattle.std.specs.Result.{result_err};
 ghost use Rattle.jiff.specs.Types.{Date};
 ghost use Rattle.jiff.specs.Words.{epoch_day};
 ghost use Rattle.office_tables.specs.Faults.{IsFailure};
-ghost use Rattle.office_tables.specs.Calls.{GoesOnInside, Keeps, Tells};
+ghost use Rattle.office_rows.specs.Rows as rows;
+ghost use Rattle.office_tables.specs.Calls.{GoesOnInside, Keeps, Shows, Tells};
 ghost use Rattle.office_history.specs.Histories.{History, deposit_numbered};
 ghost use Rattle.office_history.specs.Pictures as pictures;
 ghost use Rattle.office_history.specs.Refusals as refusals;
 ghost use Rattle.office_history.specs.Refusals.{kept_refusals};
+ghost use Rattle.office_by_rows.specs.Asking.{days_of};
+ghost use Rattle.office_by_rows.specs.Refusals.{first_told, gone_refusal, kept_refusal};
 ghost use Rattle.office_asking.specs.Asking.{visit_on};
+ghost use Rattle.office_asking.specs.Told.{told_days};
 ghost use Rattle.office_asking.specs.Serving.{Finds};
 ghost use Rattle.office_asking.specs.Deposits.{IsDepositAsked};
 ghost use Rattle.office_asking.specs.ByRows.{AreDaysOf, IsAskedIn, IsFirst};
@@ -36,6 +41,8 @@ pub struct DepositDays {
 ///
 /// Fails with `Store`.
 pub fn days_in(row: &DepositRow) -> Result<DepositDays, TableFault>
+    ensures reads { IfOk result (λ days. days_of row.now ≡ Some (told_days days)) }
+    ensures none { OnErr result (days_of row.now ≡ None) }
     ensures closed { IfOk result (λ days. epoch_day days.closed ≡ row.now.closed) }
     ensures deposited { IfOk result (λ days. epoch_day days.deposited ≡ row.now.deposited) }
     ensures gone { IfOk result (λ days. option_map epoch_day days.gone ≡ row.now.gone) }
@@ -70,6 +77,10 @@ fn unless_refused(
         IfOk asked (λ row. (row ≡ deposit) × IsFirst denied deposit None)) }
     ensures refused { IfOk result (λ asked.
         IfErr asked (λ why. IsFirst denied deposit (Some why))) }
+    ensures reads { IfOk result (λ asked.
+        first_told (Some denied ∷ gone_refusal deposit ∷ []) ≡ Some (result_err asked)) }
+    ensures none { OnErr result (first_told (Some denied ∷ gone_refusal deposit ∷ []) ≡ None) }
+    ensures row { IfOk result (λ asked. IfOk asked (λ row. row ≡ deposit)) }
     ensures store { IfErr result (λ fault. fault ≡ TableFault.Store) }
 {
     if let Some(why) = denied {
@@ -99,6 +110,11 @@ pub fn kept_deposit<S: Alter>(
         IsDepositAsked h number (kept_refusals h day caller.now action number) asked) }
     ensures rows { Tells S.Store tx.old.conn.now tx.new.conn.now result (λ tables asked.
         IsAskedIn tables (visit_on day caller.now) action number asked) }
+    ensures reads { Shows S.Store tx.old.conn.now tx.new.conn.now result (λ tables asked.
+        kept_refusal tables (visit_on day caller.now) action number
+        ≡ Some (result_err asked)) }
+    ensures row { Shows S.Store tx.old.conn.now tx.new.conn.now result (λ tables asked.
+        IfOk asked (λ row. rows.deposit_numbered (pos number) tables.deposits ≡ Some row)) }
 {
     let Some(deposit) = deposit_row(tx, number)? else {
         return Ok(Err(Refusal::NoSuch(Subject::Deposit)));

@@ -1,14 +1,18 @@
 //! What stands against the destruction of a deposit: its due day, and the holds that cover it.
 
-ghost use Rattle.std.specs.Prelude.{◌≡◌, IfSome, ℕ, Some, length, pos};
+ghost use Rattle.std.specs.Prelude.{◌≡◌, IfSome, ℕ, Some, length, option_map, pos, true};
 ghost use Rattle.jiff.specs.Types.{Date};
 ghost use Rattle.office_core.specs.declared.action.Action.TheVariants as acts;
-ghost use Rattle.office_rows.specs.Rows.{due_numbered};
-ghost use Rattle.office_tables.specs.Calls.{GoesOnInTurn, GoesOnInside, Keeps, Tells};
+ghost use Rattle.office_rows.specs.Rows.{due_numbered, limits_of};
+ghost use Rattle.office_tables.specs.Calls.{GoesOnInTurn, GoesOnInside, Keeps, Shows, Tells};
 ghost use Rattle.office_history.specs.Histories.{Deposit, deposit_numbered, due, least_hold, live_holds};
 ghost use Rattle.office_history.specs.Pictures.{deposit_row, due_row};
 ghost use Rattle.office_history.specs.Refusals.{facts_of};
-ghost use Rattle.office_asking.specs.Asking.{IsAsker, Visit};
+ghost use Rattle.office_by_rows.specs.Asking.{counted_hold_in, least_hold_in};
+ghost use Rattle.office_by_rows.specs.Changes.{due_in};
+ghost use Rattle.office_by_rows.specs.Refusals.{disposal_facts};
+ghost use Rattle.office_by_rows.specs.Values.{is_between};
+ghost use Rattle.office_asking.specs.Asking.{IsAsker, Visit, role_name};
 ghost use Rattle.office_asking.specs.ByRows.{AreFactsIn, IsAskerIn, IsCountIn, IsCountedIn, IsDueIn, IsLeastIn};
 ghost use Rattle.office_asking.specs.Serving.{Finds};
 
@@ -37,6 +41,8 @@ pub fn due_day<S: Alter>(
     ensures same { Keeps S.Store tx.old.conn.now tx.new.conn.now result }
     ensures rows { Tells S.Store tx.old.conn.now tx.new.conn.now result (λ tables found.
         IsDueIn tables class.now closed found) }
+    ensures reads { Shows S.Store tx.old.conn.now tx.new.conn.now result (λ tables found.
+        due_in tables class.now closed ≡ Some found) }
 {
     let found = class_of(tx, class)?;
     let years = there(found)?;
@@ -60,6 +66,9 @@ pub fn least_hold<S: Alter>(
         → found ≡ least_hold h number deposit) }
     ensures rows { Tells S.Store tx.old.conn.now tx.new.conn.now result (λ tables found.
         IfSome found (λ k. IsLeastIn tables number collection.now class.now k)) }
+    ensures reads { Shows S.Store tx.old.conn.now tx.new.conn.now result (λ tables found.
+        IfSome found (λ k.
+        least_hold_in tables number collection.now class.now ≡ Some k)) }
 {
     let holds = holds_over(alloc, tx, number, collection, class)?;
     let Some(least) = holds.first().copied() else {
@@ -92,6 +101,9 @@ fn check_count<S: Alter>(tx: &mut Transaction<'_, S>, count: i64) -> Result<(), 
     ensures same { Keeps S.Store tx.old.conn.now tx.new.conn.now result }
     ensures rows { Tells S.Store tx.old.conn.now tx.new.conn.now result (λ tables _.
         IsCountIn tables count) }
+    ensures reads { Shows S.Store tx.old.conn.now tx.new.conn.now result (λ tables _.
+        option_map (λ limits. is_between (pos 1) limits.max_holds count) (limits_of tables)
+        ≡ Some true) }
 {
     let limits = limits(tx)?;
     check_between(count, 1, limits.max_holds)
@@ -114,6 +126,8 @@ fn counted_hold<S: Alter>(
         → found ≡ least_hold h number deposit) }
     ensures rows { Tells S.Store tx.old.conn.now tx.new.conn.now result (λ tables found.
         IsCountedIn tables count (IsLeastIn tables number collection.now class.now) found) }
+    ensures reads { Shows S.Store tx.old.conn.now tx.new.conn.now result (λ tables found.
+        counted_hold_in tables count number collection.now class.now ≡ Some found) }
 {
     if count == 0 {
         return Ok(None);
@@ -142,6 +156,9 @@ pub fn disposal_facts<S: Alter>(
     ensures rows { Tells S.Store tx.old.conn.now tx.new.conn.now result (λ tables facts.
         (visit : Visit) → IsAskerIn tables visit asker.now → (n : ℕ)
         → pos n ≡ row.now.number → AreFactsIn tables visit n row.now facts) }
+    ensures reads { Shows S.Store tx.old.conn.now tx.new.conn.now result (λ tables facts.
+        (n : ℕ) → pos n ≡ row.now.number
+        → disposal_facts tables (role_name asker.now) asker.now.day n row.now ≡ Some facts) }
 {
     let days = days_in(row)?;
     let decision = asker.decision(tx, Action::Dispose, Some(&row.collection), Some(&row.class))?;

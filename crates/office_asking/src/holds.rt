@@ -1,18 +1,22 @@
 //! What the row of a hold tells.
 
-ghost use Rattle.std.specs.Prelude.{◌≡◌, IfErr, IfOk, Some, length, map, pos};
+ghost use Rattle.std.specs.Prelude.{◌≡◌, ◌↔◌, IfErr, IfOk, None, OnErr, Some, length, map, option_map, pos, true};
 ghost use Rattle.office_tables.specs.Faults.{IsFailure};
 ghost use Rattle.office_rows.specs.Rows as rows;
-ghost use Rattle.office_tables.specs.Calls.{GoesOnInside, Keeps, Tells};
+ghost use Rattle.office_tables.specs.Calls.{GoesOnInside, Keeps, Shows, Tells};
 ghost use Rattle.office_tables.specs.ShownHolds.{held_class, held_collection, held_deposit};
 ghost use Rattle.office_history.specs.Histories.{Deposit, live_holds};
 ghost use Rattle.office_history.specs.Answers.{told_hold};
+ghost use Rattle.office_by_rows.specs.Asking as by_rows;
+ghost use Rattle.office_by_rows.specs.Asking.{are_released_on_days, hold_by, target_of};
+ghost use Rattle.office_by_rows.specs.Changes.{count_in};
 ghost use Rattle.office_asking.specs.Serving.{Finds};
+ghost use Rattle.office_asking.specs.Told.{held_target};
 ghost use Rattle.office_asking.specs.Holds.{IsHoldOf, scope_in};
 ghost use Rattle.office_asking.specs.ByRows.{AreReleasedOnDays, IsHoldIn};
 ghost use Rattle.office_core.specs.declared.answer.LiveHold.{LiveHold};
 
-use crate::rows::{day_numbered, text_of_kind, there};
+use crate::rows::{check_there, day_numbered, text_of_kind, there};
 use office_core::{FIRST_DAY_NUMBER, LAST_DAY_NUMBER, LiveHold, Scope};
 use office_tables::{HoldRow, HoldTarget, TableFault, has_release_outside, hold_row, live_holds};
 use sqlite::{Alter, Transaction};
@@ -22,6 +26,8 @@ use std::alloc::Global;
 ///
 /// Fails with `Store`.
 pub fn named_in(row: &HoldRow) -> Result<HoldTarget<'_>, TableFault>
+    ensures reads { IfOk result (λ named. target_of row.now ≡ Some (held_target named)) }
+    ensures none { OnErr result (target_of row.now ≡ None) }
     ensures deposit { IfOk result (λ named. held_deposit named ≡ row.now.deposit) }
     ensures collection { IfOk result (λ named. held_collection named ≡ row.now.collection) }
     ensures class { IfOk result (λ named. held_class named ≡ row.now.class) }
@@ -53,17 +59,21 @@ fn scope_of(named: HoldTarget<'_>) -> Scope
 ///
 /// Fails with `Memory` or `Store`.
 pub fn hold_in(alloc: Global, row: &HoldRow) -> Result<LiveHold, TableFault>
+    ensures reads { IfOk result (λ told. hold_by row.now ≡ Some told) }
+    ensures store { IfErr result (λ fault.
+        (fault ≡ TableFault.Store) ↔ (hold_by row.now ≡ None)) }
     ensures told { IfOk result (λ told. IsHoldOf row.now told) }
     ensures failure { IfErr result IsFailure }
     // It wants memory only for a hold: a row that tells of none is a fault of the store.
     ensures memory { IfErr result (λ fault.
         fault ≡ TableFault.Memory → (told : LiveHold) × IsHoldOf row.now told) }
 {
+    let number = row.number;
     let named = named_in(row)?;
     let on = scope_of(named);
     let placed = day_numbered(row.placed)?;
     Ok(LiveHold {
-        number: row.number,
+        number,
         matter: text_of_kind(alloc, &row.matter)?,
         on,
         placed,
@@ -84,6 +94,8 @@ pub fn told_hold<S: Alter>(
     ensures same { Keeps S.Store tx.old.conn.now tx.new.conn.now result }
     ensures rows { Tells S.Store tx.old.conn.now tx.new.conn.now result (λ tables told.
         IsHoldIn tables number told) }
+    ensures reads { Shows S.Store tx.old.conn.now tx.new.conn.now result (λ tables told.
+        by_rows.told_hold tables (pos number) ≡ Some told) }
 {
     let found = hold_row(tx, number)?;
     let row = there(found)?;
@@ -110,6 +122,10 @@ pub fn holds_over<S: Alter>(
     ensures rows { Tells S.Store tx.old.conn.now tx.new.conn.now result (λ tables numbers.
         (map pos numbers.items ≡ rows.live_holds (pos number) collection.now class.now tables)
         × AreReleasedOnDays tables number collection.now class.now) }
+    ensures reads { Shows S.Store tx.old.conn.now tx.new.conn.now result (λ tables numbers.
+        (are_released_on_days number collection.now class.now tables ≡ true)
+        × (map pos numbers.items
+        ≡ rows.live_holds (pos number) collection.now class.now tables)) }
 {
     let outside = has_release_outside(
         tx,
@@ -119,9 +135,7 @@ pub fn holds_over<S: Alter>(
         FIRST_DAY_NUMBER as i64,
         LAST_DAY_NUMBER as i64,
     )?;
-    if outside {
-        return Err(TableFault::Store);
-    }
+    check_there(!outside)?;
     live_holds(alloc, tx, number, collection, class)
 }
 
@@ -144,6 +158,9 @@ pub fn live_count<S: Alter>(
     ensures rows { Tells S.Store tx.old.conn.now tx.new.conn.now result (λ tables count.
         (count ≡ pos (length (rows.live_holds (pos number) collection.now class.now tables)))
         × AreReleasedOnDays tables number collection.now class.now) }
+    ensures reads { Shows S.Store tx.old.conn.now tx.new.conn.now result (λ tables count.
+        Some count
+        ≡ option_map pos (count_in tables number collection.now class.now)) }
 {
     let holds = holds_over(alloc, tx, number, collection, class)?;
     match i64::try_from(holds.len()) {

@@ -116,6 +116,13 @@ disposal_refusal t visit n row = do
 
 -- ---- in their order
 
+-- the first of these that stands, where each before it is told
+abbrev pub first_told : List (Option (Option Refusal)) → Option (Option Refusal)
+first_told [] = Some None
+first_told (None ∷ more) = None
+first_told (Some (Some why) ∷ more) = Some (Some why)
+first_told (Some None ∷ more) = first_told more
+
 -- E1 where there is no such deposit, and else these of its row
 abbrev pub of_deposit : Option DepositRow → (DepositRow → List (Option (Option Refusal))) → List (Option (Option Refusal))
 of_deposit None these = Some (Some (NoSuch subjects.Deposit)) ∷ []
@@ -129,6 +136,10 @@ of_hold (Some row) these = these row
 -- what is asked of a deposit that is there: E2 and E3
 abbrev pub kept_refusals : Tables → Visit → Action → DepositRow → List (Option (Option Refusal))
 kept_refusals t visit action row = denial_at t visit action row ∷ gone_refusal row ∷ []
+
+-- the first of these that stands against a deposit, or E1 where there is no such deposit
+abbrev pub kept_refusal : Tables → Visit → Action → ℕ → Option (Option Refusal)
+kept_refusal t visit action n = first_told (of_deposit (deposit_numbered (pos n) t.deposits) (kept_refusals t visit action))
 
 -- a hold of it: E2, E3 and E10
 abbrev pub hold_refusals : Tables → Visit → DepositRow → List (Option (Option Refusal))
@@ -164,13 +175,6 @@ refusals t visit (HoldClass name matter) = Some (no_such_class t name) ∷ denia
 refusals t visit (Release k) = of_hold (hold_numbered (pos k) t.holds) (λ row. release_denial t visit row ∷ released_refusal row ∷ [])
 refusals t visit (Dispose n) = of_deposit (deposit_numbered (pos n) t.deposits) (λ row. disposal_refusal t visit n row ∷ [])
 refusals t visit DueList = []
-
--- the first of these that stands, where each before it is told
-abbrev pub first_told : List (Option (Option Refusal)) → Option (Option Refusal)
-first_told [] = Some None
-first_told (None ∷ more) = None
-first_told (Some (Some why) ∷ more) = Some (Some why)
-first_told (Some None ∷ more) = first_told more
 
 -- the first refusal that stands, or none where the request is allowed
 abbrev pub refusal : Tables → Visit → Request → Option (Option Refusal)

@@ -54,7 +54,7 @@ use Rattle.office_serving.proofs.ListedRows.{both, rows_beside, told_of_those}
 use Rattle.office_serving.specs.Listing as listing
 use Rattle.office_by_rows.proofs.Days.{day_back}
 use Rattle.office_refines.specs.Refining.{refusal_before}
-use Rattle.office_refines.proofs.ComesTo.{between}
+use Rattle.office_asking.proofs.ComesTo.{between}
 use Rattle.office_refines.proofs.Readings.{days_exact, decision_exact, due_exact, found_all, hold_at, hold_told_exact, kept_there, released_days, role_exact, row_there}
 use Rattle.office_refines.proofs.Refusals.{highest_deposit_is, highest_hold_is, next_at}
 

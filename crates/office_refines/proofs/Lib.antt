@@ -1,4 +1,3 @@
-pub mod ComesTo
 pub mod Readings
 pub mod Refusals
 pub mod Answers

@@ -37,7 +37,7 @@ use Rattle.office_by_rows.proofs.Days.{due_back}
 use Rattle.office_asking.specs.ByRows.{IsHoldIn}
 use Rattle.office_asking.specs.Holds.{IsHoldOf, scope_in}
 use Rattle.office_asking.specs.Asking.{place_and_effect, rule_and_effect}
-use Rattle.office_refines.proofs.ComesTo.{counted_is, days_told, decision_is, facts_told, hold_told, least_is, on_days, role_is}
+use Rattle.office_asking.proofs.ComesTo.{counted_is, days_told, decision_is, facts_told, hold_told, least_is, on_days, role_is}
 use Rattle.office_asking.proofs.DepositTold.{deposit_told}
 use Rattle.office_asking.proofs.DuesTold.{due_told}
 use Rattle.office_asking.proofs.HoldTold.{hold_rows_are, live_told}

@@ -1,7 +1,10 @@
-use Rattle.std.proofs.Common.{rules, ◌≡◌, refl, subst, sym, ◌∙◌, Some, None}
+use Rattle.std.proofs.Common.{rules, ◌≡◌, refl, subst, sym, ◌∙◌, Some, None, [], ◌∷◌, ap, option_map}
 use Rattle.office_core.specs.declared.refusal.Refusal.TheVariants.{Gone}
 use Rattle.office_asking.specs.ByRows.{IsFirst}
 use Rattle.office_asking.proofs.DepositAsked.{asked_denied, asked_gone, asked_kept}
+use Rattle.office_core.specs.FirstOf.{◌>>=◌}
+use Rattle.office_by_rows.specs.Asking.{Days, days_of}
+use Rattle.office_by_rows.specs.Refusals.{first_told, gone_refusal}
 use Rattle.office_asking.proofs.deposits.unless_refused.Goals as goal
 
 pub returns-in-Some-clause-asked : goal.returns-in-Some-clause-asked
@@ -26,3 +29,30 @@ pub returns-in-None-clause-kept : goal.returns-in-None-clause-kept
 returns-in-None-clause-kept c =
     let allowed : None ≡ c.args.denied = search rules in
     (refl, subst (λ denied. IsFirst denied c.args.deposit None) allowed (c.in_ok-days.days, c.in_ok-days.ensures.days, search rules))
+
+pub returns-in-Some-clause-reads : goal.returns-in-Some-clause-reads
+returns-in-Some-clause-reads c = ap (λ denied. first_told (Some denied ∷ gone_refusal c.args.deposit ∷ [])) c.in-Some.is
+
+pub returns-in-Some-gone-clause-reads : goal.returns-in-Some-gone-clause-reads
+returns-in-Some-gone-clause-reads c =
+    let allowed : None ≡ c.args.denied = search rules in
+    let gone : c.in_ok-days.days.gone ≡ Some c.in-Some-gone.day = search rules in
+    ap (λ denied. first_told (Some denied ∷ gone_refusal c.args.deposit ∷ [])) (sym allowed)
+    ∙ ap (λ o. first_told ((o >>= λ (days : Days). Some (option_map Gone days.gone)) ∷ [])) c.in_ok-days.ensures.reads
+    ∙ ap (λ day. first_told (Some (option_map Gone day) ∷ [])) gone
+
+pub returns-in-None-clause-reads : goal.returns-in-None-clause-reads
+returns-in-None-clause-reads c =
+    let allowed : None ≡ c.args.denied = search rules in
+    let gone : c.in_ok-days.days.gone ≡ None = search rules in
+    ap (λ denied. first_told (Some denied ∷ gone_refusal c.args.deposit ∷ [])) (sym allowed)
+    ∙ ap (λ o. first_told ((o >>= λ (days : Days). Some (option_map Gone days.gone)) ∷ [])) c.in_ok-days.ensures.reads
+    ∙ ap (λ day. first_told (Some (option_map Gone day) ∷ [])) gone
+
+pub returns-in_err-days-clause-none : goal.returns-in_err-days-clause-none
+returns-in_err-days-clause-none c =
+    let allowed : None ≡ c.args.denied = search rules in
+    let untold : days_of c.args.deposit ≡ None = search rules in
+    let none : first_told (Some c.args.denied ∷ gone_refusal c.args.deposit ∷ []) ≡ None =
+    ap (λ denied. first_told (Some denied ∷ gone_refusal c.args.deposit ∷ [])) (sym allowed) ∙ ap (λ o. first_told ((o >>= λ (days : Days). Some (option_map Gone days.gone)) ∷ [])) untold in
+    search (rules, none)

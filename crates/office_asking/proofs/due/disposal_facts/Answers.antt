@@ -1,22 +1,27 @@
-use Rattle.std.proofs.Common.{rules, ◌≡◌, ap, sym, ◌∙◌, pos, Some, option_map, w64}
+use Rattle.std.proofs.Common.{rules, ◌≡◌, ap, sym, ◌∙◌, pos, Some, option_map, w64, refl, subst}
 use mir.Val.{SFits, of_z, to_z}
 use Rattle.std.proofs.lemmas.Int.{to_z-of_z}
 use Rattle.sqlite.specs.Held.{state}
 use Rattle.jiff.specs.Words.{epoch_day}
 use Rattle.office_core.specs.declared.action.Action.TheVariants as acts
-use Rattle.office_rows.specs.Rows.{DepositRow, DueRow}
+use Rattle.office_rows.specs.Rows.{DepositRow, DueRow, due_numbered}
 use Rattle.office_history.specs.Histories.{deposit_numbered, least_hold, due}
 use Rattle.office_history.specs.Pictures.{due_number, due_row}
 use Rattle.office_history.specs.Refusals.{deciding_rule}
 use Rattle.office_history.proofs.DisposalFacts.{same_facts}
 use Rattle.office_asking.proofs.NumberedRows.{same_count}
 use Rattle.office_asking.proofs.DuesTold.{due_back}
-use Rattle.std.proofs.Common.{refl, subst}
 use Rattle.office_tables.specs.Tables.{tables_of}
-use Rattle.office_rows.specs.Rows.{due_numbered}
 use Rattle.office_asking.specs.ByRows.{IsCountedIn, IsLeastIn}
 use Rattle.office_asking.proofs.RowsTold.{office_still, told_before}
 use Rattle.office_tables.proofs.InTurn.{clean_first, failed_before, failed_in_turn, inside_as, inside_failed, inside_then, same_then, then_in_turn}
+use Rattle.office_tables.specs.declared.fault.TableFault.TheVariants.{Store}
+use Rattle.office_by_rows.specs.Values.{due_of_number}
+use Rattle.office_by_rows.specs.Asking.{counted_hold_in}
+use Rattle.office_asking.specs.Asking.{role_name}
+use Rattle.office_asking.specs.Told.{told_days}
+use Rattle.office_asking.proofs.ComesTo.{facts_told}
+use Rattle.office_asking.proofs.RowsRead.{some_read}
 use Rattle.office_asking.proofs.due.disposal_facts.Goals as goal
 
 pub returns-clause-facts : goal.returns-clause-facts
@@ -95,3 +100,35 @@ returns-clause-inside g c = inside_as (then_in_turn (inside_then c.in_ok-decisio
 
 pub returns-in_err-days-clause-inside : goal.returns-in_err-days-clause-inside
 returns-in_err-days-clause-inside g c = failed_before _ (search rules) (search rules)
+
+pub returns-clause-reads : goal.returns-clause-reads
+returns-clause-reads g c clean office =
+    let a = c.args in
+    let t = tables_of (state g.S.Store a.tx.now.conn.now).now in
+    let before_last = clean_first c.counted_hold.ensures.inside.stays clean in
+    let early = clean_first c.kept_of.ensures.inside.stays before_last in
+    let decided = c.in_ok-decision.ensures.reads early office in
+    let same1 = decided.0 in
+    let same2 = c.in_ok-kept.ensures.same before_last (office_still same1 office) ∙ same1 in
+    let row = a.row.now in
+    let collection : c.deref.result.now ≡ row.collection = search rules in
+    let class : c.deref-2.result.now ≡ row.class = search rules in
+    let covered : c.deref-3.result.now ≡ row.collection = search rules in
+    let covered_of : c.deref-4.result.now ≡ row.class = search rules in
+    let fits : SFits w64 c.kept.inside.holds = search rules in
+    let counts : c.kept.inside.holds ≡ c.in_ok-kept.kept.holds = search rules in
+    let kept = c.in_ok-kept.kept in
+    let there = told_before same1 (λ t. Some kept ≡ due_numbered (pos c.row.inside.number) t.dues) (c.in_ok-kept.ensures.rows before_last (office_still same1 office)) in
+    let held = c.in_ok-hold.ensures.reads clean (office_still same2 office) in
+    let hold = told_before same2 (λ t. counted_hold_in t (to_z w64 (of_z w64 c.kept.inside.holds)) c.row.inside.number c.deref-3.result.now c.deref-4.result.now ≡ Some c.in_ok-hold.hold) held.1 in
+    let due : due_of_number kept.due ≡ Some c.in_ok-due.due = some_read (due_of_number kept.due) Store c.in_ok-due.due (search rules) in (
+      held.0 ∙ same2,
+      λ n numbered.
+          let number : c.row.inside.number ≡ n = same_count c.row.inside.number n ((search rules) ∙ sym numbered) in
+          facts_told t (role_name a.asker.now) a.asker.now.day n row (told_days c.in_ok-days.days) c.in_ok-decision.decision kept c.in_ok-due.due c.in_ok-hold.hold
+          c.in_ok-days.ensures.reads
+          (rw (collection, class) at decided.1)
+          (subst (λ m. due_numbered (pos m) t.dues ≡ Some kept) number (sym there))
+          due
+          (rw (to_z-of_z w64 c.kept.inside.holds fits ∙ counts, number, covered, covered_of) at hold),
+    )

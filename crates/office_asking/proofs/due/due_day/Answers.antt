@@ -1,4 +1,4 @@
-use Rattle.std.proofs.Common.{rules, ◌≡◌, Some, w64, ap, ◌∙◌, option_map}
+use Rattle.std.proofs.Common.{rules, ◌≡◌, Some, w64, ap, ◌∙◌, option_map, sym}
 use mir.Val.{SFits}
 use Rattle.std.proofs.lemmas.Int.{to_z-of_z}
 use Rattle.std.specs.Option.{option_map_or}
@@ -10,6 +10,9 @@ use Rattle.office_history.specs.Pictures.{years_back}
 use Rattle.office_asking.proofs.Readings.{pictured_still}
 use Rattle.office_asking.proofs.RowsTold.{mapped, there_is}
 use Rattle.office_asking.proofs.DueTold.{due_told}
+use Rattle.office_tables.specs.Tables.{tables_of}
+use Rattle.office_by_rows.specs.Values.{years_of_number}
+use Rattle.office_asking.proofs.RowsRead.{due_read, some_read}
 use Rattle.office_asking.proofs.due.due_day.Goals as goal
 
 pub returns-clause-due : goal.returns-clause-due
@@ -29,3 +32,13 @@ returns-clause-rows g c clean office =
     let it = mapped _ _ c.in_ok-years.years (some ∙ c.in_ok-found.ensures.found clean office) in
     let number = rw (to_z-of_z w64 c.in_ok-years.years fits) at c.in_ok-years_numbered.ensures.number in
     record { row = it.0; there = it.1; years = c.in_ok-years_numbered.field-0; are_years = (search rules, number ∙ it.2); is = c.due.ensures.exact }
+
+pub returns-clause-reads : goal.returns-clause-reads
+returns-clause-reads g c clean office =
+    let a = c.args in
+    let t = tables_of (state g.S.Store a.tx.now.conn.now).now in
+    let years = c.in_ok-years.years in
+    let some : Some years ≡ c.in_ok-found.found = there_is c.in_ok-found.found Store years c.in_ok-years.ensures in
+    let fits : SFits w64 years = search rules in
+    let told = some_read (years_of_number years) Store c.in_ok-years_numbered.field-0 (rw (to_z-of_z w64 years fits) at c.in_ok-years_numbered.ensures.reads) in
+    (c.in_ok-found.ensures.same clean office, due_read t a.class.now a.closed years c.in_ok-years_numbered.field-0 (some ∙ c.in_ok-found.ensures.found clean office) told ∙ ap Some (sym c.due.ensures.exact))

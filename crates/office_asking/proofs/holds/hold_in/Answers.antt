@@ -1,11 +1,18 @@
-use Rattle.std.proofs.Common.{rules, ◌≡◌, Some, refl, sym, ap, ◌∙◌, inl, inr, true≢false, IfErr}
+use Rattle.std.proofs.Common.{rules, ◌≡◌, ◌↔◌, Some, None, option_map, pos, refl, sym, ap, subst, ◌∙◌, inl, inr, true≢false, IfErr}
 use Rattle.std.proofs.lemmas.Bool.{cases_Bool}
+use Rattle.std.proofs.lemmas.Option.{none-some}
 use Rattle.std.proofs.lemmas.Result.{IfErr-weaker}
 use Rattle.office_core.specs.Names.{is_matter}
 use Rattle.office_core.specs.declared.answer.LiveHold.{LiveHold}
-use Rattle.office_tables.specs.declared.fault.TableFault.TheVariants.{Memory}
+use Rattle.office_tables.specs.declared.fault.TableFault.TheVariants.{Memory, Store}
 use Rattle.office_asking.specs.Holds.{IsHoldOf, scope_in}
+use Rattle.office_by_rows.specs.Asking.{hold_by, scope_of, target_named, target_of}
+use Rattle.office_asking.proofs.ComesTo.{hold_told}
+use Rattle.office_asking.proofs.TellsNothing.{names_nothing, no_matter, no_scope}
 use Rattle.office_asking.proofs.holds.hold_in.Goals as goal
+
+not_store : Memory ≡ Store → ⊥
+not_store e = absurd cc
 
 pub returns-clause-told : goal.returns-clause-told
 returns-clause-told c =
@@ -31,3 +38,36 @@ returns-in_err-text_of_kind-clause-memory c =
     ] in
     let gives : IfErr c.from_residual-in_err-text_of_kind.result (λ fault. fault ≡ c.in_err-text_of_kind.field-0.0) = search rules in
     IfErr-weaker c.from_residual-in_err-text_of_kind.result _ _ (λ fault e is. wanted (sym e ∙ is)) gives
+
+pub returns-in_err-named-clause-store : goal.returns-in_err-named-clause-store
+returns-in_err-named-clause-store c =
+    let row = c.args.row.now in
+    let deposit : row.deposit ≡ option_map pos c.row.inside.deposit = search rules in
+    let untold : target_of row ≡ None = search rules in
+    let unnamed = no_scope c.row.inside.deposit row.collection row.class (subst (λ d. target_named d row.collection row.class ≡ None) deposit untold) in
+    let none = names_nothing row (subst (λ d. scope_of d row.collection row.class ≡ None) (sym deposit) unnamed) in
+    let gives : IfErr c.from_residual.result (λ fault. fault ≡ Store) = search rules in
+    IfErr-weaker c.from_residual.result _ _ (λ fault e. (λ is. none, λ untold. e)) gives
+
+pub returns-in_err-text_of_kind-clause-store : goal.returns-in_err-text_of_kind-clause-store
+returns-in_err-text_of_kind-clause-store c =
+    let row = c.args.row.now in
+    let text : c.deref.result.now ≡ row.matter = search rules in
+    let deposit = c.in_ok-named.ensures.deposit in
+    let collection = c.in_ok-named.ensures.collection in
+    let class = c.in_ok-named.ensures.class in
+    let on : Some c.scope_of-on.result ≡ scope_in row.deposit row.collection row.class = c.scope_of-on.ensures ∙ (λ i. scope_in (deposit i) (collection i) (class i)) in
+    let failed : c.in_err-text_of_kind.field-0.0 ≡ Store ↔ hold_by row ≡ None = elim (cases_Bool (is_matter row.matter)) [
+      | inl kind ↦ (
+          let memory : c.in_err-text_of_kind.field-0.0 ≡ Memory = (let it = c.text_of_kind.ensures.memory (ap is_matter text ∙ kind) in search (rules, it)) in
+          let told : LiveHold = record { number = c.row.inside.number; matter = row.matter; on = c.scope_of-on.result; placed = c.in_ok-placed.placed } in
+          let is = hold_told row told (record { number = search rules; matter = refl; on = on; placed = search rules; is_day = search rules; is_matter = kind }) in
+          (λ store. absurd (not_store (sym memory ∙ store)), λ none. absurd (none-some told (sym none ∙ is)))
+          )
+      | inr isnt ↦ (
+          let store : c.in_err-text_of_kind.field-0.0 ≡ Store = (let it = c.text_of_kind.ensures.store (λ kind. true≢false (sym kind ∙ ap is_matter text ∙ isnt)) in search (rules, it)) in
+          (λ is. no_matter row isnt, λ none. store)
+          )
+    ] in
+    let gives : IfErr c.from_residual-in_err-text_of_kind.result (λ fault. fault ≡ c.in_err-text_of_kind.field-0.0) = search rules in
+    IfErr-weaker c.from_residual-in_err-text_of_kind.result _ _ (λ fault e. (λ is. failed.0 (sym e ∙ is), λ none. e ∙ failed.1 none)) gives

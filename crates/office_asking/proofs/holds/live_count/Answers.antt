@@ -1,7 +1,10 @@
-use Rattle.std.proofs.Common.{rules, ◌≡◌, ap, ◌∙◌, pos, length, sym, w64}
+use Rattle.std.proofs.Common.{rules, ◌≡◌, ap, ◌∙◌, pos, length, sym, w64, Some, option_map}
 use mir.Val.{SFits}
 use Rattle.std.proofs.lemmas.Int.{to_z-of_z}
 use Rattle.std.proofs.lemmas.List.{length-map}
+use Rattle.sqlite.specs.Held.{state}
+use Rattle.office_tables.specs.Tables.{tables_of}
+use Rattle.office_asking.proofs.RowsRead.{count_read}
 use Rattle.office_asking.proofs.holds.live_count.Goals as goal
 
 pub returns-in-Ok-clause-count : goal.returns-in-Ok-clause-count
@@ -18,3 +21,13 @@ returns-in-Ok-clause-rows g c clean office =
     let fits : SFits w64 c.in-Ok.count = search rules in
     let counted : c.in-Ok.count ≡ pos (length numbers) = search rules in
     (to_z-of_z w64 c.in-Ok.count fits ∙ counted ∙ ap pos (sym (length-map numbers pos) ∙ ap length over.0), over.1)
+
+pub returns-in-Ok-clause-reads : goal.returns-in-Ok-clause-reads
+returns-in-Ok-clause-reads g c clean office =
+    let a = c.args in
+    let t = tables_of (state g.S.Store a.tx.now.conn.now).now in
+    let numbers = c.in_ok-holds.holds.items in
+    let over = c.in_ok-holds.ensures.reads clean office in
+    let fits : SFits w64 c.in-Ok.count = search rules in
+    let counted : c.in-Ok.count ≡ pos (length numbers) = search rules in
+    (over.0, ap Some (to_z-of_z w64 c.in-Ok.count fits ∙ counted) ∙ ap (option_map pos) (sym (count_read a.number a.collection.now a.class.now t numbers over.1.0 over.1.1)))

@@ -1,9 +1,10 @@
-use Rattle.std.proofs.Common.{rules, ◌≡◌, ℕ, ◌+◌, ◌<◌, ◌≤◌, Some, None, unwrap_or, sym, ap, arith, inl, inr}
+use Rattle.std.proofs.Common.{rules, ◌≡◌, ℕ, ◌+◌, ◌<◌, ◌≤◌, Some, None, unwrap_or, sym, ap, ◌∙◌, arith, inl, inr}
 use Rattle.std.specs.Prelude.{nat_le}
 use Rattle.std.proofs.lemmas.Bool.{cases_Bool}
 use Rattle.std.proofs.lemmas.Bool.Decides.{nat_tests}
-use Rattle.office_core.specs.FirstOf.{answer_if}
+use Rattle.office_core.specs.FirstOf.{◌>>=◌, answer_if}
 use Rattle.office_core.specs.declared.refusal.Refusal.TheVariants.{Full}
+use Rattle.office_asking.proofs.RowsRead.{count_back}
 use Rattle.office_asking.proofs.limits.number_after.Goals as goal
 
 is_full : (count limit : ℕ) → limit ≤ count → Some Full ≡ answer_if (nat_le limit count) Full
@@ -20,12 +21,29 @@ has_room count limit lt =
       | inr under ↦ sym (ap (λ b. answer_if b Full) under)
     ]
 
-pub returns-then-limit-last : goal.returns-then-limit-last
-returns-then-limit-last c =
+pub returns-then-limit-last-clause-next : goal.returns-then-limit-last-clause-next
+returns-then-limit-last-clause-next c =
     let last : c.unwrap_or-last.result ≡ unwrap_or c.args.last 0 = search rules in
     is_full (unwrap_or c.args.last 0) c.args.limit (rw last at c.if-limit-last.true)
 
-pub returns : goal.returns
-returns c =
+pub returns-then-limit-last-clause-full : goal.returns-then-limit-last-clause-full
+returns-then-limit-last-clause-full c =
+    let last : c.unwrap_or-last.result ≡ unwrap_or c.args.last 0 = search rules in
+    ap (λ o. o >>= λ last. Some (answer_if (nat_le c.args.limit (unwrap_or last 0)) Full)) (count_back c.args.last)
+    ∙ ap Some (sym (is_full (unwrap_or c.args.last 0) c.args.limit (rw last at c.if-limit-last.true)))
+
+pub returns-clause-next : goal.returns-clause-next
+returns-clause-next c =
     let last : c.unwrap_or-last.result ≡ unwrap_or c.args.last 0 = search rules in
     (has_room (unwrap_or c.args.last 0) c.args.limit (rw last at c.if-limit-last.false), ap (λ k. k + 1) last)
+
+pub returns-clause-full : goal.returns-clause-full
+returns-clause-full c =
+    let last : c.unwrap_or-last.result ≡ unwrap_or c.args.last 0 = search rules in
+    ap (λ o. o >>= λ last. Some (answer_if (nat_le c.args.limit (unwrap_or last 0)) Full)) (count_back c.args.last)
+    ∙ ap Some (sym (has_room (unwrap_or c.args.last 0) c.args.limit (rw last at c.if-limit-last.false)))
+
+pub returns-clause-number : goal.returns-clause-number
+returns-clause-number c =
+    let last : c.unwrap_or-last.result ≡ unwrap_or c.args.last 0 = search rules in
+    ap (λ o. o >>= λ last. Some (unwrap_or last 0 + 1)) (count_back c.args.last) ∙ ap (λ k. Some (k + 1)) (sym last)

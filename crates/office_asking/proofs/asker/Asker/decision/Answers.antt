@@ -1,10 +1,18 @@
-use Rattle.std.proofs.Common.{option_copied, rules, w32, w64}
+use Rattle.std.proofs.Common.{option_copied, rules, w32, w64, option_map, ap, sym, ◌∙◌, ◌≡◌, Some, None}
 use mir.Val.{SFits}
 use Rattle.std.proofs.lemmas.Int.{to_z-of_z}
 use Rattle.sqlite.specs.Held.{state}
 use Rattle.office_asking.proofs.Readings.{pictured_still, none_found, rule_found}
 use Rattle.office_tables.specs.Tables.{tables_of}
 use Rattle.office_asking.proofs.RowsTold.{decided_by_row, none_by_row}
+use Rattle.jiff.specs.Words.{epoch_day}
+use Rattle.office_core.specs.Actions.{action_text}
+use Rattle.office_rows.specs.Matching.{matching_rule}
+use Rattle.office_tables.specs.declared.fault.TableFault.TheVariants.{Store}
+use Rattle.office_by_rows.specs.Values.{if_any}
+use Rattle.office_by_rows.specs.Asking.{decision_by, or_empty}
+use Rattle.office_asking.specs.Asking.{role_name}
+use Rattle.office_asking.proofs.RowsRead.{some_read}
 use Rattle.office_asking.proofs.asker.Asker.decision.Goals as goal
 
 pub returns-in_ok-decision_in-in-Some-clause-decided : goal.returns-in_ok-decision_in-in-Some-clause-decided
@@ -44,3 +52,24 @@ returns-in-None-clause-rows g c clean office visit is =
     let fits : SFits w64 c.number.result = search rules in
     let found = rw (to_z-of_z w32 c.number.result small, to_z-of_z w64 c.number.result fits, c.number.ensures.value) at (c.in_ok-found.ensures.found clean office) in
     none_by_row (tables_of old.now) visit a.self.now is a.action (option_copied a.collection) (option_copied a.class) (search (rules, found))
+
+pub returns-in_ok-decision_in-in-Some-clause-reads : goal.returns-in_ok-decision_in-in-Some-clause-reads
+returns-in_ok-decision_in-in-Some-clause-reads g c clean office =
+    let a = c.args in
+    let old = state g.S.Store a.tx.now.conn.now in
+    let small : SFits w32 c.number.result = search rules in
+    let fits : SFits w64 c.number.result = search rules in
+    let found = rw (to_z-of_z w32 c.number.result small, to_z-of_z w64 c.number.result fits, c.number.ensures.value) at (c.in_ok-found.ensures.found clean office) in
+    let rule : Some c.in-Some.row ≡ matching_rule (role_name a.self.now) (action_text a.action) (or_empty (option_copied a.collection)) (or_empty (option_copied a.class)) (epoch_day a.self.now.day) (tables_of old.now).rules = search (rules, found) in
+    let told : decision_by c.in-Some.row ≡ Some c.in_ok-decision_in-in-Some.field-0 = some_read (decision_by c.in-Some.row) Store c.in_ok-decision_in-in-Some.field-0 (search rules) in
+    (c.in_ok-found.ensures.same clean office, ap (if_any decision_by) (sym rule) ∙ ap (option_map Some) told)
+
+pub returns-in-None-clause-reads : goal.returns-in-None-clause-reads
+returns-in-None-clause-reads g c clean office =
+    let a = c.args in
+    let old = state g.S.Store a.tx.now.conn.now in
+    let small : SFits w32 c.number.result = search rules in
+    let fits : SFits w64 c.number.result = search rules in
+    let found = rw (to_z-of_z w32 c.number.result small, to_z-of_z w64 c.number.result fits, c.number.ensures.value) at (c.in_ok-found.ensures.found clean office) in
+    let rule : None ≡ matching_rule (role_name a.self.now) (action_text a.action) (or_empty (option_copied a.collection)) (or_empty (option_copied a.class)) (epoch_day a.self.now.day) (tables_of old.now).rules = search (rules, found) in
+    (c.in_ok-found.ensures.same clean office, ap (if_any decision_by) (sym rule))

@@ -1,0 +1,14 @@
+use Rattle.std.proofs.Common.{rules, ◌≤ℤ◌}
+use Rattle.office_tables.specs.declared.fault.TableFault.TheVariants.{Store}
+use Rattle.office_by_rows.specs.Values.{day_numbered, if_any}
+use Rattle.office_asking.proofs.RowsRead.{days_read, some_read}
+use Rattle.office_asking.proofs.deposits.days_in.Goals as goal
+
+pub returns-clause-reads : goal.returns-clause-reads
+returns-clause-reads c =
+    let row = c.args.row.now in
+    let in_turn : row.closed ≤ℤ row.deposited = search rules in
+    days_read row (record { closed = c.in_ok-day_numbered.field-0; deposited = c.in_ok-day_numbered-2.field-0; gone = c.in_ok-optional_day_numbered.field-0 }) in_turn
+    (some_read (day_numbered row.closed) Store c.in_ok-day_numbered.field-0 (search rules))
+    (some_read (day_numbered row.deposited) Store c.in_ok-day_numbered-2.field-0 (search rules))
+    (some_read (if_any day_numbered row.gone) Store c.in_ok-optional_day_numbered.field-0 (search rules))

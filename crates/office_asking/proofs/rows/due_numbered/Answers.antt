@@ -1,0 +1,12 @@
+use Rattle.std.proofs.Common.{rules, ◌≡◌, IfSome, ap, sym, ok_or}
+use Rattle.office_core.specs.Retention.{IsDueNumber, due_number}
+use Rattle.office_core.specs.declared.retention.Due.TheVariants.{On}
+use Rattle.office_tables.specs.declared.fault.TableFault.TheVariants.{Store}
+use Rattle.office_by_rows.proofs.Days.{due_back}
+use Rattle.office_asking.proofs.rows.due_numbered.Goals as goal
+
+pub returns-in-Some-due_date-clause-reads : goal.returns-in-Some-due_date-clause-reads
+returns-in-Some-due_date-clause-reads c =
+    let number : due_number (On c.in-Some-due_date.date) ≡ c.args.number = search rules in
+    let range : IfSome c.args.number IsDueNumber = search rules in
+    ap (λ o. ok_or o Store) (sym (due_back c.args.number (On c.in-Some-due_date.date) number range))
