@@ -120,7 +120,7 @@ module _ (h : History) (day : Date) (name : List ℕ) (y : Option ℕ) where
   abbrev pub those : List (ℤ × Date)
   those = closed_from name 1 (deposits h)
 
-  class_told : with_due_days y those (with_class name (years_number y) (picture this_version h)) ≡ picture this_version longer
+  pub class_told : with_due_days y those (with_class name (years_number y) (picture this_version h)) ≡ picture this_version longer
   class_told =
       ap (with_due_days y those) with_class_is
       ∙ with_due_days_is y those (with_classes (class_rows longer))

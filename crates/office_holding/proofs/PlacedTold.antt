@@ -56,13 +56,13 @@ module _ (h : History) (day : Date) (hold : Hold) (not_released : release_day h 
       ∙ sym (hold_rows_are longer)
 
   -- where the counts over the deposits that the hold covers are told anew
-  told_with : (dues : List DueRow) → dues ≡ due_rows longer → record (with_hold new_row (picture this_version h)) { dues = dues } ≡ picture this_version longer
+  pub told_with : (dues : List DueRow) → dues ≡ due_rows longer → record (with_hold new_row (picture this_version h)) { dues = dues } ≡ picture this_version longer
   told_with dues is =
       pictured_by h more refl (sym (same_classes h more refl (λ name. refl))) (sym (same_collections h more refl))
       (sym (same_deposit_rows h more refl (λ n. refl))) is (sym (same_file_rows h more refl (λ n. refl))) holds_told
 
 -- the next hold is none that was released
-not_yet : (h : History) → IsLegal h → release_day h (1 + length (holds h)) ≡ None
+pub not_yet : (h : History) → IsLegal h → release_day h (1 + length (holds h)) ≡ None
 not_yet h legal = none_released h legal (1 + length (holds h)) (none_next (holds h))
 
 -- the row that is put is that of the hold

@@ -29,7 +29,7 @@ module _ (h : History) (day : Date) (k : ℕ) (live : release_day h k ≡ None) 
   abbrev longer : History
   longer = with_changes h more
 
-  released_then : (m : ℕ) → release_day longer m ≡ option_or (release_day h m) (if k == m then Some day else None)
+  pub released_then : (m : ℕ) → release_day longer m ≡ option_or (release_day h m) (if k == m then Some day else None)
   released_then m = released_grown h more m ∙ ap (option_or (release_day h m)) (or_none (if k == m then Some day else None))
 
   abbrev ended : HoldRow → HoldRow
@@ -43,7 +43,7 @@ module _ (h : History) (day : Date) (k : ℕ) (live : release_day h k ≡ None) 
       ∙ sym (hold_rows_are longer)
 
   -- where the counts over the deposits that the hold covers are told anew
-  told_with : (dues : List DueRow) → dues ≡ due_rows longer → record (with_released (pos k) (epoch_day day) (picture this_version h)) { dues = dues } ≡ picture this_version longer
+  pub told_with : (dues : List DueRow) → dues ≡ due_rows longer → record (with_released (pos k) (epoch_day day) (picture this_version h)) { dues = dues } ≡ picture this_version longer
   told_with dues is =
       pictured_by h more refl (sym (same_classes h more refl (λ name. refl))) (sym (same_collections h more refl))
       (sym (same_deposit_rows h more refl (λ n. refl))) is (sym (same_file_rows h more refl (λ n. refl))) holds_told

@@ -28,7 +28,7 @@ use Rattle.office_core.specs.declared.refusal.Refusal.TheVariants.{NoFile}
 use Rattle.office_core.specs.declared.request.Request.{Request}
 use Rattle.office_core.specs.declared.request.Request.TheVariants.{DefineClass, DefineCollection, Deposit as MakeDeposit, List as ListDeposits, Record, Holds, DownloadBag, DownloadFile, Audit, HoldDeposit, HoldCollection, HoldClass, Release, Dispose, DueList}
 use Rattle.office_rows.specs.Rows as rows
-use Rattle.office_rows.specs.Rows.{ClassRow, DepositRow, DueRow, FileRow, HoldRow, Tables, beside, due_numbered, is_disposable, is_file_of, this_version}
+use Rattle.office_rows.specs.Rows.{ClassRow, DepositRow, DueRow, FileRow, Tables, is_disposable, is_file_of, this_version}
 use Rattle.office_rows.specs.Told.{PlaceRow, due_places, place_row}
 use Rattle.office_history.specs.Answers as histories
 use Rattle.office_history.specs.Answers.{Wanted, file_answer, is_asked, live_hold, record_of, told_of}
@@ -106,10 +106,10 @@ module _ (h : History) (legal : IsLegal h) (ranged : AreInRange this_version (pi
 
   -- ---- numbers
 
-  next_deposit : number_after (highest_deposit t) ≡ Some (length (deposits h) + 1)
+  pub next_deposit : number_after (highest_deposit t) ≡ Some (length (deposits h) + 1)
   next_deposit = ap number_after (highest_deposit_is h legal ranged) ∙ next_at (deposits h)
 
-  next_hold : number_after (highest_hold t) ≡ Some (length (holds h) + 1)
+  pub next_hold : number_after (highest_hold t) ≡ Some (length (holds h) + 1)
   next_hold = ap number_after (highest_hold_is h legal ranged) ∙ next_at (holds h)
 
   -- ---- a deposit that is there and kept
@@ -159,7 +159,7 @@ module _ (h : History) (legal : IsLegal h) (ranged : AreInRange this_version (pi
     -- its live holds
     holds_told : told_holds t n found.1.collection found.1.class ≡ Some (histories.told_holds h n found.1)
     holds_told =
-        ap (λ b. if b then all_told (told_hold t) (rows.live_holds (pos n) found.1.collection found.1.class t) else None) (released_days h legal ranged n found there)
+        ap (λ b. if b then all_told (told_hold t) (rows.live_holds (pos n) found.1.collection found.1.class t) else None) (released_days h legal ranged n found.1.collection found.1.class)
         ∙ ap (all_told (told_hold t)) (live_told h n found.1 this_version)
         ∙ each_told (told_hold t) (histories.told_hold h) (live_holds h n found.1)
         (each_passing (IsToldAs (told_hold t) (histories.told_hold h)) (λ k. is_live h k && covers h k n found.1) (λ k live. told k (and_parts (is_live h k) (covers h k n found.1) live).1) (numbers (length (holds h))))
@@ -288,7 +288,7 @@ module _ (h : History) (legal : IsLegal h) (ranged : AreInRange this_version (pi
         by true rest = with_it (listing.may_destroy h (visit_on visit.day visit.caller) (place_row x)) refl rest
         by false rest = rest
 
-    due_listed : due_list t visit ≡ Some (histories.due_list h visit.day visit.caller)
+    pub due_listed : due_list t visit ≡ Some (histories.due_list h visit.day visit.caller)
     due_listed =
         (λ i. role_exact h legal ranged visit.caller i >>= λ role. things_told (place_told t role visit.day) (due_places (epoch_day visit.day) t))
         ∙ all.told ∙ ap Some (due_list_is h (visit_on visit.day visit.caller) t refl all.numbers all.are)

@@ -125,6 +125,14 @@ module _ (h : History) (legal : IsLegal h) (ranged : AreInRange this_version (pi
   pub hold_told_exact : (k : ℕ) (found : Date × Hold) → hold_numbered h k ≡ Some found → hold_by (hold_row h k found) ≡ Some (live_hold k found)
   hold_told_exact k found there = hold_told (hold_row h k found) (live_hold k found) (hold_is k found there)
 
+  -- each hold was released on a day or not at all, whichever deposit it is over
+  each_released : (n : ℕ) (collection class : List ℕ) (hs : List HoldRow) → AllByRecursion (IsHoldRow t) hs → AllByRecursion (λ (r : HoldRow). is_over n collection class r ≡ true → IfSome r.released IsDayNumber) hs
+  each_released n collection class [] all = tt
+  each_released n collection class (r ∷ hs) all = (λ _. all.0.released, each_released n collection class hs all.1)
+
+  pub released_days : (n : ℕ) (collection class : List ℕ) → are_released_on_days n collection class t ≡ true
+  released_days n collection class = on_days n collection class t.holds (each_released n collection class t.holds ranged.holds)
+
   -- ---- a deposit that is there
 
   abbrev first_limit : List OfficeRow → ℤ
@@ -161,13 +169,6 @@ module _ (h : History) (legal : IsLegal h) (ranged : AreInRange this_version (pi
         by (Some hold) is e =
             (live_hold k hold, record { row = hold_row h k hold; there = hold_at k ∙ ap (option_map (hold_row h k)) is; is = hold_is k hold is })
 
-    released : (hs : List HoldRow) → AllByRecursion (IsHoldRow t) hs → AllByRecursion (λ (r : HoldRow). is_over n found.1.collection found.1.class r ≡ true → IfSome r.released IsDayNumber) hs
-    released [] all = tt
-    released (r ∷ hs) all = (λ _. all.0.released, released hs all.1)
-
-    pub released_days : are_released_on_days n found.1.collection found.1.class t ≡ true
-    released_days = on_days n found.1.collection found.1.class t.holds (released t.holds ranged.holds)
-
     pub hold_exact : counted_hold_in t (pos (length (live_holds h n found.1))) n found.1.collection found.1.class ≡ Some (least_hold h n found.1)
     hold_exact = by (live_holds h n found.1) refl
       where
@@ -179,7 +180,7 @@ module _ (h : History) (legal : IsLegal h) (ranged : AreInRange this_version (pi
             let most : pos (length (k ∷ ks)) ≤ℤ pos h.max_holds = subst (λ m. pos (length (k ∷ ks)) ≤ℤ m) (sym (ap first_limit ranged.one_office)) (subst (λ xs. pos (length xs) ≤ℤ ranged.office_row.max_holds) is kept_ranged.holds.1) in
             counted_is n found.1.collection found.1.class t (pos (length (k ∷ ks))) k
             (record { limits = record { max_deposits = pos h.max_deposits; max_holds = pos h.max_holds }; are = refl; is = (omega (arith, signed_arith), most) })
-            (least_is n found.1.collection found.1.class t k (map pos ks) told.0 (released t.holds ranged.holds) (live_told h n found.1 this_version ∙ ap (map pos) is) told.1)
+            (least_is n found.1.collection found.1.class t k (map pos ks) told.0 (each_released n found.1.collection found.1.class t.holds ranged.holds) (live_told h n found.1 this_version ∙ ap (map pos) is) told.1)
 
     pub facts_exact : (visit : Visit) → disposal_facts t (role_of (policy h) visit.caller) visit.day n (deposit_row h n found) ≡ Some (facts_of h visit.day visit.caller acts.Dispose n found.1)
     facts_exact visit =

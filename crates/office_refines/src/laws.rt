@@ -1,15 +1,19 @@
 //! Laws: what the rows of a legal history come to is what the history says.
 
-ghost use Rattle.std.specs.Prelude.{◌≡◌, None, Some};
+ghost use Rattle.std.specs.Prelude.{◌≡◌, List, [], ◌∷◌, None, Some, is_some, true};
+ghost use Rattle.office_core.specs.Policies.{PolicyValue};
 ghost use Rattle.office_core.specs.declared.request.Request.{Request};
 ghost use Rattle.office_rows.specs.Rows.{this_version};
-ghost use Rattle.office_history.specs.Answers.{answer};
-ghost use Rattle.office_history.specs.Histories.{History};
+ghost use Rattle.office_history.specs.Answers as histories;
+ghost use Rattle.office_history.specs.Answers.{after, answer};
+ghost use Rattle.office_history.specs.Histories.{History, Installed, with_changes};
 ghost use Rattle.office_history.specs.Pictures.{picture};
 ghost use Rattle.office_history.specs.Runs.{IsLegal};
 ghost use Rattle.office_by_rows.specs.Asking.{Visit};
-ghost use Rattle.office_by_rows.specs.Answers.{allowed_answer};
+ghost use Rattle.office_by_rows.specs.Answers.{allowed_answer, due_list};
+ghost use Rattle.office_by_rows.specs.Changes.{allowed_rows, installed};
 ghost use Rattle.office_by_rows.specs.Refusals.{refusal};
+ghost use Rattle.office_by_rows.specs.Serving.{serve};
 ghost use Rattle.office_refines.specs.Refining.{refusal_before};
 
 use bag_text::laws::one_list_fault;
@@ -34,4 +38,68 @@ pub fn answers_are_exact()
     pictures_are_in_range();
     sound_bags();
     one_list_fault();
+}
+
+/// Where nothing stands against a request, the rows tell which rows it leaves: the picture of the
+/// history after it.
+pub fn rows_are_exact()
+    ensures { (h : History) (visit : Visit) (request : Request) → IsLegal h
+        → refusal_before h visit.day visit.caller request ≡ None
+        → allowed_rows (picture this_version h) visit request
+        ≡ Some (picture this_version (after h visit.day visit.caller request)) }
+{
+    pictures_are_in_range();
+}
+
+/// What a request does to the rows of a legal history is what it does to the history: they tell its
+/// answer, and leave the picture of the history after it. Any request will do, in range or not.
+pub fn requests_are_exact()
+    ensures { (h : History) (visit : Visit) (request : Request) → IsLegal h
+        → serve (picture this_version h) visit request
+        ≡ Some (
+          answer h visit.day visit.caller request,
+          picture this_version (after h visit.day visit.caller request),
+        ) }
+{
+    refusals_are_exact();
+    answers_are_exact();
+    rows_are_exact();
+}
+
+/// No legal office is taken for an altered one: its rows tell what each request does.
+pub fn no_legal_office_is_taken_for_an_altered_one()
+    ensures { (h : History) (visit : Visit) (request : Request) → IsLegal h
+        → is_some (serve (picture this_version h) visit request) ≡ true }
+{
+    requests_are_exact();
+}
+
+/// What a request answers and leaves is told by the rows alone: legal histories with the same rows
+/// answer it alike, and have the same rows after it.
+pub fn alike_rows_are_served_alike()
+    ensures answers { (h k : History) (visit : Visit) (request : Request) → IsLegal h → IsLegal k
+        → picture this_version h ≡ picture this_version k
+        → answer h visit.day visit.caller request ≡ answer k visit.day visit.caller request }
+    ensures rows { (h k : History) (visit : Visit) (request : Request) → IsLegal h → IsLegal k
+        → picture this_version h ≡ picture this_version k
+        → picture this_version (after h visit.day visit.caller request)
+        ≡ picture this_version (after k visit.day visit.caller request) }
+{
+    requests_are_exact();
+}
+
+/// An install of a policy leaves of the rows of any history the picture of the history after it.
+pub fn installs_are_exact()
+    ensures { (h : History) (policy : PolicyValue)
+        → installed policy (picture this_version h)
+        ≡ picture this_version (with_changes h (Installed policy ∷ [])) }
+{}
+
+/// The due list of the rows of a legal history is the history's.
+pub fn due_lists_are_exact()
+    ensures { (h : History) (visit : Visit) → IsLegal h
+        → due_list (picture this_version h) visit
+        ≡ Some (histories.due_list h visit.day visit.caller) }
+{
+    pictures_are_in_range();
 }

@@ -1,0 +1,5 @@
+use Rattle.office_defining.proofs.InstallTold.{install_told}
+use Rattle.office_refines.proofs.laws.installs_are_exact.Goals as goal
+
+pub returns : goal.returns
+returns c = install_told
