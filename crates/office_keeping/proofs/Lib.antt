@@ -6,3 +6,5 @@ pub mod AskedFor
 pub mod RowsTold
 pub mod OneAnswer
 pub mod Written
+pub mod RefusedFirst
+pub mod KeptAs

@@ -1,12 +1,11 @@
--- What is asked before a bag is kept; its deposit's row, with what is kept beside it; and its files, which are added one after another.
-use Rattle.std.specs.Prelude.{◌≡◌, ℕ, ◌+◌, ℤ, List, [], ◌∷◌, ◌++◌, length, Option, None, Some, Result, Ok, Err}
-use Rattle.bag_text.specs.TransferForm.{File}
+-- What is asked before a bag is kept.
+use Rattle.std.specs.Prelude.{◌≡◌, ℕ, ◌+◌, List, [], ◌∷◌, ◌++◌, length, Option, None, Some, Result, Ok, Err}
 use Rattle.office_core.specs.FirstOf.{first_some}
 use Rattle.office_core.specs.declared.refusal.Refusal.{Refusal}
-use Rattle.office_rows.specs.Rows.{Tables, DepositRow, with_deposit, with_due, with_holds, with_file}
 use Rattle.office_history.specs.Histories.{History, deposits}
 use Rattle.office_history.specs.Bags.{bag_of}
 use Rattle.office_history.specs.Refusals.{place_refusals, taken_refusal, closed_ahead_refusal}
+pub use Rattle.office_by_rows.specs.Changes.{with_files, with_kept}
 use Rattle.office_keeping.specs.ByRows.{AskedValues}
 use Rattle.office_keeping.specs.declared.depositing.NewBag.{NewBag}
 
@@ -30,12 +29,3 @@ IsAskedFor h text these (Err why) = Some why ≡ first_some these
 abbrev pub number_for : Result NewBag Refusal → Result ℕ Refusal
 number_for (Ok new) = Ok new.number
 number_for (Err why) = Err why
-
--- the deposit is in its place by number; it falls due on that day or never, and so many live holds cover it
-abbrev pub with_kept : DepositRow → Option ℤ → ℤ → Tables → Tables
-with_kept d due holds t = with_holds d.number holds (with_due d.number due (with_deposit d t))
-
--- the deposit of that number has these files too
-abbrev pub with_files : ℤ → List File → Tables → Tables
-with_files n [] t = t
-with_files n (f ∷ fs) t = with_files n fs (with_file (record { deposit = n; path = f.path; content = f.content }) t)

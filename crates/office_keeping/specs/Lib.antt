@@ -1,2 +1,3 @@
 pub mod Depositing
 pub mod ByRows
+pub mod Asked

@@ -1,16 +1,22 @@
 //! Deposits of bags.
 
-ghost use Rattle.std.specs.Prelude.{◌≡◌, IfErr, IfOk, [], ◌∷◌, length};
+ghost use Rattle.std.specs.Prelude.{◌≡◌, IfErr, IfOk, [], ◌∷◌, Ok, Some, length};
+ghost use Rattle.std.specs.Result.{result_err};
 ghost use Rattle.office_core.specs.FirstOf.{first_some};
 ghost use Rattle.office_core.specs.declared.request.Request.TheVariants as requests;
 ghost use Rattle.office_tables.specs.Faults.{IsFailure};
-ghost use Rattle.office_tables.specs.Calls.{GoesOnInside, Keeps, Tells};
+ghost use Rattle.office_tables.specs.Calls.{GoesOnInside, Keeps, Shows, Tells};
+ghost use Rattle.office_history.specs.Bags.{bag_of};
 ghost use Rattle.office_history.specs.Histories.{History, deposits};
 ghost use Rattle.office_history.specs.Refusals as refusals;
 ghost use Rattle.office_history.specs.Refusals.{place_refusals, bad_bag, closed_ahead_refusal, full_of_deposits};
+ghost use Rattle.office_by_rows.specs.Refusals as by_rows;
+ghost use Rattle.office_by_rows.specs.Refusals.{first_told, highest_deposit, number_after};
+ghost use Rattle.office_by_rows.specs.Serving.{serve};
 ghost use Rattle.office_asking.specs.Asking.{visit_on};
 ghost use Rattle.office_asking.specs.Limits.{IsNumberAfter, IsRefusedOr};
-ghost use Rattle.office_asking.specs.Serving.{Finds, Decides};
+ghost use Rattle.office_asking.specs.Serving.{Decides, Finds, Serves};
+ghost use Rattle.office_keeping.specs.Asked.{first_refusals, request_of, visit_of};
 ghost use Rattle.office_keeping.specs.ByRows.{IsAskedOfDeposit, IsDepositedIn, IsNextDepositIn, IsPlaceRefusalIn, IsRefusalBeforeTheBag, IsTakenIn, values_of};
 ghost use Rattle.office_keeping.specs.Depositing.{IsAskedFor, number_for, refusals_before_the_bag};
 
@@ -40,6 +46,11 @@ fn place_refusal<S: Alter>(
     ensures rows { Tells S.Store tx.old.conn.now tx.new.conn.now result (λ tables why.
         IsPlaceRefusalIn tables (visit_on asked.now.day asked.now.caller.now)
         asked.now.collection.now asked.now.class.now why) }
+    ensures reads { Shows S.Store tx.old.conn.now tx.new.conn.now result (λ tables why.
+        first_told
+        (by_rows.place_refusals tables (visit_of asked.now) asked.now.collection.now
+        asked.now.class.now)
+        ≡ Some why) }
 {
     let collection = asked.collection.as_str();
     let class = asked.class.as_str();
@@ -70,6 +81,8 @@ fn taken_refusal<S: Alter>(
     ensures same { Keeps S.Store tx.old.conn.now tx.new.conn.now result }
     ensures rows { Tells S.Store tx.old.conn.now tx.new.conn.now result (λ tables why.
         IsTakenIn tables accession.now why) }
+    ensures reads { Shows S.Store tx.old.conn.now tx.new.conn.now result (λ tables why.
+        by_rows.taken_refusal tables accession.now ≡ Some why) }
 {
     match by_accession(tx, accession.as_str())? {
         Some(deposit) => Ok(Some(Refusal::Taken(deposit.number))),
@@ -98,6 +111,8 @@ fn refusal_before_the_bag<S: Alter>(
     ensures same { Keeps S.Store tx.old.conn.now tx.new.conn.now result }
     ensures rows { Tells S.Store tx.old.conn.now tx.new.conn.now result (λ tables why.
         IsRefusalBeforeTheBag tables (values_of asked.now) why) }
+    ensures reads { Shows S.Store tx.old.conn.now tx.new.conn.now result (λ tables why.
+        first_told (first_refusals tables asked.now) ≡ Some why) }
 {
     if let Some(why) = place_refusal(tx, asked)? {
         return Ok(Some(why));
@@ -115,6 +130,10 @@ fn next_number<S: Alter>(tx: &mut Transaction<'_, S>) -> Result<Result<u32, Refu
         IsNumberAfter (length (deposits h)) h.max_deposits next) }
     ensures same { Keeps S.Store tx.old.conn.now tx.new.conn.now result }
     ensures rows { Tells S.Store tx.old.conn.now tx.new.conn.now result IsNextDepositIn }
+    ensures full { Shows S.Store tx.old.conn.now tx.new.conn.now result (λ tables next.
+        by_rows.full_of_deposits tables ≡ Some (result_err next)) }
+    ensures number { Shows S.Store tx.old.conn.now tx.new.conn.now result (λ tables next.
+        IfOk next (λ number. number_after (highest_deposit tables) ≡ Some number)) }
 {
     let limits = limits(tx)?;
     let last = last_deposit(tx)?;
@@ -136,11 +155,16 @@ fn judged_bag<'a>(
     number: Result<u32, Refusal>,
 ) -> Result<Result<NewBag<'a>, Refusal>, TableFault>
     ensures failure { IfErr result IsFailure }
+    ensures memory { IfErr result (λ fault. fault ≡ TableFault.Memory) }
     ensures judged { IfOk result (λ asked. (h : History)
         → IsNumberAfter (length (deposits h)) h.max_deposits number
         → IsAskedFor h text.entry.now (bad_bag text.entry.now ∷ full_of_deposits h ∷ []) asked) }
     ensures numbered { IfOk result (λ asked.
         IsRefusedOr (bad_bag text.entry.now) (λ next. next ≡ number) (number_for asked)) }
+    ensures refused { IfOk result (λ asked.
+        result_err asked ≡ first_some (bad_bag text.entry.now ∷ result_err number ∷ [])) }
+    ensures given { IfOk result (λ asked. IfOk asked (λ new. number ≡ Ok new.number)) }
+    ensures bag { IfOk result (λ asked. IfOk asked (λ new. bag_of text.entry.now ≡ Ok new.bag)) }
 {
     let bag = match valid_bag(alloc, text)? {
         Ok(bag) => bag,
@@ -165,6 +189,12 @@ fn numbered_bag<'a, S: Alter>(
     ensures same { Keeps S.Store tx.old.conn.now tx.new.conn.now result }
     ensures rows { Tells S.Store tx.old.conn.now tx.new.conn.now result (λ tables asked.
         IsRefusedOr (bad_bag text.entry.now) (IsNextDepositIn tables) (number_for asked)) }
+    ensures refused { Shows S.Store tx.old.conn.now tx.new.conn.now result (λ tables asked.
+        first_told (Some (bad_bag text.entry.now) ∷ by_rows.full_of_deposits tables ∷ [])
+        ≡ Some (result_err asked)) }
+    ensures number { Shows S.Store tx.old.conn.now tx.new.conn.now result (λ tables asked.
+        IfOk asked (λ new. number_after (highest_deposit tables) ≡ Some new.number)) }
+    ensures bag { IfOk result (λ asked. IfOk asked (λ new. bag_of text.entry.now ≡ Ok new.bag)) }
 {
     let number = next_number(tx)?;
     judged_bag(alloc, text, number)
@@ -186,6 +216,12 @@ fn new_bag<'a, S: Alter>(
     ensures same { Keeps S.Store tx.old.conn.now tx.new.conn.now result }
     ensures rows { Tells S.Store tx.old.conn.now tx.new.conn.now result (λ tables given.
         IsAskedOfDeposit tables (values_of asked.now) text.entry.now (number_for given)) }
+    ensures refused { Shows S.Store tx.old.conn.now tx.new.conn.now result (λ tables given.
+        by_rows.refusal tables (visit_of asked.now) (request_of asked.now text.entry)
+        ≡ Some (result_err given)) }
+    ensures number { Shows S.Store tx.old.conn.now tx.new.conn.now result (λ tables given.
+        IfOk given (λ new. number_after (highest_deposit tables) ≡ Some new.number)) }
+    ensures bag { IfOk result (λ given. IfOk given (λ new. bag_of text.entry.now ≡ Ok new.bag)) }
 {
     if let Some(why) = refusal_before_the_bag(tx, asked)? {
         return Ok(Err(why));
@@ -213,6 +249,8 @@ pub fn deposit<S: Alter>(
     ) }
     ensures rows { Tells S.Store tx.old.conn.now tx.new.conn.now result (λ tables given.
         IsDepositedIn tables (values_of asked.now) bag.entry.now given) }
+    ensures serves { Serves S.Store tx.old.conn.now tx.new.conn.now result (λ tables.
+        serve tables (visit_of asked.now) (request_of asked.now bag.entry)) }
 {
     let new = match new_bag(alloc, tx, asked, bag)? {
         Ok(new) => new,

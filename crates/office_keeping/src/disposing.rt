@@ -1,12 +1,15 @@
 //! The disposal of deposits.
 
-ghost use Rattle.std.specs.Prelude.{◌≡◌, [], ◌∷◌, None};
+ghost use Rattle.std.specs.Prelude.{◌≡◌, [], ◌∷◌, None, Some};
 ghost use Rattle.office_core.specs.declared.request.Request.TheVariants as requests;
-ghost use Rattle.office_tables.specs.Calls.{GoesOnInside, Tells};
+ghost use Rattle.office_tables.specs.Calls.{GoesOnInside, Shows, Tells};
 ghost use Rattle.office_history.specs.Histories.{Destroyed, destruction_day};
 ghost use Rattle.office_history.specs.Refusals.{refusal};
+ghost use Rattle.office_by_rows.specs.Changes.{destroyed};
+ghost use Rattle.office_by_rows.specs.Refusals as by_rows;
+ghost use Rattle.office_by_rows.specs.Serving.{serve};
 ghost use Rattle.office_asking.specs.Asking.{visit_on};
-ghost use Rattle.office_asking.specs.Serving.{Finds, Accepts, Decides};
+ghost use Rattle.office_asking.specs.Serving.{Accepts, Changes, Decides, Finds, Serves};
 ghost use Rattle.office_keeping.specs.ByRows.{IsDisposalRefusalIn, IsDisposedIn};
 
 use office_asking::{Asker, disposal_facts};
@@ -30,6 +33,8 @@ fn disposal_refusal<S: Alter>(
         why ≡ refusal h day caller.now (requests.Dispose number)) }
     ensures rows { Tells S.Store tx.old.conn.now tx.new.conn.now result (λ tables why.
         IsDisposalRefusalIn tables (visit_on day caller.now) number why) }
+    ensures reads { Shows S.Store tx.old.conn.now tx.new.conn.now result (λ tables why.
+        by_rows.refusal tables (visit_on day caller.now) (requests.Dispose number) ≡ Some why) }
 {
     verdicts_decide();
     let Some(deposit) = deposit_row(tx, number)? else {
@@ -48,6 +53,8 @@ fn destroy<S: Alter>(tx: &mut Transaction<'_, S>, day: Day, number: u32) -> Resu
           was_so = λ h. destruction_day h number ≡ None;
           changes = Destroyed day number ∷ [];
         }) }
+    ensures changes { Changes S.Store tx.old.conn.now tx.new.conn.now result (λ tables.
+        Some (destroyed number day tables)) }
 {
     mark_gone(tx, number, day.number() as i64)?;
     drop_files(tx, number)
@@ -69,6 +76,8 @@ pub fn dispose<S: Alter>(
         (day, caller.entry, requests.Dispose number) }
     ensures rows { Tells S.Store tx.old.conn.now tx.new.conn.now result (λ tables given.
         IsDisposedIn tables (visit_on day caller.now) number given) }
+    ensures serves { Serves S.Store tx.old.conn.now tx.new.conn.now result (λ tables.
+        serve tables (visit_on day caller.now) (requests.Dispose number)) }
 {
     if let Some(why) = disposal_refusal(alloc, tx, day, caller, number)? {
         return Ok(Answer::Refused(why));

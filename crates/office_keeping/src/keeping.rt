@@ -1,19 +1,20 @@
 //! A bag that is kept: its deposit's row with what is kept beside it, and its files.
 
-ghost use Rattle.std.specs.Prelude.{◌≡◌, IfErr, IfOk, [], ◌∷◌, ◌+◌, length, pos};
+ghost use Rattle.std.specs.Prelude.{◌≡◌, IfErr, IfOk, [], ◌∷◌, ◌+◌, ◌<◌, ◌^◌, Ok, Some, length, option_map, pos};
 ghost use Rattle.bag_text.specs.TransferReading.{files_of};
 ghost use Rattle.office_rows.specs.Rows as rows;
 ghost use Rattle.office_rows.specs.Rows.{with_file};
 ghost use Rattle.office_tables.specs.Faults.{IsFailure};
-ghost use Rattle.office_tables.specs.Calls.{GoesOnInTurn, GoesOnInside, Tells, Writes};
+ghost use Rattle.office_tables.specs.Calls.{GoesOnInTurn, GoesOnInside, Shows, Tells, Writes};
 ghost use Rattle.office_tables.specs.Contents.{LeavesOnce};
 ghost use Rattle.office_tables.specs.Deposits.{added_row};
 ghost use Rattle.office_core.specs.Retention.{due_number};
 ghost use Rattle.office_core.specs.declared.retention.Due.{Due};
 ghost use Rattle.office_history.specs.Histories.{Deposit, Deposited, deposits, due, live_holds};
+ghost use Rattle.office_by_rows.specs.Changes.{count_in, due_in, kept_as, with_files, with_kept};
 ghost use Rattle.office_asking.specs.ByRows.{AreReleasedOnDays, IsDueIn};
-ghost use Rattle.office_asking.specs.Serving.{Accepts, Finds};
-ghost use Rattle.office_keeping.specs.Depositing.{with_files, with_kept};
+ghost use Rattle.office_asking.specs.Serving.{Accepts, Changes, Finds};
+ghost use Rattle.office_keeping.specs.Asked.{row_of};
 
 use crate::asked::DepositAsked;
 use bag_check::count_payload;
@@ -48,6 +49,8 @@ fn add_files<S: Alter>(
     ensures becomes { Writes S.Store tx.old.conn.now tx.new.conn.now result
         (with_files (pos number) (files_of files.now)) }
     ensures once { LeavesOnce S.Store tx.old.conn.now tx.new.conn.now result }
+    ensures changes { Changes S.Store tx.old.conn.now tx.new.conn.now result (λ tables.
+        Some (with_files (pos number) (files_of files.now) tables)) }
 {
     for file in files {
         add_file(tx, number, file)?;
@@ -58,6 +61,7 @@ fn add_files<S: Alter>(
 /// The number that stands in a row for a count.
 fn row_count(count: usize) -> Result<i64, TableFault>
     ensures same { IfOk result (λ number. number ≡ pos count) }
+    ensures fits { count < 2 ^ 63 → result ≡ Ok (pos count) }
     ensures failure { IfErr result IsFailure }
     ensures store { IfErr result (λ fault. fault ≡ TableFault.Store) }
 {
@@ -101,6 +105,13 @@ fn beside_row<S: Alter>(
         (length
         (rows.live_holds (pos number) asked.now.collection.now asked.now.class.now tables)))
         × AreReleasedOnDays tables number asked.now.collection.now asked.now.class.now) }
+    ensures reads_due { Shows S.Store tx.old.conn.now tx.new.conn.now result (λ tables beside.
+        option_map due_number (due_in tables asked.now.class.now asked.now.closed)
+        ≡ Some beside.due) }
+    ensures reads_holds { Shows S.Store tx.old.conn.now tx.new.conn.now result (λ tables beside.
+        option_map pos
+        (count_in tables number asked.now.collection.now asked.now.class.now)
+        ≡ Some beside.holds) }
 {
     let collection = asked.collection.as_str();
     let class = asked.class.as_str();
@@ -122,6 +133,8 @@ fn put_row<S: Alter>(
     ensures becomes { Writes S.Store tx.old.conn.now tx.new.conn.now result
         (with_kept (added_row deposit.entry) beside.due beside.holds) }
     ensures once { LeavesOnce S.Store tx.old.conn.now tx.new.conn.now result }
+    ensures changes { Changes S.Store tx.old.conn.now tx.new.conn.now result (λ tables.
+        Some (with_kept (added_row deposit.entry) beside.due beside.holds tables)) }
 {
     let number = deposit.number;
     put_deposit(tx, deposit)?;
@@ -157,6 +170,8 @@ pub(crate) fn keep<S: Alter>(
         (due : Due) × IsDueIn tables asked.now.class.now asked.now.closed due) }
     ensures released { Tells S.Store tx.old.conn.now tx.new.conn.now result (λ tables _.
         AreReleasedOnDays tables number asked.now.collection.now asked.now.class.now) }
+    ensures changes { Changes S.Store tx.old.conn.now tx.new.conn.now result
+        (kept_as number (row_of asked.now number bag.now) asked.now.closed bag.now) }
 {
     let beside = beside_row(alloc, tx, asked, number)?;
     let payload = count_payload(bag);

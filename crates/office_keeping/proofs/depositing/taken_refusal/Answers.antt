@@ -4,6 +4,9 @@ use Rattle.office_history.specs.Histories.{accession_of}
 use Rattle.office_asking.proofs.Readings.{pictured_still, in_picture}
 use Rattle.office_keeping.proofs.AccessionTold.{accession_told}
 use Rattle.office_keeping.proofs.Placing.{taken_some, taken_none}
+use Rattle.office_core.specs.FirstOf.{◌>>=◌}
+use Rattle.office_core.specs.declared.refusal.Refusal.TheVariants.{Taken}
+use Rattle.office_by_rows.specs.Values.{count_of, if_any}
 use Rattle.office_keeping.proofs.depositing.taken_refusal.Goals as goal
 
 pub returns-in-Some-clause-taken : goal.returns-in-Some-clause-taken
@@ -30,3 +33,14 @@ returns-in-Some-clause-rows g c clean office =
 pub returns-in-None-clause-rows : goal.returns-in-None-clause-rows
 returns-in-None-clause-rows g c clean office =
     record { number = None; is = ap (option_map (λ (d : DepositRow). d.number)) (sym (sym c.in-None.is ∙ (rw c.as_str.ensures.text at (c.in_ok-deposit.ensures.found clean office)))); comes_to = refl }
+
+pub returns-in-Some-clause-reads : goal.returns-in-Some-clause-reads
+returns-in-Some-clause-reads g c clean office =
+    let found = ap (option_map (λ (d : DepositRow). d.number)) (sym (sym c.in-Some.is ∙ (rw c.as_str.ensures.text at (c.in_ok-deposit.ensures.found clean office)))) in
+    let number : Some c.in-Some.deposit.number ≡ Some (pos c.deposit.inside.number) = sym (ap (λ (d : DepositRow). Some d.number) c.deposit.view_is) in
+    (c.in_ok-deposit.ensures.same clean office, ap (λ number. if_any count_of number >>= λ number. Some (option_map Taken number)) (found ∙ number))
+
+pub returns-in-None-clause-reads : goal.returns-in-None-clause-reads
+returns-in-None-clause-reads g c clean office =
+    let found = ap (option_map (λ (d : DepositRow). d.number)) (sym (sym c.in-None.is ∙ (rw c.as_str.ensures.text at (c.in_ok-deposit.ensures.found clean office)))) in
+    (c.in_ok-deposit.ensures.same clean office, ap (λ number. if_any count_of number >>= λ number. Some (option_map Taken number)) found)

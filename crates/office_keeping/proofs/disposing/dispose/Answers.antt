@@ -1,4 +1,4 @@
-use Rattle.std.proofs.Common.{rules, ◌≡◌, refl, sym, subst, ◌∙◌, Some, None}
+use Rattle.std.proofs.Common.{rules, ◌≡◌, refl, sym, ap, subst, ◌∙◌, Some, None}
 use Rattle.sqlite.specs.Held.{state}
 use Rattle.office_core.specs.declared.answer.Answer.TheVariants as answers
 use Rattle.office_core.specs.declared.request.Request.TheVariants as requests
@@ -9,6 +9,8 @@ use Rattle.office_asking.proofs.Serving.{refused_serves, allowed_serves}
 use Rattle.office_tables.specs.Tables.{tables_of}
 use Rattle.office_keeping.specs.ByRows.{IsDisposalRefusalIn}
 use Rattle.office_tables.proofs.InTurn.{clean_first, inside_after, inside_failed}
+use Rattle.office_asking.proofs.RowsTold.{office_still}
+use Rattle.office_asking.proofs.ServedBy.{allowed_by, refused_by}
 use Rattle.office_keeping.proofs.disposing.dispose.Goals as goal
 
 pub returns-in-Some-clause-decides : goal.returns-in-Some-clause-decides
@@ -47,3 +49,16 @@ returns-in_err-destroy-clause-inside g c = inside_failed c.in_ok-why.ensures.ins
 
 pub returns-clause-inside : goal.returns-clause-inside
 returns-clause-inside g c = inside_after c.in_ok-why.ensures.inside c.in_ok-destroy.ensures.inside _ (search rules)
+
+pub returns-in-Some-clause-serves : goal.returns-in-Some-clause-serves
+returns-in-Some-clause-serves g c clean office =
+    let a = c.args in
+    let asked = c.in_ok-why.ensures.reads clean office in
+    refused_by (visit_on a.day a.caller.now) (requests.Dispose a.number) c.in-Some.why office asked.0 (asked.1 ∙ ap Some c.in-Some.is)
+
+pub returns-clause-serves : goal.returns-clause-serves
+returns-clause-serves g c clean office =
+    let a = c.args in
+    let asked = c.in_ok-why.ensures.reads (clean_first c.destroy.ensures.inside.stays clean) office in
+    let none : c.in_ok-why.field-0 ≡ None = search rules in
+    allowed_by (visit_on a.day a.caller.now) (requests.Dispose a.number) (answers.Destroyed a.number a.day) asked.0 (asked.1 ∙ ap Some none) refl (c.in_ok-destroy.ensures.changes clean (office_still asked.0 office))

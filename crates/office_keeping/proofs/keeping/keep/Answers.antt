@@ -1,4 +1,4 @@
-use Rattle.std.proofs.Common.{rules, pos, refl, subst, None, OnOk}
+use Rattle.std.proofs.Common.{rules, pos, refl, sym, subst, None, Some, Ok, OnOk}
 use Rattle.office_keeping.specs.Depositing.{with_files, with_kept}
 use Rattle.sqlite.specs.Held.{state}
 use Rattle.std.proofs.lemmas.Result.{on_ok_weaker}
@@ -8,6 +8,13 @@ use Rattle.office_history.specs.Pictures.{row_by_gone}
 use Rattle.office_keeping.proofs.DepositedTold.{kept_deposit}
 use Rattle.office_asking.proofs.InTurn.{on_both}
 use Rattle.office_tables.proofs.InTurn.{clean_first, inside_as, inside_failed, inside_then, then_in_turn}
+use Rattle.office_by_rows.specs.Changes.{kept_as}
+use Rattle.office_asking.specs.Serving.{Changes}
+use Rattle.office_tables.specs.declared.fault.TableFault.{TableFault}
+use Rattle.office_asking.proofs.RowsTold.{office_still}
+use Rattle.office_asking.proofs.ServedBy.{changed_after, changed_as, changes_then_in_turn}
+use Rattle.office_keeping.specs.Asked.{row_of}
+use Rattle.office_keeping.proofs.KeptAs.{kept_beside}
 use Rattle.office_keeping.proofs.keeping.keep.Goals as goal
 
 pub returns-clause-kept : goal.returns-clause-kept
@@ -52,3 +59,26 @@ returns-in_err-put_row-clause-inside g c = inside_failed c.in_ok-beside.ensures.
 
 pub returns-clause-inside : goal.returns-clause-inside
 returns-clause-inside g c = then_in_turn (inside_then c.in_ok-beside.ensures.inside c.in_ok-put_row.ensures.inside) c.add_files.ensures.inside
+
+pub returns-clause-changes : goal.returns-clause-changes
+returns-clause-changes g c clean office =
+    let a = c.args in
+    let q = a.asked.now in
+    let bag = a.bag.now in
+    let row = row_of q a.number bag in
+    let beside = c.in_ok-beside.beside in
+    let t = tables_of (state g.S.Store a.tx.now.conn.now).now in
+    let put = c.in_ok-put_row.ensures in
+    let add = c.add_files.ensures in
+    let early = clean_first put.inside.stays (clean_first add.inside.stays clean) in
+    let due = c.in_ok-beside.ensures.reads_due early office in
+    let holds = c.in_ok-beside.ensures.reads_holds early office in
+    let first = state g.S.Store c.beside_row.new.tx.conn.now in
+    let second = state g.S.Store c.put_row.new.tx.conn.now in
+    let wrote : Changes {T = Unit {0}} {E = TableFault} g.S.Store c.beside_row.new.tx.conn.now c.put_row.new.tx.conn.now (Ok tt) (λ t. Some (with_kept row beside.due beside.holds t)) = λ clean office.
+    let became = rw (c.as_str.ensures.text, c.as_str-2.ensures.text, c.as_str-3.ensures.text) at (put.becomes clean office) in
+    let added : Becomes second.now (with_kept row beside.due beside.holds (tables_of first.now)) = search (rules, became) in
+    record { rows = with_kept row beside.due beside.holds (tables_of first.now); is = refl; becomes = added; once = put.once clean office } in
+    let both = changes_then_in_turn put.inside add.inside (λ t. Some (with_kept row beside.due beside.holds t)) (λ t. Some (with_files (pos a.number) bag t)) wrote (rw c.files.ensures.whole at add.changes) clean (office_still due.0 office) in
+    let kept = kept_beside a.number row q.closed bag t beside.due beside.holds due.1 holds.1 in
+    on_ok_weaker c.add_files.result (λ it. changed_as (λ t. Some (with_files (pos a.number) bag (with_kept row beside.due beside.holds t))) (kept_as a.number row q.closed bag) (sym kept) (changed_after (λ t. Some (with_files (pos a.number) bag (with_kept row beside.due beside.holds t))) due.0 it)) both
