@@ -5,3 +5,4 @@ pub mod CollectionTold
 pub mod InstallTold
 pub mod DefinedByRows
 pub mod OneAnswer
+pub mod DueDaysByRows

@@ -15,8 +15,10 @@ ghost use Rattle.office_tables.specs.Calls.{GoesOnInTurn, GoesOnInside, Tells, W
 ghost use Rattle.office_tables.specs.Contents.{LeavesOnce};
 ghost use Rattle.office_history.specs.Histories.{DefinedClass};
 ghost use Rattle.office_history.specs.Pictures.{years_number};
+ghost use Rattle.office_by_rows.specs.Changes.{with_due_days, with_years};
+ghost use Rattle.office_by_rows.specs.Serving.{serve};
 ghost use Rattle.office_asking.specs.Asking.{visit_on};
-ghost use Rattle.office_asking.specs.Serving.{Accepts, Alters, Decides};
+ghost use Rattle.office_asking.specs.Serving.{Accepts, Alters, Changes, Decides, Serves};
 ghost use Rattle.office_defining.specs.ByRows.{AreClosedOnDays, IsClassDefinedIn};
 ghost use Rattle.office_defining.specs.Revising.{AreDueDaysSet, closing_row};
 
@@ -48,6 +50,8 @@ fn set_due_day<S: Alter>(
         (with_due row.now.number (due_number (due_of closed years))) }
     ensures once { LeavesOnce S.Store tx.old.conn.now tx.new.conn.now result }
     ensures closed { OnOk result (IsDayNumber row.now.closed) }
+    ensures changes { Changes S.Store tx.old.conn.now tx.new.conn.now result
+        (with_due_days years (row.now ∷ [])) }
 {
     let closed = day_numbered(row.closed)?;
     set_due(tx, row.number, due(closed, years).number())
@@ -63,6 +67,8 @@ fn set_due_days<S: Alter>(
     ensures set { (deposits : List (ℤ × Date)) → rows.now ≡ map closing_row deposits
         → Alters S.Store tx.old.conn.now tx.new.conn.now result (AreDueDaysSet years deposits) }
     ensures closed { OnOk result (AreClosedOnDays rows.now) }
+    ensures changes { Changes S.Store tx.old.conn.now tx.new.conn.now result
+        (with_due_days years rows.now) }
 {
     for row in rows {
         set_due_day(tx, row, years)?;
@@ -84,6 +90,8 @@ fn set_days_of_class<S: Alter>(
         → Alters S.Store tx.old.conn.now tx.new.conn.now result (AreDueDaysSet years deposits) }
     ensures rows { Tells S.Store tx.old.conn.now tx.new.conn.now result (λ tables _.
         AreClosedOnDays (class_closings class.now tables)) }
+    ensures changes { Changes S.Store tx.old.conn.now tx.new.conn.now result (λ tables.
+        with_due_days years (class_closings class.now tables) tables) }
 {
     let rows = rows_of_class(alloc, tx, class)?;
     set_due_days(tx, &rows, years)
@@ -102,6 +110,8 @@ fn put_years<S: Alter>(
         (record { was_so = λ _. ⊤; changes = DefinedClass day name.now years ∷ [] }) }
     ensures rows { Tells S.Store tx.old.conn.now tx.new.conn.now result (λ tables _.
         AreClosedOnDays (class_closings name.now tables)) }
+    ensures changes { Changes S.Store tx.old.conn.now tx.new.conn.now result
+        (with_years name.now years) }
 {
     put_class(tx, name, years_number(years))?;
     set_days_of_class(alloc, tx, name, years)
@@ -124,6 +134,8 @@ pub fn define_class<S: Alter>(
         (day, caller.entry, requests.DefineClass name.now years) }
     ensures rows { Tells S.Store tx.old.conn.now tx.new.conn.now result (λ tables given.
         IsClassDefinedIn tables (visit_on day caller.now) name.now years given) }
+    ensures serves { Serves S.Store tx.old.conn.now tx.new.conn.now result (λ tables.
+        serve tables (visit_on day caller.now) (requests.DefineClass name.now years)) }
 {
     if let Some(why) = denial(tx, day, caller, Action::Class, None, Some(name.as_str()))? {
         return Ok(Answer::Refused(why));

@@ -1,11 +1,12 @@
 //! The policy.
 
-ghost use Rattle.std.specs.Prelude.{◌≡◌, ⊤, IfErr, IfOk, [], ◌∷◌, map};
+ghost use Rattle.std.specs.Prelude.{◌≡◌, ⊤, IfErr, IfOk, [], ◌∷◌, map, Some};
 ghost use Rattle.office_tables.specs.Faults.{IsFailure};
 ghost use Rattle.office_tables.specs.Calls.{GoesOnInside};
 ghost use Rattle.office_history.specs.Histories.{Installed};
 ghost use Rattle.office_history.specs.Pictures.{action_pattern_text, caller_row, effect_number, pattern_text, rule_row, rule_rows};
-ghost use Rattle.office_asking.specs.Serving.{Accepts};
+ghost use Rattle.office_by_rows.specs.Changes.{installed};
+ghost use Rattle.office_asking.specs.Serving.{Accepts, Changes};
 
 use office_core::{ActionPattern, Caller, Effect, Pattern, Policy, Rule};
 use office_tables::{CallerRow, RuleRow, TableFault, put_policy};
@@ -108,6 +109,8 @@ pub fn install<S: Alter>(
     ensures inside { GoesOnInside S.Store tx.old.conn tx.new.conn result }
     ensures installed { Accepts S.Store tx.old.conn.now tx.new.conn.now result
         (record { was_so = λ _. ⊤; changes = Installed policy.now ∷ [] }) }
+    ensures changes { Changes S.Store tx.old.conn.now tx.new.conn.now result (λ tables.
+        Some (installed policy.now tables)) }
 {
     let callers = caller_rows(alloc, policy.callers())?;
     let rules = rule_rows(alloc, policy)?;

@@ -1,4 +1,4 @@
-use Rattle.std.proofs.Common.{rules, ◌≡◌, ℕ, List, ap, sym, subst, ◌∙◌, Some, None}
+use Rattle.std.proofs.Common.{rules, ◌≡◌, ℕ, List, ap, sym, subst, ◌∙◌, Some, None, ◌∷◌, []}
 use Rattle.sqlite.specs.Held.{state}
 use Rattle.office_core.specs.declared.action.Action.TheVariants as acts
 use Rattle.office_core.specs.declared.request.Request.TheVariants as requests
@@ -10,7 +10,11 @@ use Rattle.office_history.specs.Answers.{allowed_change}
 use Rattle.office_history.specs.Refusals.{denial}
 use Rattle.office_defining.proofs.CollectionTold.{collection_told}
 use Rattle.office_asking.proofs.Serving.{refused_serves, allowed_serves, one_refusal, pictures_grown}
+use Rattle.office_by_rows.specs.Asking.{denial_in}
+use Rattle.office_by_rows.specs.Refusals.{first_told}
 use Rattle.office_asking.specs.Asking.{visit_on}
+use Rattle.office_asking.proofs.RowsTold.{office_still}
+use Rattle.office_asking.proofs.ServedBy.{allowed_by, changes_by, refused_by}
 use Rattle.office_asking.specs.ByRows.{IsDenialBy, deciding_row}
 use Rattle.office_defining.specs.ByRows.{IsCollectionDefinedIn}
 use Rattle.office_defining.proofs.DefinedByRows.{collection_denied, collection_allowed}
@@ -52,3 +56,23 @@ returns-clause-rows g c clean office =
     let none : c.in_ok-why.field-0 ≡ None = search rules in
     let denied = subst (λ (n : List ℕ). IsDenialBy (deciding_row (tables_of old.now) (visit_on a.day a.caller.now) acts.Collection (Some n) None) c.in_ok-why.field-0) c.as_str.ensures.text (c.in_ok-why.ensures.rows early office) in
     subst (λ (n : List ℕ). IsCollectionDefinedIn (tables_of old.now) (visit_on a.day a.caller.now) a.name.now (answers.Collection n)) (sym c.in_ok-defined.ensures) (collection_allowed (tables_of old.now) (visit_on a.day a.caller.now) a.name.now c.in_ok-why.field-0 none denied)
+
+pub returns-in-Some-clause-serves : goal.returns-in-Some-clause-serves
+returns-in-Some-clause-serves g c clean office =
+    let a = c.args in
+    let t = tables_of (state g.S.Store a.tx.now.conn.now).now in
+    let visit = visit_on a.day a.caller.now in
+    let asked = c.in_ok-why.ensures.reads clean office in
+    let denied : denial_in t visit acts.Collection (Some a.name.now) None ≡ Some (Some c.in-Some.why) = search (rules, asked.1) in
+    refused_by visit (requests.DefineCollection a.name.now) c.in-Some.why office asked.0 (ap (λ o. first_told (o ∷ [])) denied)
+
+pub returns-clause-serves : goal.returns-clause-serves
+returns-clause-serves g c clean office =
+    let a = c.args in
+    let t = tables_of (state g.S.Store a.tx.now.conn.now).now in
+    let visit = visit_on a.day a.caller.now in
+    let asked = c.in_ok-why.ensures.reads (clean_first c.put_collection.ensures.inside.stays clean) office in
+    let none : denial_in t visit acts.Collection (Some a.name.now) None ≡ Some None = search (rules, asked.1) in
+    let put = c.in_ok-put_collection.ensures in
+    let changed = changes_by put.inside (with_collection a.name.now) (rw c.as_str-2.ensures.text at put.becomes) put.once clean (office_still asked.0 office) in
+    allowed_by visit (requests.DefineCollection a.name.now) _ asked.0 (ap (λ o. first_told (o ∷ [])) none) (ap (λ n. Some (answers.Collection n)) (sym c.in_ok-defined.ensures)) changed
