@@ -4,3 +4,4 @@ pub mod Refusals
 pub mod Answers
 pub mod Changes
 pub mod Serving
+pub mod Stock

@@ -12,3 +12,8 @@ pub mod StockTold
 pub mod AllowedTold
 pub mod ByRows
 pub mod OneAnswer
+pub mod ToldInTurn
+pub mod RecordByRow
+pub mod FormTold
+pub mod ListedByRow
+pub mod Totals

@@ -1,11 +1,14 @@
 -- What the rules let a caller do with the deposits of a collection and a class, and what is known of it.
 use Rattle.std.specs.Prelude.{◌≡◌, ℕ, ◌&&◌, Bool, List, Some, IfSome, is_none, bytes_eq}
 use Rattle.std.specs.HashMap.{get}
+use Rattle.jiff.specs.Types.{Date}
 use denote.Ref.{Bor}
 use Rattle.office_core.specs.declared.action.Action.{Action}
+use Rattle.office_rows.specs.Rows.{Tables}
 use Rattle.office_history.specs.Histories.{History}
 use Rattle.office_history.specs.Refusals.{denial}
-use Rattle.office_asking.specs.Asking.{IsAsker, Visit}
+use Rattle.office_by_rows.specs.Answers.{is_allowed_for}
+use Rattle.office_asking.specs.Asking.{IsAsker, Visit, role_name}
 use Rattle.office_serving.specs.declared.allowances.Allowances.{Allowances}
 
 -- a collection and a class
@@ -24,3 +27,10 @@ pub record AreOf (h : History) (visit : Visit) (action : Action) (these : Allowa
   pub asker : IsAsker h visit these.asker.now
   pub action_is : these.action ≡ action
   pub right : (pair : CollectionAndClass) → IfSome (get same_pair these.known pair) (λ is. is ≡ is_allowed h visit action pair.0.now pair.1.now)
+
+-- they are those of this role, this day and this action, and what is known of a pair is what the rows of the rules say of it
+pub record AreFor (t : Tables) (role : List ℕ) (day : Date) (action : Action) (these : Allowances) : Type 0 where
+  pub role_is : role_name these.asker.now ≡ role
+  pub day_is : these.asker.now.day ≡ day
+  pub action_is : these.action ≡ action
+  pub right : (pair : CollectionAndClass) → IfSome (get same_pair these.known pair) (λ is. is_allowed_for t role day action pair.0.now pair.1.now ≡ Some is)

@@ -1,19 +1,17 @@
 -- The files that rows have.
-use Rattle.std.specs.Prelude.{◌≡◌, ℕ, pos, List, Vec, Option, Result, Ok, Err, map}
-use Rattle.bag_text.specs.TransferForm.{File, IsBag}
+use Rattle.std.specs.Prelude.{◌≡◌, ℕ, List, Vec, Option, Result, Ok, Err, is_none, map}
+use Rattle.bag_text.specs.BagList.{list_fault}
+use Rattle.bag_text.specs.TransferForm.{File, IsBag, set_text}
+use Rattle.office_core.specs.FirstOf.{answer_if}
 use Rattle.office_core.specs.declared.refusal.Refusal.{Refusal}
-use Rattle.office_rows.specs.Rows.{DepositRow, FileRow, Tables}
-use Rattle.office_tables.specs.Deposits.{files_by_path}
+use Rattle.office_rows.specs.Rows.{DepositRow, FileRow}
 use Rattle.office_history.specs.Histories.{History, Deposit}
+pub use Rattle.office_by_rows.specs.Answers.{file_in, stored_files}
 use Rattle.office_asking.specs.Deposits.{IsDepositAsked, IsFoundRow}
 
--- the file of a row
-abbrev pub file_in : FileRow → File
-file_in row = record { path = row.path; content = row.content }
-
--- the files that stand in the tables for the deposit of that number, ascending by path
-abbrev pub stored_files : ℕ → Tables → List File
-stored_files n tables = map file_in (files_by_path (pos n) tables)
+-- the transfer form of files, where they are a bag
+abbrev pub form_in : List File → Option (List ℕ)
+form_in files = answer_if (is_none (list_fault files)) (set_text files)
 
 -- the deposit is there, none of these refusals stands, and these are the files of its bag, which is one
 pub record AreThere (h : History) (n : ℕ) (these : Deposit → List (Option Refusal)) (files : List File) : Type 0 where

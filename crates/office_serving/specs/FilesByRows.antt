@@ -1,7 +1,6 @@
 -- What is answered of a deposit's files and holds by the rows of an office, whichever rows they are.
-use Rattle.std.specs.Prelude.{◌≡◌, ℕ, ℤ, pos, List, Vec, Option, None, Result, Ok, Err, map, option_map, if◌then◌else◌}
+use Rattle.std.specs.Prelude.{◌≡◌, ℕ, ℤ, pos, List, Vec, Result, Ok, Err, map}
 use Rattle.std.specs.List.{AllByRecursion}
-use Rattle.bag_text.specs.Paths.{is_good}
 use Rattle.bag_text.specs.TransferForm.{IsBag, set_text}
 use Rattle.office_core.specs.declared.action.Action.{Action}
 use Rattle.office_core.specs.declared.action.Action.TheVariants as acts
@@ -9,8 +8,9 @@ use Rattle.office_core.specs.declared.answer.Answer.{Answer}
 use Rattle.office_core.specs.declared.answer.Answer.TheVariants.{Bag, Holds, Refused}
 use Rattle.office_core.specs.declared.answer.LiveHold.{LiveHold}
 use Rattle.office_core.specs.declared.refusal.Refusal.{Refusal}
-use Rattle.office_rows.specs.Rows.{DepositRow, FileRow, Tables, file_at, live_holds}
+use Rattle.office_rows.specs.Rows.{DepositRow, FileRow, Tables, live_holds}
 use Rattle.office_history.specs.Answers.{file_answer}
+pub use Rattle.office_by_rows.specs.Answers.{content_stored}
 use Rattle.office_asking.specs.Asking.{Visit}
 use Rattle.office_asking.specs.ByRows.{AreReleasedOnDays, IsAskedIn, IsHoldIn}
 use Rattle.office_serving.specs.Files.{stored_files}
@@ -38,10 +38,6 @@ AreAskedIn t visit action n (Err why) = IsAskedIn t visit action n (Err why)
 -- the transfer form of the files that stand there, which are a bag
 abbrev pub IsBagIn : Tables → Visit → ℕ → Answer → Type 0
 IsBagIn t visit n = IsAnswerBy (IsAskedIn t visit acts.Download n) (λ row answer. IsBag (stored_files n t) × (answer ≡ Bag (set_text (stored_files n t))))
-
--- the content of the file that stands there at a path, which is any bytes: a path that no bag may have is that of no file, whatever stands there
-abbrev pub content_stored : ℕ → List ℕ → Tables → Option (List ℕ)
-content_stored n path t = if is_good path then option_map (λ (file : FileRow). file.content) (file_at (pos n) path t.files) else None
 
 -- the file that stands there at that path, or that there is none
 abbrev pub IsFileIn : Tables → Visit → ℕ → List ℕ → Answer → Type 0

@@ -1,5 +1,5 @@
 -- What is answered of records, lists, due lists and the stock by the rows of an office, whichever rows they are.
-use Rattle.std.specs.Prelude.{◌≡◌, ⊤, ℕ, ℤ, pos, Bool, true, false, ◌&&◌, List, [], ◌∷◌, map, length, sum, Option, Some, None, IfSome, is_none}
+use Rattle.std.specs.Prelude.{◌≡◌, ⊤, ℕ, ℤ, pos, Bool, true, false, List, [], ◌∷◌, map, length, sum, Option, Some, None, IfSome, is_none}
 use Rattle.std.specs.HashMap.{get}
 use Rattle.std.specs.List.{cons_option}
 use Rattle.jiff.specs.Words.{epoch_day}
@@ -16,8 +16,9 @@ use Rattle.office_core.specs.declared.retention.Due.{Due}
 use Rattle.office_rows.specs.Rows.{DepositRow, DueRow, RuleRow, Tables, beside, due_numbered}
 use Rattle.office_rows.specs.Told.{PlaceRow, due_places}
 use Rattle.office_tables.specs.Tables.{contents_of}
-use Rattle.office_history.specs.Answers.{Wanted, is_asked}
+use Rattle.office_history.specs.Answers.{Wanted}
 use Rattle.office_history.specs.Stocks.{Stock}
+pub use Rattle.office_by_rows.specs.Answers.{is_wanted}
 use Rattle.office_asking.specs.Asking.{Visit}
 use Rattle.office_asking.specs.ByRows.{IsAskedIn, IsAskerIn, IsDenialBy, deciding_row, deciding_row_at}
 use Rattle.office_serving.specs.Allowances.{CollectionAndClass, same_pair}
@@ -65,10 +66,6 @@ abbrev pub IsRecordIn : Tables → Visit → ℕ → Answer → Type 0
 IsRecordIn t visit n = IsAnswerBy (IsAskedIn t visit acts.Record n) (λ row answer. (told : DepositRecord) × IsRecordBy t n row told × (answer ≡ answers.Record told))
 
 -- ---- lists
-
--- the deposit of the row is of the collection and the class that are asked for
-abbrev pub is_wanted : Wanted → DepositRow → Bool
-is_wanted wanted row = is_asked wanted.collection row.collection && is_asked wanted.class row.class
 
 -- a deposit that was destroyed is not listed, and the day of that is one; where there is no such day, the rules are asked
 abbrev pub IsShownUnless : Option ℤ → Tables → Visit → DepositRow → Bool → Type 0

@@ -1,15 +1,17 @@
 //! What the rules let a caller do on a day with the deposits of a collection and a class, asked once for each
 //! pair that comes up.
 
-ghost use Rattle.std.specs.Prelude.{◌≡◌, Some};
+ghost use Rattle.std.specs.Prelude.{◌≡◌, ℕ, List, Some};
+ghost use Rattle.jiff.specs.Types.{Date};
 ghost use Rattle.office_core.specs.declared.action.Action.{Action};
-ghost use Rattle.office_tables.specs.Calls.{GoesOnInTurn, Keeps, Tells};
+ghost use Rattle.office_tables.specs.Calls.{GoesOnInTurn, Keeps, Shows, Tells};
 ghost use Rattle.office_rows.specs.Rows.{Tables};
 ghost use Rattle.office_history.specs.Histories.{History};
-ghost use Rattle.office_asking.specs.Asking.{IsAsker, Visit};
+ghost use Rattle.office_by_rows.specs.Answers.{is_allowed_for};
+ghost use Rattle.office_asking.specs.Asking.{IsAsker, Visit, role_name};
 ghost use Rattle.office_asking.specs.ByRows.{IsAskerIn, deciding_row};
 ghost use Rattle.office_asking.specs.Serving.{Finds};
-ghost use Rattle.office_serving.specs.Allowances.{AreOf, is_allowed};
+ghost use Rattle.office_serving.specs.Allowances.{AreFor, AreOf, is_allowed};
 ghost use Rattle.office_serving.specs.ListsByRows.{AreIn, IsAllowanceBy};
 
 use office_asking::Asker;
@@ -35,6 +37,8 @@ impl<'a> Allowances<'a> {
             → IsAsker h visit asker.now → AreOf h visit action result }
         ensures rows { (tables : Tables) (visit : Visit)
             → IsAskerIn tables visit asker.now → AreIn tables visit action result }
+        ensures known { (tables : Tables)
+            → AreFor tables (role_name asker.now) asker.now.day action result }
     {
         Allowances {
             asker,
@@ -63,6 +67,11 @@ impl<'a> Allowances<'a> {
             → AreIn tables visit action self.new
             × IsAllowanceBy
             (deciding_row tables visit action (Some collection.now) (Some class.now)) is) }
+        ensures reads { Shows S.Store tx.old.conn.now tx.new.conn.now result (λ tables is.
+            (role : List ℕ) (day : Date) (action : Action)
+            → AreFor tables role day action self.old
+            → AreFor tables role day action self.new
+            × (is_allowed_for tables role day action collection.now class.now ≡ Some is)) }
     {
         if let Some(is) = self.known.get(&(collection, class)).copied() {
             return Ok(is);

@@ -1,17 +1,20 @@
 //! Downloads of bags.
 
-ghost use Rattle.std.specs.Prelude.{◌≡◌, ◌≢◌, Err, IfErr, IfOk, map, pos};
+ghost use Rattle.std.specs.Prelude.{◌≡◌, ◌↔◌, ◌≢◌, Err, IfErr, IfOk, None, Some, map, pos};
+ghost use Rattle.std.specs.Result.{result_err};
 ghost use Rattle.bag_text.specs.BagList.{ListFault};
 ghost use Rattle.bag_text.specs.TransferForm.{IsBag, set_text};
 ghost use Rattle.bag_text.specs.TransferReading as reading;
 ghost use Rattle.office_core.specs.declared.request.Request.TheVariants as requests;
 ghost use Rattle.office_tables.specs.Faults.{IsFailure};
-ghost use Rattle.office_tables.specs.Calls.{GoesOnInside, Keeps, Tells};
+ghost use Rattle.office_tables.specs.Calls.{GoesOnInside, Keeps, Shows, Tells};
 ghost use Rattle.office_tables.specs.Deposits.{files_by_path};
 ghost use Rattle.office_history.specs.Refusals.{kept_refusals};
+ghost use Rattle.office_by_rows.specs.Refusals.{kept_refusal};
+ghost use Rattle.office_by_rows.specs.Serving.{serve};
 ghost use Rattle.office_asking.specs.Asking.{visit_on};
-ghost use Rattle.office_asking.specs.Serving.{Finds, Decides};
-ghost use Rattle.office_serving.specs.Files.{file_in, AreFilesAsked};
+ghost use Rattle.office_asking.specs.Serving.{Decides, Finds, Serves};
+ghost use Rattle.office_serving.specs.Files.{AreFilesAsked, file_in, form_in};
 ghost use Rattle.office_serving.specs.FilesByRows.{AreAskedIn, IsBagIn};
 
 use bag_text::{BagSet, SetFault, write_bagset};
@@ -53,6 +56,9 @@ fn fault_of(fault: SetFault) -> TableFault
 ///
 /// Fails with `Store` where it is none, and with `Memory`.
 fn form_of(alloc: Global, files: &[(&str, &[u8])]) -> Result<Vec<u8>, TableFault>
+    ensures reads { IfOk result (λ text. form_in (reading.files_of files.now) ≡ Some text.items) }
+    ensures none { IfErr result (λ fault.
+        (fault ≡ TableFault.Store) ↔ (form_in (reading.files_of files.now) ≡ None)) }
     ensures form { IfOk result (λ text. text.items ≡ set_text (reading.files_of files.now)) }
     ensures bag { IfOk result (λ text. IsBag (reading.files_of files.now)) }
     ensures failure { IfErr result IsFailure }
@@ -72,6 +78,9 @@ fn form_of(alloc: Global, files: &[(&str, &[u8])]) -> Result<Vec<u8>, TableFault
 ///
 /// Fails with `Store` where they are no bag, and with `Memory`.
 fn text_of(alloc: Global, rows: &[FileRow]) -> Result<Vec<u8>, TableFault>
+    ensures reads { IfOk result (λ text. form_in (map file_in rows.now) ≡ Some text.items) }
+    ensures none { IfErr result (λ fault.
+        fault ≡ TableFault.Store → form_in (map file_in rows.now) ≡ None) }
     ensures text { IfOk result (λ text. text.items ≡ set_text (map file_in rows.now)) }
     ensures bag { IfOk result (λ text. IsBag (map file_in rows.now)) }
     ensures failure { IfErr result IsFailure }
@@ -101,6 +110,9 @@ pub fn kept_files<S: Alter>(
     ensures same { Keeps S.Store tx.old.conn.now tx.new.conn.now result }
     ensures rows { Tells S.Store tx.old.conn.now tx.new.conn.now result (λ tables asked.
         AreAskedIn tables (visit_on day caller.now) action number asked) }
+    ensures reads { Shows S.Store tx.old.conn.now tx.new.conn.now result (λ tables asked.
+        kept_refusal tables (visit_on day caller.now) action number
+        ≡ Some (result_err asked)) }
 {
     // A bag that is kept is a bag.
     sound_bags();
@@ -126,6 +138,8 @@ pub fn download_bag<S: Alter>(
     ensures same { Keeps S.Store tx.old.conn.now tx.new.conn.now result }
     ensures rows { Tells S.Store tx.old.conn.now tx.new.conn.now result (λ tables answer.
         IsBagIn tables (visit_on day caller.now) number answer) }
+    ensures serves { Serves S.Store tx.old.conn.now tx.new.conn.now result (λ tables.
+        serve tables (visit_on day caller.now) (requests.DownloadBag number)) }
 {
     match kept_files(alloc, tx, day, caller, Action::Download, number)? {
         Ok(rows) => Ok(Answer::Bag {

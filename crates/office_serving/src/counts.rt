@@ -2,8 +2,10 @@
 //! change writes, which is a fault of the store.
 
 ghost use Rattle.std.specs.Prelude.{◌≡◌, ◌≤◌, IfErr, IfOk, pos};
+ghost use Rattle.std.specs.Option.{ok_or};
 ghost use Rattle.office_tables.specs.Faults.{IsFailure};
 ghost use Rattle.office_tables.specs.declared.fault.TableFault.TheVariants.{Store};
+ghost use Rattle.office_by_rows.specs.Values.{count_up_to};
 
 use office_tables::TableFault;
 
@@ -11,6 +13,7 @@ use office_tables::TableFault;
 ///
 /// Fails with `Store`.
 pub fn count_in(number: i64, most: usize) -> Result<usize, TableFault>
+    ensures reads { result ≡ ok_or (count_up_to most number) TableFault.Store }
     ensures count { IfOk result (λ count. pos count ≡ number) }
     ensures few { IfOk result (λ count. count ≤ most) }
     ensures failure { IfErr result IsFailure }

@@ -1,13 +1,17 @@
 //! The deposits that a caller may destroy on a day.
 
-ghost use Rattle.std.specs.Prelude.{◌≡◌, pos, map, filter};
+ghost use Rattle.std.specs.Prelude.{◌≡◌, Some, pos, map, filter};
 ghost use Rattle.office_core.specs.declared.request.Request.TheVariants as requests;
-ghost use Rattle.office_tables.specs.Calls.{GoesOnInTurn, GoesOnInside, Keeps, Tells};
+ghost use Rattle.office_tables.specs.Calls.{GoesOnInTurn, GoesOnInside, Keeps, Shows, Tells};
 ghost use Rattle.office_rows.specs.Told.{PlaceRow as Place};
 ghost use Rattle.office_history.specs.Answers.{due_list};
-ghost use Rattle.office_asking.specs.Asking.{IsAsker, Visit, visit_on};
+ghost use Rattle.office_by_rows.specs.Answers as by_rows;
+ghost use Rattle.office_by_rows.specs.Answers.{place_told};
+ghost use Rattle.office_by_rows.specs.Serving.{serve};
+ghost use Rattle.office_by_rows.specs.Values.{things_told};
+ghost use Rattle.office_asking.specs.Asking.{IsAsker, Visit, role_name, visit_on};
 ghost use Rattle.office_asking.specs.ByRows.{IsAskerIn};
-ghost use Rattle.office_asking.specs.Serving.{Finds, Decides};
+ghost use Rattle.office_asking.specs.Serving.{Decides, Finds, Serves};
 ghost use Rattle.office_serving.specs.Listing.{may_destroy};
 ghost use Rattle.office_serving.specs.ListsByRows.{AreAllowedIn, AreDueIn, IsDueListIn};
 
@@ -35,6 +39,9 @@ fn allowed_among<S: Alter>(
     ensures rows { Tells S.Store tx.old.conn.now tx.new.conn.now result (λ tables numbers.
         (visit : Visit) → IsAskerIn tables visit asker.now
         → AreAllowedIn tables visit places.now numbers.items) }
+    ensures reads { Shows S.Store tx.old.conn.now tx.new.conn.now result (λ tables numbers.
+        things_told (place_told tables (role_name asker.now) asker.now.day) places.now
+        ≡ Some numbers.items) }
 {
     let mut allowances = Allowances::new(alloc, asker, Action::Dispose);
     let mut numbers = Vec::new(alloc);
@@ -64,6 +71,8 @@ pub fn due_numbers<S: Alter>(
     ensures same { Keeps S.Store tx.old.conn.now tx.new.conn.now result }
     ensures rows { Tells S.Store tx.old.conn.now tx.new.conn.now result (λ tables numbers.
         AreDueIn tables (visit_on day caller.now) numbers.items) }
+    ensures reads { Shows S.Store tx.old.conn.now tx.new.conn.now result (λ tables numbers.
+        by_rows.due_list tables (visit_on day caller.now) ≡ Some numbers.items) }
 {
     let asker = Asker::read(tx, day, caller)?;
     let places = due_rows(alloc, tx, day.number() as i64)?;
@@ -85,6 +94,8 @@ pub fn due_list<S: Alter>(
     ensures same { Keeps S.Store tx.old.conn.now tx.new.conn.now result }
     ensures rows { Tells S.Store tx.old.conn.now tx.new.conn.now result (λ tables given.
         IsDueListIn tables (visit_on day caller.now) given) }
+    ensures serves { Serves S.Store tx.old.conn.now tx.new.conn.now result (λ tables.
+        serve tables (visit_on day caller.now) requests.DueList) }
 {
     let numbers = due_numbers(alloc, tx, day, caller)?;
     Ok(Answer::DueList {

@@ -5,11 +5,12 @@ ghost use Rattle.jiff.specs.Types.{Date};
 ghost use Rattle.bag_text.specs.Paths.{is_good};
 ghost use Rattle.bag_text.specs.TransferForm.{content_at};
 ghost use Rattle.office_core.specs.declared.request.Request.TheVariants as requests;
-ghost use Rattle.office_tables.specs.Calls.{GoesOnInTurn, GoesOnInside, Keeps, Tells};
+ghost use Rattle.office_tables.specs.Calls.{GoesOnInTurn, GoesOnInside, Keeps, Shows, Tells};
 ghost use Rattle.office_history.specs.Histories.{Deposit, deposit_numbered, destruction_day};
 ghost use Rattle.office_history.specs.Answers.{file_answer};
+ghost use Rattle.office_by_rows.specs.Serving.{serve};
 ghost use Rattle.office_asking.specs.Asking.{visit_on};
-ghost use Rattle.office_asking.specs.Serving.{Finds, Decides};
+ghost use Rattle.office_asking.specs.Serving.{Decides, Finds, Serves};
 ghost use Rattle.office_serving.specs.FilesByRows.{IsFileIn, content_stored};
 
 use bag_text::laws::good_paths;
@@ -46,6 +47,8 @@ fn content_of<S: Alter>(
     ensures same { Keeps S.Store tx.old.conn.now tx.new.conn.now result }
     ensures rows { Tells S.Store tx.old.conn.now tx.new.conn.now result (λ tables content.
         option_map (λ bytes. bytes.items) content ≡ content_stored number path.now tables) }
+    ensures reads { Shows S.Store tx.old.conn.now tx.new.conn.now result (λ tables content.
+        content_stored number path.now tables ≡ option_map (λ bytes. bytes.items) content) }
 {
     // A bag that is kept is a bag, so its paths are those of one.
     sound_bags();
@@ -83,6 +86,8 @@ pub fn download_file<S: Alter>(
     ensures same { Keeps S.Store tx.old.conn.now tx.new.conn.now result }
     ensures rows { Tells S.Store tx.old.conn.now tx.new.conn.now result (λ tables answer.
         IsFileIn tables (visit_on day caller.now) number path.now answer) }
+    ensures serves { Serves S.Store tx.old.conn.now tx.new.conn.now result (λ tables.
+        serve tables (visit_on day caller.now) (requests.DownloadFile number path.entry)) }
 {
     match kept_deposit(tx, day, caller, Action::Download, number)? {
         Ok(_) => Ok(file_answer(content_of(tx, number, path)?)),

@@ -1,13 +1,16 @@
 //! The live holds that cover a deposit.
 
-ghost use Rattle.std.specs.Prelude.{◌≡◌, map, pos};
+ghost use Rattle.std.specs.Prelude.{◌≡◌, Some, map, pos};
 ghost use Rattle.std.specs.List.{filter_map};
 ghost use Rattle.office_core.specs.declared.request.Request.TheVariants as requests;
-ghost use Rattle.office_tables.specs.Calls.{GoesOnInTurn, GoesOnInside, Keeps, Tells};
+ghost use Rattle.office_tables.specs.Calls.{GoesOnInTurn, GoesOnInside, Keeps, Shows, Tells};
 ghost use Rattle.office_history.specs.Histories.{Deposit};
 ghost use Rattle.office_history.specs.Answers.{told_hold, told_holds};
+ghost use Rattle.office_by_rows.specs.Asking as by_rows;
+ghost use Rattle.office_by_rows.specs.Serving.{serve};
+ghost use Rattle.office_by_rows.specs.Values.{all_told};
 ghost use Rattle.office_asking.specs.Asking.{visit_on};
-ghost use Rattle.office_asking.specs.Serving.{Finds, Decides};
+ghost use Rattle.office_asking.specs.Serving.{Decides, Finds, Serves};
 ghost use Rattle.office_serving.specs.FilesByRows.{AreHoldsIn, AreHoldsOf, AreHoldsOver};
 
 use office_asking::{holds_over, kept_deposit, told_hold};
@@ -28,6 +31,8 @@ fn told_each<S: Alter>(
     ensures same { Keeps S.Store tx.old.conn.now tx.new.conn.now result }
     ensures rows { Tells S.Store tx.old.conn.now tx.new.conn.now result (λ tables told.
         AreHoldsOf tables (map pos numbers.now) told.items) }
+    ensures reads { Shows S.Store tx.old.conn.now tx.new.conn.now result (λ tables told.
+        all_told (by_rows.told_hold tables) (map pos numbers.now) ≡ Some told.items) }
 {
     let mut told = Vec::new(alloc);
     for number in numbers {
@@ -52,6 +57,8 @@ fn told_holds<S: Alter>(
     ensures same { Keeps S.Store tx.old.conn.now tx.new.conn.now result }
     ensures rows { Tells S.Store tx.old.conn.now tx.new.conn.now result (λ tables told.
         AreHoldsOver tables number collection.now class.now told.items) }
+    ensures reads { Shows S.Store tx.old.conn.now tx.new.conn.now result (λ tables told.
+        by_rows.told_holds tables number collection.now class.now ≡ Some told.items) }
 {
     let numbers = holds_over(alloc, tx, number, collection, class)?;
     told_each(alloc, tx, &numbers)
@@ -73,6 +80,8 @@ pub fn holds<S: Alter>(
     ensures same { Keeps S.Store tx.old.conn.now tx.new.conn.now result }
     ensures rows { Tells S.Store tx.old.conn.now tx.new.conn.now result (λ tables answer.
         AreHoldsIn tables (visit_on day caller.now) number answer) }
+    ensures serves { Serves S.Store tx.old.conn.now tx.new.conn.now result (λ tables.
+        serve tables (visit_on day caller.now) (requests.Holds number)) }
 {
     match kept_deposit(tx, day, caller, Action::Holds, number)? {
         Ok(row) => Ok(Answer::Holds {

@@ -1,18 +1,22 @@
 //! Lists of deposits.
 
-ghost use Rattle.std.specs.Prelude.{◌≡◌, Some, ℕ, option_copied};
+ghost use Rattle.std.specs.Prelude.{◌≡◌, List, Some, ℕ, option_copied};
 ghost use Rattle.jiff.specs.Types.{Date};
 ghost use Rattle.office_core.specs.declared.action.Action.TheVariants as acts;
 ghost use Rattle.office_core.specs.declared.request.Request.TheVariants as requests;
 ghost use Rattle.office_rows.specs.Rows.{beside};
-ghost use Rattle.office_tables.specs.Calls.{GoesOnInTurn, GoesOnInside, Keeps, Tells};
+ghost use Rattle.office_tables.specs.Calls.{GoesOnInTurn, GoesOnInside, Keeps, Shows, Tells};
 ghost use Rattle.office_history.specs.Histories.{Deposit, deposit_numbered};
 ghost use Rattle.office_history.specs.Pictures.{deposit_row, deposit_rows, due_row, due_rows};
 ghost use Rattle.office_history.specs.Answers.{is_asked, listed_records};
-ghost use Rattle.office_asking.specs.Asking.{IsAsker, Visit, visit_on};
+ghost use Rattle.office_by_rows.specs.Answers as by_rows;
+ghost use Rattle.office_by_rows.specs.Answers.{listed_record};
+ghost use Rattle.office_by_rows.specs.Serving.{serve};
+ghost use Rattle.office_by_rows.specs.Values.{things_told};
+ghost use Rattle.office_asking.specs.Asking.{IsAsker, Visit, role_name, visit_on};
 ghost use Rattle.office_asking.specs.ByRows.{IsAskerIn};
-ghost use Rattle.office_asking.specs.Serving.{Finds, Decides};
-ghost use Rattle.office_serving.specs.Allowances.{AreOf};
+ghost use Rattle.office_asking.specs.Serving.{Decides, Finds, Serves};
+ghost use Rattle.office_serving.specs.Allowances.{AreFor, AreOf};
 ghost use Rattle.office_serving.specs.Listing.{is_shown, shown_record, wanted_of};
 ghost use Rattle.office_serving.specs.ListsByRows.{AreIn, AreListedIn, IsListIn, IsShownIn, IsToldIn, is_wanted};
 
@@ -60,6 +64,11 @@ fn is_shown<'a, S: Alter>(
         (visit : Visit) → AreIn tables visit acts.List allowances.old
         → AreIn tables visit acts.List allowances.new
         × IsShownIn tables visit (wanted_of collection.entry class.entry) row.now is) }
+    ensures reads { Shows S.Store tx.old.conn.now tx.new.conn.now result (λ tables is.
+        (role : List ℕ) (day : Date) → AreFor tables role day acts.List allowances.old
+        → AreFor tables role day acts.List allowances.new
+        × (by_rows.is_shown tables role day (wanted_of collection.entry class.entry) row.now
+        ≡ Some is)) }
 {
     if !is_wanted(row, collection, class) {
         return Ok(false);
@@ -92,6 +101,11 @@ fn shown_record<'a, S: Alter>(
         (visit : Visit) → AreIn tables visit acts.List allowances.old
         → AreIn tables visit acts.List allowances.new
         × IsToldIn tables visit (wanted_of collection.entry class.entry) row.now told) }
+    ensures reads { Shows S.Store tx.old.conn.now tx.new.conn.now result (λ tables told.
+        (role : List ℕ) (day : Date) → AreFor tables role day acts.List allowances.old
+        → AreFor tables role day acts.List allowances.new
+        × (listed_record tables role day (wanted_of collection.entry class.entry) row.now
+        ≡ Some told)) }
 {
     if is_shown(tx, allowances, collection, class, &row.deposit)? {
         Ok(Some(record_in(alloc, &row.deposit, &row.kept)?))
@@ -120,6 +134,11 @@ fn shown_among<S: Alter>(
         (visit : Visit) → IsAskerIn tables visit asker.now
         → AreListedIn tables visit (wanted_of collection.entry class.entry) rows.now
         told.items) }
+    ensures reads { Shows S.Store tx.old.conn.now tx.new.conn.now result (λ tables told.
+        things_told
+        (listed_record tables (role_name asker.now) asker.now.day
+        (wanted_of collection.entry class.entry)) rows.now
+        ≡ Some told.items) }
 {
     let mut allowances = Allowances::new(alloc, asker, Action::List);
     let mut told = Vec::new(alloc);
@@ -152,6 +171,9 @@ pub fn list<S: Alter>(
     ensures same { Keeps S.Store tx.old.conn.now tx.new.conn.now result }
     ensures rows { Tells S.Store tx.old.conn.now tx.new.conn.now result (λ tables given.
         IsListIn tables (visit_on day caller.now) (wanted_of collection.entry class.entry) given) }
+    ensures serves { Serves S.Store tx.old.conn.now tx.new.conn.now result (λ tables.
+        serve tables (visit_on day caller.now)
+        (requests.List (option_copied collection.entry) (option_copied class.entry))) }
 {
     let asker = Asker::read(tx, day, caller)?;
     let rows = deposits_and_dues(alloc, tx)?;

@@ -1,17 +1,20 @@
 //! Records of deposits.
 
-ghost use Rattle.std.specs.Prelude.{◌≡◌, IfErr, IfOk, Some, ℕ, pos};
+ghost use Rattle.std.specs.Prelude.{◌≡◌, ◌↔◌, IfErr, IfOk, None, Some, ℕ, pos};
 ghost use Rattle.jiff.specs.Types.{Date};
+ghost use Rattle.office_core.specs.declared.answer.Answer.TheVariants as answers;
 ghost use Rattle.office_core.specs.declared.answer.DepositRecord.{DepositRecord};
 ghost use Rattle.office_core.specs.declared.request.Request.TheVariants as requests;
 ghost use Rattle.office_tables.specs.Faults.{IsFailure};
-ghost use Rattle.office_tables.specs.Calls.{GoesOnInside, Keeps, Tells};
+ghost use Rattle.office_tables.specs.Calls.{GoesOnInside, Keeps, Shows, Tells};
 ghost use Rattle.office_tables.specs.declared.fault.TableFault.TheVariants.{Memory};
 ghost use Rattle.office_history.specs.Histories.{Deposit, deposit_numbered};
 ghost use Rattle.office_history.specs.Pictures.{deposit_row};
 ghost use Rattle.office_history.specs.Answers.{record_of};
+ghost use Rattle.office_by_rows.specs.Answers.{record_by, record_in};
+ghost use Rattle.office_by_rows.specs.Serving.{serve};
 ghost use Rattle.office_asking.specs.Asking.{visit_on};
-ghost use Rattle.office_asking.specs.Serving.{Finds, Decides};
+ghost use Rattle.office_asking.specs.Serving.{Decides, Finds, Serves};
 ghost use Rattle.office_serving.specs.ListsByRows.{IsRecordBy, IsRecordIn};
 ghost use Rattle.office_serving.specs.Told.{IsRecordOf};
 
@@ -35,6 +38,9 @@ pub fn record_in(
     row: &DepositRow,
     kept: &DueRow,
 ) -> Result<DepositRecord, TableFault>
+    ensures reads { IfOk result (λ told. record_by row.now kept.now ≡ Some told) }
+    ensures store { IfErr result (λ fault.
+        (fault ≡ TableFault.Store) ↔ (record_by row.now kept.now ≡ None)) }
     ensures told { IfOk result (λ told. IsRecordOf row.now kept.now told) }
     ensures failure { IfErr result IsFailure }
     ensures memory { IfErr result (λ fault.
@@ -75,6 +81,8 @@ fn record_of<S: Alter>(
     ensures same { Keeps S.Store tx.old.conn.now tx.new.conn.now result }
     ensures rows { Tells S.Store tx.old.conn.now tx.new.conn.now result (λ tables told.
         (n : ℕ) → pos n ≡ row.now.number → IsRecordBy tables n row.now told) }
+    ensures reads { Shows S.Store tx.old.conn.now tx.new.conn.now result (λ tables told.
+        record_in tables row.now ≡ Some (answers.Record told)) }
 {
     let kept = kept_of(tx, row.number)?;
     record_in(alloc, row, &kept)
@@ -96,6 +104,8 @@ pub fn record<S: Alter>(
     ensures same { Keeps S.Store tx.old.conn.now tx.new.conn.now result }
     ensures rows { Tells S.Store tx.old.conn.now tx.new.conn.now result (λ tables given.
         IsRecordIn tables (visit_on day caller.now) number given) }
+    ensures serves { Serves S.Store tx.old.conn.now tx.new.conn.now result (λ tables.
+        serve tables (visit_on day caller.now) (requests.Record number)) }
 {
     match kept_deposit(tx, day, caller, Action::Record, number)? {
         Ok(row) => Ok(Answer::Record(record_of(alloc, tx, &row)?)),

@@ -1,9 +1,13 @@
 //! The stock of an office: the contents that it keeps, each once.
 
-ghost use Rattle.std.specs.Prelude.{◌≡◌, ℕ, List, IfSome, map, pos, sum};
+ghost use Rattle.std.specs.Prelude.{◌≡◌, Some, map};
+ghost use Rattle.std.specs.Option.{ok_or};
 ghost use Rattle.office_tables.specs.Calls.{GoesOnInside, Keeps};
 ghost use Rattle.office_tables.specs.Contents.{Does};
+ghost use Rattle.office_tables.specs.Tables.{contents_of};
+ghost use Rattle.office_tables.specs.declared.fault.TableFault.TheVariants.{Store};
 ghost use Rattle.office_history.specs.Stocks.{stock};
+ghost use Rattle.office_by_rows.specs.Stock.{stock_by, stock_in, total_by};
 ghost use Rattle.office_asking.specs.Serving.{Finds};
 ghost use Rattle.office_serving.specs.ListsByRows.{IsStockIn};
 
@@ -38,8 +42,7 @@ impl Model for Stock {
 
 /// How many bytes the contents have together, where memory could hold as many.
 fn total_of(sizes: &[ContentSize]) -> Option<usize>
-    ensures { IfSome result (λ bytes.
-        (parts : List ℕ) × (map (λ s. s.size) sizes.now ≡ map pos parts) × (bytes ≡ sum parts)) }
+    ensures { result ≡ total_by (map (λ s. s.size) sizes.now) }
 {
     let mut bytes: usize = 0;
     for size in sizes {
@@ -49,6 +52,19 @@ fn total_of(sizes: &[ContentSize]) -> Option<usize>
         bytes = bytes.checked_add(more)?;
     }
     Some(bytes)
+}
+
+/// The stock that contents of these sizes are. A size below 0 is a fault of the store.
+fn stock_in(sizes: &[ContentSize]) -> Result<Stock, TableFault>
+    ensures { result ≡ ok_or (stock_in (map (λ s. s.size) sizes.now)) TableFault.Store }
+{
+    match total_of(sizes) {
+        Some(bytes) => Ok(Stock {
+            contents: sizes.len(),
+            bytes,
+        }),
+        None => Err(TableFault::Store),
+    }
 }
 
 /// The stock of the office, by the sizes of the contents that its tables hold.
@@ -61,15 +77,11 @@ pub fn stock_of<S: Alter>(alloc: Global, tx: &mut Transaction<'_, S>) -> Result<
     ensures same { Keeps S.Store tx.old.conn.now tx.new.conn.now result }
     ensures rows { Does S.Store tx.old.conn.now tx.new.conn.now result (λ old _ found.
         IsStockIn old found) }
+    ensures reads { Does S.Store tx.old.conn.now tx.new.conn.now result (λ old new found.
+        (new ≡ old) × (stock_by (contents_of old) ≡ Some found)) }
 {
     // Where contents are kept once, they are those of the files.
     contents_are_those_of_files();
     let sizes = contents(alloc, tx)?;
-    match total_of(&sizes) {
-        Some(bytes) => Ok(Stock {
-            contents: sizes.len(),
-            bytes,
-        }),
-        None => Err(TableFault::Store),
-    }
+    stock_in(&sizes)
 }

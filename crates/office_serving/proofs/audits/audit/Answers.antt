@@ -1,4 +1,4 @@
-use Rattle.std.proofs.Common.{rules, ◌≡◌, refl, ap, ◌∙◌, map, Ok, Err}
+use Rattle.std.proofs.Common.{rules, ◌≡◌, refl, ap, ◌∙◌, map, Ok, Err, Some, sym}
 use Rattle.office_core.specs.declared.action.Action.TheVariants as acts
 use Rattle.office_core.specs.declared.answer.Answer.TheVariants as answers
 use Rattle.office_history.specs.Bags.{report_on}
@@ -8,6 +8,9 @@ use Rattle.office_serving.specs.Files.{file_in}
 use Rattle.office_serving.specs.Audits.{audit_of}
 use Rattle.office_serving.proofs.AuditTold.{on_a_bag}
 use Rattle.office_serving.proofs.Told.{told_serves}
+use Rattle.office_core.specs.declared.request.Request.TheVariants as requests
+use Rattle.office_asking.specs.Asking.{visit_on}
+use Rattle.office_asking.proofs.ServedBy.{read_by, refused_by}
 use Rattle.office_serving.proofs.audits.audit.Goals as goal
 
 pub returns-in_ok-audit_of-in-Ok-clause-decides : goal.returns-in_ok-audit_of-in-Ok-clause-decides
@@ -35,3 +38,18 @@ returns-in_ok-audit_of-in-Ok-clause-rows g c clean office =
 
 pub returns-in-Err-clause-rows : goal.returns-in-Err-clause-rows
 returns-in-Err-clause-rows g c clean office = record { asked = Err _; is_asked = rw c.in-Err.is at c.in_ok-rows.ensures.rows clean office; answers = refl }
+
+pub returns-in_ok-audit_of-in-Ok-clause-serves : goal.returns-in_ok-audit_of-in-Ok-clause-serves
+returns-in_ok-audit_of-in-Ok-clause-serves g c clean office =
+    let a = c.args in
+    let asked = rw c.in-Ok.is at c.in_ok-rows.ensures.reads clean office in
+    let stored = rw c.in-Ok.is at c.in_ok-rows.ensures.stored clean office in
+    let report = c.in_ok-audit_of-in-Ok.field-0 in
+    let verdict : report ≡ audit_of (map file_in c.in-Ok.rows.items) = search rules in
+    read_by (visit_on a.day a.caller.now) (requests.Audit a.number) (answers.Audit a.number report) office asked.0 asked.1 (ap (λ report. Some (answers.Audit a.number report)) (sym (verdict ∙ ap (λ rs. audit_of (map file_in rs)) stored))) refl
+
+pub returns-in-Err-clause-serves : goal.returns-in-Err-clause-serves
+returns-in-Err-clause-serves g c clean office =
+    let a = c.args in
+    let asked = rw c.in-Err.is at c.in_ok-rows.ensures.reads clean office in
+    refused_by (visit_on a.day a.caller.now) (requests.Audit a.number) c.in-Err.why office asked.0 asked.1

@@ -5,6 +5,7 @@ use Rattle.office_asking.proofs.Readings.{pictured_still}
 use Rattle.office_serving.proofs.FilesTold.{bag_read}
 use Rattle.office_serving.proofs.Told.{is_kept}
 use Rattle.office_tables.proofs.InTurn.{clean_first, same_then}
+use Rattle.office_asking.proofs.RowsTold.{office_still}
 use Rattle.office_serving.proofs.bags.kept_files.Goals as goal
 
 pub returns-in-Ok-clause-asked : goal.returns-in-Ok-clause-asked
@@ -41,3 +42,11 @@ returns-clause-rows g c clean office = rw c.in-Err.is at c.in_ok-kept_deposit.en
 
 pub returns-in-Ok-clause-same : goal.returns-in-Ok-clause-same
 returns-in-Ok-clause-same g c = same_then c.in_ok-kept_deposit.ensures.inside c.in_ok-files_of-in-Ok.ensures.inside c.in_ok-kept_deposit.ensures.same c.in_ok-files_of-in-Ok.ensures.same
+
+pub returns-in-Ok-clause-reads : goal.returns-in-Ok-clause-reads
+returns-in-Ok-clause-reads g c clean office =
+    let asked = rw c.in-Ok.is at c.in_ok-kept_deposit.ensures.reads (clean_first c.files_of.ensures.inside.stays clean) office in
+    (c.in_ok-files_of-in-Ok.ensures.same clean (office_still asked.0 office) ∙ asked.0, asked.1)
+
+pub returns-clause-reads : goal.returns-clause-reads
+returns-clause-reads g c clean office = rw c.in-Err.is at c.in_ok-kept_deposit.ensures.reads clean office

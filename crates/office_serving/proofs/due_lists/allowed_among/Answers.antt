@@ -15,6 +15,12 @@ use Rattle.office_serving.proofs.ByRows.{tells_next, tells_all}
 use Rattle.office_serving.proofs.AllowedTold.{next_passes, next_fails}
 use Rattle.office_serving.proofs.due_lists.allowed_among.Goals.{then-allowed+in_ok-push, else-allowed}
 use Rattle.office_tables.proofs.InTurn.{clean_first, none_called, turn_as, turn_then}
+use Rattle.office_by_rows.specs.Answers.{is_allowed_for, place_told}
+use Rattle.office_by_rows.specs.Values.{count_of, due_of_number}
+use Rattle.office_asking.specs.Asking.{role_name}
+use Rattle.office_serving.specs.Allowances.{AreFor}
+use Rattle.office_serving.proofs.ListedByRow.{no_number, number_told}
+use Rattle.office_serving.proofs.ToldInTurn.{things_all, things_next}
 use Rattle.office_serving.proofs.due_lists.allowed_among.Goals as goal
 
 pub loop-place-preserved : goal.loop-place-preserved
@@ -52,6 +58,29 @@ loop-place-preserved g c =
       same = λ clean office.
           let before = inv.same (early clean) office in
           c.in_ok-allowed.ensures.same clean (office_still before office) ∙ before;
+      reads = λ clean office.
+          let before = inv.reads (early clean) office in
+          let found = c.in_ok-allowed.ensures.reads clean (office_still before.0 office) in
+          let t = tables_of old.now in
+          let role = role_name a.asker.now in
+          let day = a.asker.now.day in
+          let said = told_before before.0 (λ t. AreFor t role day acts.Dispose c.loop-place.allowances → AreFor t role day acts.Dispose c.allows.new.self × (is_allowed_for t role day acts.Dispose c.deref.result.now c.deref-in-loop-place.result.now ≡ Some c.in_ok-allowed.allowed))
+          (found.1 role day acts.Dispose) before.1 in
+          let due : due_of_number item.due ≡ Some c.in_ok-due_numbered.field-0 = search rules in
+          let allowed : is_allowed_for t role day acts.Dispose item.collection item.class ≡ Some c.in_ok-allowed.allowed = (λ j. is_allowed_for t role day acts.Dispose (sym collection j) (sym class j)) ∙ said.1 in
+          let tell = place_told t role day in
+          let next = things_next tell a.places.now i item c.loop-place-test.true c.loop-place.numbers.items before.2 in (
+            found.0 ∙ before.0,
+            said.0,
+            elim c.if-allowed.branch [
+              | then-allowed+in_ok-push w ↦ next (Some c.place.inside.number)
+                  (subst (λ p. tell p ≡ Some (Some c.place.inside.number)) at (number_told t role day item c.in_ok-due_numbered.field-0 due c.place.inside.number (allowed ∙ ap Some w.if-allowed.true) (ap count_of (sym number)))) _
+                  (ap (λ v. v.items) w.numbers-is ∙ w.in_ok-push.ensures.items)
+              | else-allowed w ↦ next None
+                  (subst (λ p. tell p ≡ Some None) at (no_number t role day item c.in_ok-due_numbered.field-0 due (allowed ∙ ap Some w.if-allowed.false))) _
+                  (ap (λ v. v.items) w.numbers-is ∙ sym (append-nil c.loop-place.numbers.items))
+            ],
+          );
       by_rows = λ clean office visit is.
           let before = inv.same (early clean) office in
           let known = inv.by_rows (early clean) office visit is in
@@ -94,8 +123,17 @@ loop-place-init g c = record {
   inside = none_called _ tt;
   told = λ clean h legal pictured. (pictured, λ visit is. (c.new-allowances.ensures.those h visit is, ap (map pos) c.new-numbers.ensures.items));
   same = λ clean office. refl;
+  reads = λ clean office. (refl, c.new-allowances.ensures.known (tables_of (state g.S.Store c.args.tx.now.conn.now).now), ap Some (sym c.new-numbers.ensures.items));
   by_rows = λ clean office visit is. (c.new-allowances.ensures.rows (tables_of (state g.S.Store c.args.tx.now.conn.now).now) visit is, c.new-numbers.ensures.items);
 }
 
 pub returns-clause-same : goal.returns-clause-same
 returns-clause-same g c = c.loop-place.invariant.same
+
+pub returns-clause-reads : goal.returns-clause-reads
+returns-clause-reads g c clean office =
+    let a = c.args in
+    let read = c.loop-place.invariant.reads clean office in
+    let t = tables_of (state g.S.Store a.tx.now.conn.now).now in
+    let finished : c.loop-place.place-index ≡ length a.places.now = omega (arith, c.loop-place-test.false, c.loop-place.auto.place-index-end) in
+    (read.0, things_all (place_told t (role_name a.asker.now) a.asker.now.day) a.places.now c.loop-place.place-index finished c.loop-place.numbers.items read.2)

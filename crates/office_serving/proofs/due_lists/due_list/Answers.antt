@@ -1,8 +1,10 @@
-use Rattle.std.proofs.Common.{rules, ◌≡◌, refl, ap, ◌∙◌}
+use Rattle.std.proofs.Common.{rules, ◌≡◌, refl, ap, ◌∙◌, Some, option_map, sym}
 use Rattle.sqlite.specs.Held.{state}
 use Rattle.office_core.specs.declared.answer.Answer.TheVariants as answers
 use Rattle.office_core.specs.declared.request.Request.TheVariants as requests
 use Rattle.office_asking.proofs.Serving.{read_serves}
+use Rattle.office_asking.specs.Asking.{visit_on}
+use Rattle.office_asking.proofs.ServedBy.{read_by}
 use Rattle.office_serving.proofs.due_lists.due_list.Goals as goal
 
 pub returns-clause-decides : goal.returns-clause-decides
@@ -17,3 +19,10 @@ pub returns-clause-rows : goal.returns-clause-rows
 returns-clause-rows g c clean office =
     let given : c.of.result ≡ c.in_ok-numbers.numbers.items = search rules in
     (c.in_ok-numbers.numbers.items, c.in_ok-numbers.ensures.rows clean office, ap (answers.DueList c.args.day) given)
+
+pub returns-clause-serves : goal.returns-clause-serves
+returns-clause-serves g c clean office =
+    let a = c.args in
+    let read = c.in_ok-numbers.ensures.reads clean office in
+    let given : c.of.result ≡ c.in_ok-numbers.numbers.items = search rules in
+    read_by (visit_on a.day a.caller.now) requests.DueList (answers.DueList a.day c.of.result) office read.0 refl (ap (option_map (answers.DueList a.day)) (read.1 ∙ ap Some (sym given))) refl

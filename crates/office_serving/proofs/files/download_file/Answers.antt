@@ -1,12 +1,15 @@
-use Rattle.std.proofs.Common.{ap, refl, ◌∙◌, Ok, Err}
+use Rattle.std.proofs.Common.{ap, refl, ◌∙◌, Ok, Err, ◌≡◌, Some, sym, option_map}
 use Rattle.sqlite.specs.Held.{state}
 use Rattle.office_core.specs.declared.action.Action.TheVariants as acts
 use Rattle.office_tables.specs.Tables.{tables_of}
 use Rattle.office_history.specs.Answers.{file_answer}
-use Rattle.office_asking.proofs.RowsTold.{office_still}
+use Rattle.office_asking.proofs.RowsTold.{office_still, told_before}
 use Rattle.office_serving.specs.FilesByRows.{content_stored}
 use Rattle.office_serving.proofs.Told.{is_kept, file_told, file_not_asked}
 use Rattle.office_tables.proofs.InTurn.{clean_first, same_in_turn}
+use Rattle.office_core.specs.declared.request.Request.TheVariants as requests
+use Rattle.office_asking.specs.Asking.{visit_on}
+use Rattle.office_asking.proofs.ServedBy.{read_by, refused_by}
 use Rattle.office_serving.proofs.files.download_file.Goals as goal
 
 pub returns-in-Ok-clause-decides : goal.returns-in-Ok-clause-decides
@@ -40,3 +43,17 @@ returns-clause-rows g c clean office = record { asked = Err _; is_asked = rw c.i
 
 pub returns-in-Ok-clause-same : goal.returns-in-Ok-clause-same
 returns-in-Ok-clause-same g c = same_in_turn c.in_ok-kept_deposit.ensures.inside c.in_ok-content_of-in-Ok.ensures.inside c.in_ok-kept_deposit.ensures.same c.in_ok-content_of-in-Ok.ensures.same
+
+pub returns-in-Ok-clause-serves : goal.returns-in-Ok-clause-serves
+returns-in-Ok-clause-serves g c clean office =
+    let a = c.args in
+    let asked = rw c.in-Ok.is at c.in_ok-kept_deposit.ensures.reads (clean_first c.content_of.ensures.inside.stays clean) office in
+    let read = c.in_ok-content_of-in-Ok.ensures.reads clean (office_still asked.0 office) in
+    let stored = told_before asked.0 (λ t. content_stored a.number a.path.now t ≡ option_map (λ bytes. bytes.items) c.in_ok-content_of-in-Ok.field-0) read.1 in
+    read_by (visit_on a.day a.caller.now) (requests.DownloadFile a.number a.path) c.file_answer.result office (read.0 ∙ asked.0) asked.1 (ap (λ content. Some (file_answer content)) stored ∙ ap Some (sym c.file_answer.ensures)) refl
+
+pub returns-clause-serves : goal.returns-clause-serves
+returns-clause-serves g c clean office =
+    let a = c.args in
+    let asked = rw c.in-Err.is at c.in_ok-kept_deposit.ensures.reads clean office in
+    refused_by (visit_on a.day a.caller.now) (requests.DownloadFile a.number a.path) _ office asked.0 asked.1

@@ -1,4 +1,4 @@
-use Rattle.std.proofs.Common.{ap, subst, ◌∙◌, map, pos}
+use Rattle.std.proofs.Common.{ap, subst, ◌∙◌, map, pos, ◌≡◌, Some, None, if◌then◌else◌, sym}
 use Rattle.std.specs.List.{filter_map}
 use Rattle.std.proofs.lemmas.Result.{IfOk-weaker}
 use Rattle.sqlite.specs.Held.{state}
@@ -7,6 +7,9 @@ use Rattle.office_tables.specs.Tables.{tables_of}
 use Rattle.office_asking.proofs.RowsTold.{office_still, told_before}
 use Rattle.office_serving.specs.FilesByRows.{AreHoldsOf}
 use Rattle.office_tables.proofs.InTurn.{clean_first, same_in_turn, then_in_turn}
+use Rattle.office_rows.specs.Rows as rows
+use Rattle.office_by_rows.specs.Asking.{told_hold as told_by_row}
+use Rattle.office_by_rows.specs.Values.{all_told}
 use Rattle.office_serving.proofs.hold_lists.told_holds.Goals as goal
 
 pub returns-clause-told : goal.returns-clause-told
@@ -38,3 +41,17 @@ returns-clause-same g c = same_in_turn c.in_ok-numbers.ensures.inside c.told_eac
 
 pub returns-clause-inside : goal.returns-clause-inside
 returns-clause-inside g c = then_in_turn c.in_ok-numbers.ensures.inside c.told_each.ensures.inside
+
+pub returns-clause-reads : goal.returns-clause-reads
+returns-clause-reads g c clean office =
+    let a = c.args in
+    let t = tables_of (state g.S.Store a.tx.now.conn.now).now in
+    let over = c.in_ok-numbers.ensures.reads (clean_first c.told_each.ensures.inside.stays clean) office in
+    let numbers = ap (map pos) c.deref.ensures.value ∙ over.1.1 in
+    IfOk-weaker c.told_each.result _ _ (λ told says. (
+      says.0 ∙ over.0,
+      ap (λ b. if b then all_told (told_by_row t) (rows.live_holds (pos a.number) a.collection.now a.class.now t) else None) over.1.0
+          ∙ ap (all_told (told_by_row t)) (sym numbers)
+          ∙ told_before over.0 (λ t. all_told (told_by_row t) (map pos c.deref.result.now) ≡ Some told.items) says.1,
+    ))
+    (c.told_each.ensures.reads clean (office_still over.0 office))

@@ -1,4 +1,4 @@
-use Rattle.std.proofs.Common.{rules, ◌≡◌, true, None, Some, sym, subst, ◌∙◌}
+use Rattle.std.proofs.Common.{rules, ◌≡◌, true, None, Some, sym, subst, ◌∙◌, false, is_some}
 use Rattle.std.proofs.lemmas.Result.{IfOk-weaker}
 use Rattle.sqlite.specs.Held.{state}
 use Rattle.office_core.specs.declared.action.Action.TheVariants as acts
@@ -8,6 +8,9 @@ use Rattle.office_serving.specs.Allowances.{is_allowed}
 use Rattle.office_serving.specs.Listing.{wanted_of}
 use Rattle.office_serving.specs.ListsByRows.{IsAllowanceBy, IsShownIf, IsShownUnless, is_wanted}
 use Rattle.office_serving.proofs.ShownTold.{rules_asked}
+use Rattle.office_by_rows.specs.Answers.{is_allowed_for}
+use Rattle.office_by_rows.specs.Values.{day_numbered, if_any}
+use Rattle.office_serving.proofs.ListedByRow as listed
 use Rattle.office_serving.proofs.lists.is_shown.Goals as goal
 
 pub returns-clause-shown : goal.returns-clause-shown
@@ -41,3 +44,22 @@ returns-clause-rows g c clean office =
     let allowed : IsAllowanceBy (deciding_row_at t visit acts.List row) is = subst (λ o. IsAllowanceBy o is) (λ i. deciding_row t visit acts.List (Some (of_collection i)) (Some (of_class i))) said.1 in
     (said.0, subst (λ b. IsShownIf b t visit row is) wanted (subst (λ o. IsShownUnless o t visit row is) (sym kept) allowed)))
     (c.allows.ensures.rows clean office)
+
+pub returns-clause-reads : goal.returns-clause-reads
+returns-clause-reads g c clean office =
+    let a = c.args in
+    let t = tables_of (state g.S.Store a.tx.now.conn.now).now in
+    let row = a.row.now in
+    let these = wanted_of a.collection a.class in
+    let of_collection : c.deref.result.now ≡ row.collection = search rules in
+    let of_class : c.deref-2.result.now ≡ row.class = search rules in
+    let wanted : is_wanted these row ≡ true = search rules in
+    let gone : if_any day_numbered row.gone ≡ Some c.in_ok-optional_day_numbered.field-0 = search rules in
+    let kept : is_some c.in_ok-optional_day_numbered.field-0 ≡ false = search rules in
+    IfOk-weaker c.allows.result _ _ (λ is says. (
+      says.0,
+      λ role day known.
+          let said = says.1 role day acts.List known in
+          (said.0, listed.rules_asked t role day these row c.in_ok-optional_day_numbered.field-0 is wanted gone kept ((λ i. is_allowed_for t role day acts.List (sym of_collection i) (sym of_class i)) ∙ said.1)),
+    ))
+    (c.allows.ensures.reads clean office)

@@ -1,4 +1,4 @@
-use Rattle.std.proofs.Common.{arith, rules, ◌≡◌, ◌++◌, [], length, get_or, ap, sym, subst, ◌∙◌, append-nil, refl}
+use Rattle.std.proofs.Common.{arith, rules, ◌≡◌, ◌++◌, [], length, get_or, ap, sym, subst, ◌∙◌, append-nil, refl, Some}
 use Rattle.std.specs.List.{cons_option, filter_map}
 use Rattle.sqlite.specs.State.{HasCleanDisk}
 use Rattle.sqlite.specs.Held.{state}
@@ -12,6 +12,10 @@ use Rattle.office_serving.proofs.ByRows.{tells_next, tells_all}
 use Rattle.office_serving.proofs.ShownTold.{shown_next, shown_of_rows}
 use Rattle.office_serving.proofs.lists.shown_among.Goals.{in-Some+in_ok-push, in_default}
 use Rattle.office_tables.proofs.InTurn.{clean_first, none_called, turn_as, turn_failed, turn_then}
+use Rattle.office_by_rows.specs.Answers.{listed_record}
+use Rattle.office_asking.specs.Asking.{role_name}
+use Rattle.office_serving.specs.Allowances.{AreFor}
+use Rattle.office_serving.proofs.ToldInTurn.{things_all, things_next}
 use Rattle.office_serving.proofs.lists.shown_among.Goals as goal
 
 pub loop-row-preserved : goal.loop-row-preserved
@@ -44,6 +48,21 @@ loop-row-preserved g c =
       same = λ clean office.
           let before = inv.same (early clean) office in
           c.in_ok-record.ensures.same clean (office_still before office) ∙ before;
+      reads = λ clean office.
+          let before = inv.reads (early clean) office in
+          let found = c.in_ok-record.ensures.reads clean (office_still before.0 office) in
+          let role = role_name a.asker.now in
+          let day = a.asker.now.day in
+          let said = told_before before.0 (λ t. AreFor t role day acts.List c.loop-row.allowances → AreFor t role day acts.List c.shown_record.new.allowances × (listed_record t role day (wanted_of a.collection a.class) row ≡ Some c.in_ok-record.field-0))
+          (found.1 role day) before.1 in
+          let told = listed_record (tables_of old.now) role day (wanted_of a.collection a.class) in (
+            found.0 ∙ before.0,
+            said.0,
+            things_next told a.rows.now place row c.loop-row-test.true c.loop-row.told.items before.2 c.in_ok-record.field-0 (subst (λ r. told r ≡ Some c.in_ok-record.field-0) item said.1) _ (elim c.match-branch-2.branch [
+              | in-Some+in_ok-push w ↦ ap (λ v. v.items) w.told-is ∙ w.in_ok-push.ensures.items ∙ ap (λ o. c.loop-row.told.items ++ cons_option o []) (sym w.in-Some.is)
+              | in_default w ↦ ap (λ v. v.items) w.told-is ∙ sym (append-nil c.loop-row.told.items) ∙ ap (λ o. c.loop-row.told.items ++ cons_option o []) (sym w.in_default.is)
+            ]),
+          );
       by_rows = λ clean office visit is.
           let before = inv.same (early clean) office in
           let known = inv.by_rows (early clean) office visit is in
@@ -80,6 +99,7 @@ loop-row-init g c = record {
   inside = none_called _ tt;
   told = λ clean h legal pictured. (pictured, λ visit is rows_are. (c.new-allowances.ensures.those h visit is, c.new-told.ensures.items));
   same = λ clean office. refl;
+  reads = λ clean office. (refl, c.new-allowances.ensures.known (tables_of (state g.S.Store c.args.tx.now.conn.now).now), ap Some (sym c.new-told.ensures.items));
   by_rows = λ clean office visit is. (c.new-allowances.ensures.rows (tables_of (state g.S.Store c.args.tx.now.conn.now).now) visit is, c.new-told.ensures.items);
 }
 
@@ -91,3 +111,11 @@ returns-in_err-record-clause-inside g c = turn_failed c.loop-row.invariant.insid
 
 pub returns-in_err-push-clause-inside : goal.returns-in_err-push-clause-inside
 returns-in_err-push-clause-inside g c = turn_as (turn_then c.loop-row.invariant.inside c.in_ok-record.ensures.inside) _ (search rules)
+
+pub returns-clause-reads : goal.returns-clause-reads
+returns-clause-reads g c clean office =
+    let a = c.args in
+    let read = c.loop-row.invariant.reads clean office in
+    let t = tables_of (state g.S.Store a.tx.now.conn.now).now in
+    let finished : c.loop-row.row-index ≡ length a.rows.now = omega (arith, c.loop-row-test.false, c.loop-row.auto.row-index-end) in
+    (read.0, things_all (listed_record t (role_name a.asker.now) a.asker.now.day (wanted_of a.collection a.class)) a.rows.now c.loop-row.row-index finished c.loop-row.told.items read.2)

@@ -1,4 +1,4 @@
-use Rattle.std.proofs.Common.{rules, ◌≡◌, pos, ap, sym, ◌∙◌}
+use Rattle.std.proofs.Common.{rules, ◌≡◌, pos, ap, sym, ◌∙◌, Some}
 use Rattle.std.proofs.lemmas.Result.{IfOk-weaker}
 use Rattle.sqlite.specs.Held.{state}
 use Rattle.office_rows.specs.Rows.{DepositRow, due_numbered}
@@ -8,6 +8,9 @@ use Rattle.office_history.specs.Pictures.{due_row}
 use Rattle.office_asking.proofs.NumberedRows.{same_count}
 use Rattle.office_serving.proofs.RecordTold.{record_is}
 use Rattle.office_tables.proofs.InTurn.{whatever}
+use Rattle.office_core.specs.FirstOf.{◌>>=◌}
+use Rattle.office_core.specs.declared.answer.Answer.TheVariants as answers
+use Rattle.office_by_rows.specs.Answers.{record_by}
 use Rattle.office_serving.proofs.records.record_of.Goals as goal
 
 pub returns-clause-told : goal.returns-clause-told
@@ -32,3 +35,17 @@ returns-clause-rows g c clean office =
 
 pub returns-clause-same : goal.returns-clause-same
 returns-clause-same g c clean office = whatever c.record_in.result (c.in_ok-kept.ensures.same clean office)
+
+pub returns-clause-reads : goal.returns-clause-reads
+returns-clause-reads g c clean office =
+    let t = tables_of (state g.S.Store c.args.tx.now.conn.now).now in
+    let row = c.args.row.now in
+    let number : pos c.row.inside.number ≡ row.number = search rules in
+    let kept = c.in_ok-kept.ensures.rows clean office in
+    IfOk-weaker c.record_in.result _ _ (λ told says. (
+      c.in_ok-kept.ensures.same clean office,
+      ap (λ n. due_numbered n t.dues >>= λ kept. record_by row kept >>= λ told. Some (answers.Record told)) (sym number)
+          ∙ ap (λ o. o >>= λ kept. record_by row kept >>= λ told. Some (answers.Record told)) (sym kept)
+          ∙ ap (λ o. o >>= λ told. Some (answers.Record told)) says,
+    ))
+    c.record_in.ensures.reads

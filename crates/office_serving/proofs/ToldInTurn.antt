@@ -1,0 +1,50 @@
+-- What is told of rows, one after another, where each may tell nothing.
+use Rattle.std.proofs.Common.{◌≡◌, ℕ, ◌+◌, ◌<◌, List, [], ◌∷◌, ◌++◌, length, map, take, get_or, Option, Some, None, refl, sym, ap, ◌∙◌, arith}
+use Rattle.std.specs.List.{cons_option}
+use Rattle.std.proofs.lemmas.List.{map_more, take_more, take_all}
+use Rattle.std.proofs.lemmas.Option.{same_Some}
+use Rattle.office_core.specs.FirstOf.{◌>>=◌}
+use Rattle.office_core.proofs.OptionLemmas.{some_and_then}
+use Rattle.office_by_rows.specs.Values.{all_told, things_told}
+
+-- ---- one thing of each, or nothing to tell
+
+module _ {A B : Type 0} (tell : A → Option (Option B)) where
+  -- one row more
+  things_more : (xs : List A) (told : List B) (x : A) (one : Option B) → things_told tell xs ≡ Some told → tell x ≡ Some one → things_told tell (xs ++ x ∷ []) ≡ Some (told ++ cons_option one [])
+  things_more [] told x one all is = (λ i. is i >>= λ o. Some (cons_option o [])) ∙ ap (λ ys. Some (ys ++ cons_option one [])) (same_Some _ _ all)
+  things_more (y ∷ xs) told x one all is =
+      let first = some_and_then (tell y) (λ o. things_told tell xs >>= λ others. Some (cons_option o others)) told all in
+      let rest = some_and_then (things_told tell xs) (λ others. Some (cons_option first.0 others)) told first.2 in
+      (λ i. first.1 i >>= λ o. things_more xs rest.0 x one rest.1 is i >>= λ others. Some (cons_option o others))
+      ∙ ap Some (moved first.0 rest.0)
+      ∙ ap (λ ys. Some (ys ++ cons_option one [])) (same_Some _ _ rest.2)
+    where
+      moved : (o : Option B) (others : List B) → cons_option o (others ++ cons_option one []) ≡ cons_option o others ++ cons_option one []
+      moved None others = refl
+      moved (Some z) others = refl
+
+  -- the next row
+  pub things_next : (xs : List A) (i : ℕ) (d : A) → i < length xs → (before : List B) → things_told tell (take i xs) ≡ Some before → (one : Option B) → tell (get_or xs i d) ≡ Some one
+      → (after : List B) → after ≡ before ++ cons_option one [] → things_told tell (take (i + 1) xs) ≡ Some after
+  things_next xs i d low before all one is after e = ap (things_told tell) (take_more xs i d low) ∙ things_more (take i xs) before (get_or xs i d) one all is ∙ ap Some (sym e)
+
+  -- all rows
+  pub things_all : (xs : List A) (i : ℕ) → i ≡ length xs → (told : List B) → things_told tell (take i xs) ≡ Some told → things_told tell xs ≡ Some told
+  things_all xs i is told e = ap (things_told tell) (sym (ap (λ n. take n xs) is ∙ take_all (length xs) xs (omega arith))) ∙ e
+
+-- ---- one thing of each
+
+module _ {A B : Type 0} (tell : A → Option B) where
+  all_more : (xs : List A) (told : List B) (x : A) (one : B) → all_told tell xs ≡ Some told → tell x ≡ Some one → all_told tell (xs ++ x ∷ []) ≡ Some (told ++ one ∷ [])
+  all_more [] told x one all is = (λ i. is i >>= λ z. Some (z ∷ [])) ∙ ap (λ ys. Some (ys ++ one ∷ [])) (same_Some _ _ all)
+  all_more (y ∷ xs) told x one all is =
+      let first = some_and_then (tell y) (λ z. all_told tell xs >>= λ others. Some (z ∷ others)) told all in
+      let rest = some_and_then (all_told tell xs) (λ others. Some (first.0 ∷ others)) told first.2 in
+      (λ i. first.1 i >>= λ z. all_more xs rest.0 x one rest.1 is i >>= λ others. Some (z ∷ others))
+      ∙ ap (λ ys. Some (ys ++ one ∷ [])) (same_Some _ _ rest.2)
+
+  -- of the next of these
+  pub all_next : {K : Type 0} (of : K → A) (ks : List K) (i : ℕ) (d : K) → i < length ks → (before : List B) → all_told tell (map of (take i ks)) ≡ Some before → (one : B) → tell (of (get_or ks i d)) ≡ Some one
+      → all_told tell (map of (take (i + 1) ks)) ≡ Some (before ++ one ∷ [])
+  all_next of ks i d low before all one is = ap (all_told tell) (map_more of ks i d low) ∙ all_more (map of (take i ks)) before (of (get_or ks i d)) one all is
