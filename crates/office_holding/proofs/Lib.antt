@@ -8,3 +8,5 @@ pub mod ReleasedTold
 pub mod HoldsByRows
 pub mod NamesTold
 pub mod OneAnswer
+pub mod Denied
+pub mod Counted

@@ -11,11 +11,11 @@ use Rattle.office_core.specs.declared.request.Request.TheVariants.{HoldDeposit, 
 use Rattle.office_rows.specs.Rows.{DueRow, HoldRow, Tables, due_numbered, limits_of, with_holds, with_more_holds, with_more_holds_class}
 use Rattle.office_tables.specs.Tables.{Becomes, tables_of}
 use Rattle.office_tables.specs.declared.holds.HoldTarget.{HoldTarget}
-use Rattle.office_tables.specs.declared.holds.HoldTarget.TheVariants.{Deposit, Collection, Class}
 use Rattle.office_history.specs.Histories.{History, Hold, Target, OnDeposit, OnCollection, OnClass, deposit_numbered, has_class, has_collection, holds, hold_numbered, release_day}
 use Rattle.office_history.specs.Pictures.{held_class, held_collection, hold_row}
 use Rattle.office_history.specs.Refusals.{class_denials, collection_denials, denial, kept_refusals, of_deposit, of_hold, release_refusals}
 use Rattle.office_asking.specs.Asking.{Visit}
+use Rattle.office_asking.specs.Told.{held_target}
 use Rattle.office_holding.specs.ByRows.{IsCountable}
 
 -- this is the number of the next hold
@@ -29,9 +29,7 @@ IsNextOrRefused h these (Err why) = Some why ≡ first_some these
 
 -- what a hold is on, as the history says it
 abbrev pub target_of : HoldTarget → Target
-target_of (Deposit number) = OnDeposit number
-target_of (Collection name) = OnCollection name.now
-target_of (Class name) = OnClass name.now
+target_of = held_target
 
 -- there is the deposit, the collection or the class that is named
 abbrev pub is_there : History → Target → Bool

@@ -1,11 +1,12 @@
 //! What the rules say of a collection or a class by its name, where there is one.
 
-ghost use Rattle.std.specs.Prelude.{◌≡◌, option_copied};
-ghost use Rattle.office_tables.specs.Calls.{GoesOnInside, Keeps, Tells};
+ghost use Rattle.std.specs.Prelude.{◌≡◌, Some, option_copied};
+ghost use Rattle.office_tables.specs.Calls.{GoesOnInside, Keeps, Shows, Tells};
 ghost use Rattle.office_history.specs.Pictures.{held_class, held_collection};
 ghost use Rattle.office_asking.specs.Asking.{visit_on};
 ghost use Rattle.office_asking.specs.Serving.{Finds};
 ghost use Rattle.office_holding.specs.ByRows.{IsSaidIn, is_there_in};
+ghost use Rattle.office_holding.specs.Denials.{name_denial};
 ghost use Rattle.office_holding.specs.Holds.{IsSaidOf, target_of};
 
 use office_asking::denial;
@@ -59,6 +60,9 @@ pub(crate) fn name_denial<S: Alter>(
         IsSaidOf h (visit_on day caller.now) action (target_of target.entry) said) }
     ensures rows { Tells S.Store tx.old.conn.now tx.new.conn.now result (λ tables said.
         IsSaidIn tables (visit_on day caller.now) action (target_of target.entry) said) }
+    ensures reads { Shows S.Store tx.old.conn.now tx.new.conn.now result (λ tables said.
+        name_denial tables (visit_on day caller.now) action (target_of target.entry)
+        ≡ Some said) }
 {
     if !is_there(tx, target)? {
         return Ok(None);

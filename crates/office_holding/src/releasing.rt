@@ -1,18 +1,23 @@
 //! Holds that are released.
 
-ghost use Rattle.std.specs.Prelude.{◌≡◌, IfErr, IfOk, Option, negsuc, option_map, pos, [], ◌∷◌};
+ghost use Rattle.std.specs.Prelude.{◌≡◌, ◌↔◌, IfErr, IfOk, None, Option, Some, negsuc, option_map, pos, [], ◌∷◌};
+ghost use Rattle.std.specs.Result.{result_err};
 ghost use Rattle.jiff.specs.Words.{epoch_day};
 ghost use Rattle.office_core.specs.FirstOf.{first_some};
 ghost use Rattle.office_core.specs.declared.answer.LiveHold.{LiveHold};
 ghost use Rattle.office_core.specs.declared.refusal.Refusal.TheVariants.{Released};
 ghost use Rattle.office_core.specs.declared.request.Request.TheVariants as requests;
+ghost use Rattle.office_rows.specs.Rows.{hold_numbered, with_released};
 ghost use Rattle.office_tables.specs.Faults.{IsFailure};
-ghost use Rattle.office_tables.specs.Calls.{GoesOnInside, Keeps, Tells};
+ghost use Rattle.office_tables.specs.Calls.{GoesOnInside, Keeps, Shows, Tells};
 ghost use Rattle.office_tables.specs.ShownHolds.{held_class, held_collection, held_deposit};
 ghost use Rattle.office_history.specs.Histories.{OnDeposit, ReleasedHold};
 ghost use Rattle.office_history.specs.Refusals.{release_denial};
+ghost use Rattle.office_by_rows.specs.Changes.{counted_over};
+ghost use Rattle.office_by_rows.specs.Refusals.{first_told, refusal, release_denial_on, released_refusal};
+ghost use Rattle.office_by_rows.specs.Serving.{serve};
 ghost use Rattle.office_asking.specs.Asking.{visit_on};
-ghost use Rattle.office_asking.specs.Serving.{Accepts, Decides, Finds};
+ghost use Rattle.office_asking.specs.Serving.{Accepts, Changes, Decides, Finds, Serves};
 ghost use Rattle.office_asking.specs.Holds.{IsHoldOf};
 ghost use Rattle.office_holding.specs.ByRows.{IsCountableOn, IsDepositReleaseIn, IsReleasableIn, IsReleaseDenialIn, IsReleasedIn, IsRowUnless};
 ghost use Rattle.office_holding.specs.Holds.{IsLiveOn, IsReleaseAsked, IsUnless, target_of};
@@ -42,6 +47,8 @@ fn deposit_release_denial<S: Alter>(
         why ≡ release_denial h day caller.now (OnDeposit number)) }
     ensures rows { Tells S.Store tx.old.conn.now tx.new.conn.now result (λ tables why.
         IsDepositReleaseIn tables (visit_on day caller.now) (pos number) why) }
+    ensures reads { Shows S.Store tx.old.conn.now tx.new.conn.now result (λ tables why.
+        release_denial_on tables (visit_on day caller.now) (OnDeposit number) ≡ Some why) }
 {
     let found = deposit_row(tx, number)?;
     let deposit = there(found)?;
@@ -71,6 +78,9 @@ fn release_denial<S: Alter>(
     ensures rows { Tells S.Store tx.old.conn.now tx.new.conn.now result (λ tables why.
         IsReleaseDenialIn tables (visit_on day caller.now)
         (held_deposit target.entry, held_collection target.entry, held_class target.entry) why) }
+    ensures reads { Shows S.Store tx.old.conn.now tx.new.conn.now result (λ tables why.
+        release_denial_on tables (visit_on day caller.now) (target_of target.entry)
+        ≡ Some why) }
 {
     match target {
         HoldTarget::Deposit(number) => deposit_release_denial(tx, day, caller, number),
@@ -94,6 +104,13 @@ fn unless_refused(
         (day : Option Day) → option_map epoch_day day ≡ hold.released
         → IsUnless hold (first_some (denied ∷ option_map Released day ∷ [])) found) }
     ensures rows { IfOk result (λ found. IsRowUnless denied hold found) }
+    ensures reads { IfOk result (λ found.
+        first_told (Some denied ∷ released_refusal hold ∷ []) ≡ Some (result_err found)) }
+    ensures row { IfOk result (λ found. IfOk found (λ row. row ≡ hold)) }
+    // It fails with `Store` exactly where the rows tell nothing.
+    ensures none { IfErr result (λ fault.
+        (fault ≡ TableFault.Store)
+        ↔ (first_told (Some denied ∷ released_refusal hold ∷ []) ≡ None)) }
     // It wants memory only for a hold: a row that tells of none is a fault of the store.
     ensures memory { IfErr result (λ fault.
         fault ≡ TableFault.Memory → (told : LiveHold) × IsHoldOf hold told) }
@@ -101,8 +118,9 @@ fn unless_refused(
     if let Some(why) = denied {
         return Ok(Err(why));
     }
+    let released = optional_day_numbered(hold.released)?;
     hold_in(alloc, &hold)?;
-    match optional_day_numbered(hold.released)? {
+    match released {
         Some(day) => Ok(Err(Refusal::Released(day))),
         None => Ok(Ok(hold)),
     }
@@ -122,6 +140,11 @@ fn releasable_hold<S: Alter>(
         IsReleaseAsked h day caller.now number found) }
     ensures rows { Tells S.Store tx.old.conn.now tx.new.conn.now result (λ tables found.
         IsReleasableIn tables (visit_on day caller.now) number found) }
+    ensures reads { Shows S.Store tx.old.conn.now tx.new.conn.now result (λ tables found.
+        refusal tables (visit_on day caller.now) (requests.Release number)
+        ≡ Some (result_err found)) }
+    ensures row { Shows S.Store tx.old.conn.now tx.new.conn.now result (λ tables found.
+        IfOk found (λ row. hold_numbered (pos number) tables.holds ≡ Some row)) }
 {
     let Some(hold) = hold_row(tx, number)? else {
         return Ok(Err(Refusal::NoSuch(Subject::Hold)));
@@ -147,6 +170,9 @@ fn end<S: Alter>(
         }) }
     ensures rows { Tells S.Store tx.old.conn.now tx.new.conn.now result (λ tables _.
         IsCountableOn tables (held_deposit target.entry) (negsuc 0)) }
+    ensures changes { Changes S.Store tx.old.conn.now tx.new.conn.now result (λ tables.
+        counted_over (target_of target.entry) (negsuc 0)
+        (with_released (pos number) (epoch_day day) tables)) }
 {
     end_hold(tx, number, kept_day(day))?;
     count_over(tx, target, -1)
@@ -167,6 +193,8 @@ pub fn release<S: Alter>(
         (day, caller.entry, requests.Release hold) }
     ensures rows { Tells S.Store tx.old.conn.now tx.new.conn.now result (λ tables answer.
         IsReleasedIn tables (visit_on day caller.now) hold answer) }
+    ensures serves { Serves S.Store tx.old.conn.now tx.new.conn.now result (λ tables.
+        serve tables (visit_on day caller.now) (requests.Release hold)) }
 {
     match releasable_hold(alloc, tx, day, caller, hold)? {
         Ok(row) => {

@@ -1,4 +1,4 @@
-use Rattle.std.proofs.Common.{rules, w64, sym, subst}
+use Rattle.std.proofs.Common.{rules, w64, sym, subst, Some, pos}
 use mir.Val.{SFits}
 use Rattle.std.proofs.lemmas.Int.{to_z-of_z}
 use Rattle.std.proofs.lemmas.Result.{on_ok_weaker}
@@ -6,6 +6,9 @@ use Rattle.office_tables.specs.Contents.{KeepsOnce}
 use Rattle.office_tables.proofs.InTurn.{clean_first, inside_then, whatever}
 use Rattle.office_asking.proofs.RowsTold.{office_still}
 use Rattle.office_holding.proofs.CountTold.{counts}
+use Rattle.office_rows.specs.Rows.{with_holds}
+use Rattle.office_by_rows.specs.Changes.{counted_on}
+use Rattle.office_asking.proofs.ServedBy.{changed_after, changed_as, changes_by}
 use Rattle.office_holding.proofs.counting.count_over_deposit.Goals as goal
 
 pub returns-clause-counted : goal.returns-clause-counted
@@ -29,3 +32,14 @@ returns-clause-once g c clean office once =
 
 pub returns-clause-inside : goal.returns-clause-inside
 returns-clause-inside g c = inside_then c.in_ok-holds.ensures.inside c.set_holds.ensures.inside
+
+pub returns-clause-changes : goal.returns-clause-changes
+returns-clause-changes g c clean office =
+    let a = c.args in
+    let holds = c.in_ok-holds.holds in
+    let fits : SFits w64 holds = search rules in
+    let read = rw (to_z-of_z w64 a.by c.ranges.by) at (c.in_ok-holds.ensures.reads (clean_first c.set_holds.ensures.inside.stays clean) office) in
+    let set = rw (to_z-of_z w64 holds fits) at c.set_holds.ensures.becomes in
+    let write = with_holds (pos a.number) holds in
+    on_ok_weaker c.set_holds.result (λ changed. changed_as (λ t. Some (write t)) (counted_on a.number a.by) (sym read.1) (changed_after (λ t. Some (write t)) read.0 changed))
+    (changes_by c.set_holds.ensures.inside write set c.set_holds.ensures.once clean (office_still read.0 office))

@@ -1,15 +1,18 @@
-use Rattle.std.proofs.Common.{rules, w64, pos, subst}
+use Rattle.std.proofs.Common.{rules, w64, pos, subst, Some}
 use mir.Val.{SFits}
 use Rattle.std.proofs.lemmas.Int.{to_z-of_z}
 use Rattle.std.proofs.lemmas.Result.{on_ok_weaker}
 use Rattle.sqlite.specs.Held.{state}
-use Rattle.office_rows.specs.Rows.{Tables}
+use Rattle.office_rows.specs.Rows.{Tables, with_hold}
 use Rattle.office_tables.specs.ShownHolds.{held_deposit}
 use Rattle.office_tables.proofs.InTurn.{clean_first, inside_then}
 use Rattle.office_history.specs.Histories.{Hold}
 use Rattle.office_holding.specs.ByRows.{IsCountableOn}
 use Rattle.office_holding.specs.Holds.{target_of}
 use Rattle.office_holding.proofs.PlacedTold.{row_put, placed}
+use Rattle.office_by_rows.specs.Changes.{counted_over, new_hold}
+use Rattle.office_asking.proofs.ServedBy.{changes_by, changes_then}
+use Rattle.office_holding.proofs.Counted.{put_row}
 use Rattle.office_holding.proofs.placing.place.Goals as goal
 
 pub returns-clause-placed : goal.returns-clause-placed
@@ -29,3 +32,13 @@ returns-clause-rows g c clean office =
 
 pub returns-clause-inside : goal.returns-clause-inside
 returns-clause-inside g c = inside_then c.in_ok-put_hold.ensures.inside c.count_over.ensures.inside
+
+pub returns-clause-changes : goal.returns-clause-changes
+returns-clause-changes g c =
+    let a = c.args in
+    let put_hold = c.in_ok-put_hold.ensures in
+    let fits : SFits w64 c.kept_day.result = search rules in
+    let row = new_hold a.number (target_of a.target) a.matter.now a.day in
+    let put = rw (to_z-of_z w64 c.kept_day.result fits, c.kept_day.ensures, put_row a.number a.day a.target a.matter.now) at put_hold.becomes in
+    changes_then put_hold.inside c.count_over.ensures.inside (λ t. Some (with_hold row t)) (counted_over (target_of a.target) (pos 1))
+    (changes_by put_hold.inside (with_hold row) put put_hold.once) c.count_over.ensures.changes

@@ -1,4 +1,4 @@
-use Rattle.std.proofs.Common.{rules, ◌≡◌, ◌∙◌, Some, option_map}
+use Rattle.std.proofs.Common.{rules, ◌≡◌, ◌∙◌, Some, option_map, ap, sym}
 use Rattle.std.proofs.lemmas.Result.{IfOk-weaker}
 use Rattle.office_core.specs.declared.action.Action.TheVariants as acts
 use Rattle.office_tables.specs.declared.fault.TableFault.TheVariants.{Store}
@@ -12,6 +12,9 @@ use Rattle.office_asking.specs.Asking.{visit_on}
 use Rattle.office_asking.specs.ByRows.{IsDenialBy, deciding_row_at}
 use Rattle.office_asking.proofs.RowsTold.{office_still, there_is, told_before}
 use Rattle.office_tables.proofs.InTurn.{clean_first, same_then}
+use Rattle.sqlite.specs.Held.{state}
+use Rattle.office_tables.specs.Tables.{tables_of}
+use Rattle.office_by_rows.specs.Refusals.{denial_at, release_denial_at}
 use Rattle.office_holding.proofs.releasing.deposit_release_denial.Goals as goal
 
 pub returns-clause-denied : goal.returns-clause-denied
@@ -40,3 +43,17 @@ returns-clause-rows g c clean office =
 
 pub returns-clause-same : goal.returns-clause-same
 returns-clause-same g c = same_then c.in_ok-found.ensures.inside c.denial.ensures.inside c.in_ok-found.ensures.same c.denial.ensures.same
+
+pub returns-clause-reads : goal.returns-clause-reads
+returns-clause-reads g c clean office =
+    let a = c.args in
+    let t = tables_of (state g.S.Store a.tx.now.conn.now).now in
+    let visit = visit_on a.day a.caller.now in
+    let early = clean_first c.denial.ensures.inside.stays clean in
+    let same = c.in_ok-found.ensures.same early office in
+    let row = c.in_ok-deposit.deposit in
+    let there = there_is c.in_ok-found.found Store row c.in_ok-deposit.ensures ∙ c.in_ok-found.ensures.found early office in
+    let collection : c.deref.result.now ≡ row.collection = search rules in
+    let class : c.deref-2.result.now ≡ row.class = search rules in
+    IfOk-weaker c.denial.result _ _ (λ why asked. (asked.0 ∙ same, ap (release_denial_at t visit) (sym there) ∙ told_before same (λ t. denial_at t visit acts.Release row ≡ Some why) (rw (collection, class) at asked.1)))
+    (c.denial.ensures.reads clean (office_still same office))

@@ -16,29 +16,29 @@ read_first denied allowed read day same = ap (option_map Released) (same_days re
 pub returns-in-Some-clause-first : goal.returns-in-Some-clause-first
 returns-in-Some-clause-first c day said = ap (λ o. first_some (o ∷ option_map Released day ∷ [])) (sym c.in-Some.is)
 
-pub returns-in-Some-2-clause-first : goal.returns-in-Some-2-clause-first
-returns-in-Some-2-clause-first c day said =
+pub returns-in-Some-released-clause-first : goal.returns-in-Some-released-clause-first
+returns-in-Some-released-clause-first c day said =
     let allowed : None ≡ c.args.denied = search rules in
-    let read : option_map epoch_day c.in_ok-day.field-0 ≡ c.args.hold.released = search rules in
-    ap (option_map Released) (sym c.in-Some-2.is) ∙ read_first c.args.denied allowed c.in_ok-day.field-0 day (read ∙ sym said)
+    let read : option_map epoch_day c.in_ok-released.released ≡ c.args.hold.released = search rules in
+    ap (option_map Released) (sym c.in-Some-released.is) ∙ read_first c.args.denied allowed c.in_ok-released.released day (read ∙ sym said)
 
 pub returns-in-None-clause-first : goal.returns-in-None-clause-first
 returns-in-None-clause-first c day said =
     let allowed : None ≡ c.args.denied = search rules in
-    let read : option_map epoch_day c.in_ok-day.field-0 ≡ c.args.hold.released = search rules in
-    (ap (option_map Released) (sym c.in-None.is) ∙ read_first c.args.denied allowed c.in_ok-day.field-0 day (read ∙ sym said), refl)
+    let read : option_map epoch_day c.in_ok-released.released ≡ c.args.hold.released = search rules in
+    (ap (option_map Released) (sym c.in-None.is) ∙ read_first c.args.denied allowed c.in_ok-released.released day (read ∙ sym said), refl)
 
 pub returns-in-Some-clause-rows : goal.returns-in-Some-clause-rows
 returns-in-Some-clause-rows c = subst (λ denied. IsFirstOfRelease denied c.args.hold (Some c.in-Some.why)) (sym c.in-Some.is) refl
 
-pub returns-in-Some-2-clause-rows : goal.returns-in-Some-2-clause-rows
-returns-in-Some-2-clause-rows c =
+pub returns-in-Some-released-clause-rows : goal.returns-in-Some-released-clause-rows
+returns-in-Some-released-clause-rows c =
     let allowed : None ≡ c.args.denied = search rules in
-    let told : IsReleaseDayOf c.args.hold c.in_ok-day.field-0 = record { told = c.in_ok-hold_in.field-0; is = c.in_ok-hold_in.ensures.told; released = search rules; is_day = search rules } in
-    subst (λ denied. IsFirstOfRelease denied c.args.hold (Some (Released c.in-Some-2.day))) allowed (c.in_ok-day.field-0, told, ap (option_map Released) (sym c.in-Some-2.is))
+    let told : IsReleaseDayOf c.args.hold c.in_ok-released.released = record { told = c.in_ok-hold_in.field-0; is = c.in_ok-hold_in.ensures.told; released = search rules; is_day = search rules } in
+    subst (λ denied. IsFirstOfRelease denied c.args.hold (Some (Released c.in-Some-released.day))) allowed (c.in_ok-released.released, told, ap (option_map Released) (sym c.in-Some-released.is))
 
 pub returns-in-None-clause-rows : goal.returns-in-None-clause-rows
 returns-in-None-clause-rows c =
     let allowed : None ≡ c.args.denied = search rules in
-    let told : IsReleaseDayOf c.args.hold c.in_ok-day.field-0 = record { told = c.in_ok-hold_in.field-0; is = c.in_ok-hold_in.ensures.told; released = search rules; is_day = search rules } in
-    (refl, subst (λ denied. IsFirstOfRelease denied c.args.hold None) allowed (c.in_ok-day.field-0, told, ap (option_map Released) (sym c.in-None.is)))
+    let told : IsReleaseDayOf c.args.hold c.in_ok-released.released = record { told = c.in_ok-hold_in.field-0; is = c.in_ok-hold_in.ensures.told; released = search rules; is_day = search rules } in
+    (refl, subst (λ denied. IsFirstOfRelease denied c.args.hold None) allowed (c.in_ok-released.released, told, ap (option_map Released) (sym c.in-None.is)))
