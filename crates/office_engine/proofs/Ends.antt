@@ -1,5 +1,5 @@
 -- How a transaction ends.
-use Rattle.std.proofs.Common.{◌≡◌, ◌⊎◌, inl, inr, [], Bool, true, false, Result, Ok, Err, IfOk, OnOk, IsOkAnd, IsTrue, refl, sym, subst, ap, ◌∙◌, true≢false, arith}
+use Rattle.std.proofs.Common.{◌≡◌, ◌⊎◌, inl, inr, [], Some, Bool, true, false, Result, Ok, Err, IfOk, OnOk, IsOkAnd, IsTrue, refl, sym, subst, ap, ◌∙◌, true≢false, arith}
 use Rattle.sqlite.specs.Store.{Ghosts}
 use Rattle.sqlite.specs.Tree.{Trees}
 use Rattle.sqlite.specs.Effect.{Database}
@@ -10,7 +10,9 @@ use Rattle.sqlite.specs.State.{State, HasCleanDisk, Survives, IsRolledBack, Show
 use Rattle.sqlite.proofs.StateLemmas.{survives_then}
 use Rattle.sqlite.proofs.Callers.{survives_begin}
 use Rattle.sql_meaning.specs.Inside.{GoesOn}
-use Rattle.office_tables.specs.Calls.{CommitsNothing, Continues, Tells}
+use Rattle.office_rows.specs.Rows.{Tables}
+use Rattle.office_tables.specs.Calls.{CommitsNothing, Continues}
+use Rattle.office_tables.specs.Tables.{Becomes, IsOffice}
 use Rattle.office_tables.specs.declared.fault.TableFault.{TableFault}
 use Rattle.office_core.specs.declared.answer.Answer.{Answer}
 use Rattle.office_history.specs.Histories.{History, with_changes}
@@ -18,11 +20,13 @@ use Rattle.office_history.specs.Answers.{change}
 use Rattle.office_history.specs.Runs.{IsLegal, IsFailure, Item, IsItem, serve}
 use Rattle.office_history.proofs.Accepted.{grown_by_none}
 use Rattle.office_asking.specs.Pictures.{Pictures}
+use Rattle.office_by_rows.specs.Serving as by_rows
 use Rattle.office_asking.specs.Asking.{visit_on}
-use Rattle.office_asking.specs.Serving.{Decides, Finds, IsServed}
-use Rattle.office_engine.specs.ByRows.{RowsTell}
-use Rattle.office_engine.specs.Keeping.{CommitsTo, IsKeptBy, IsLeftOf, IsLegalAndKept, IsToldByRows, IsTurn, KeepsTables, LeavesAlso, LeavesEither, StaysShut, after_item, is_accepted}
+use Rattle.office_asking.specs.Serving.{Decides, Finds, IsServed, IsServedBy, Serves}
+use Rattle.office_engine.specs.ByRows.{RowsMake}
+use Rattle.office_engine.specs.Keeping.{CommitsRows, CommitsTo, HasRows, IsKeptBy, IsLeftOf, IsLegalAndKept, IsToldByRows, IsTurn, KeepsTables, LeavesAlso, LeavesEither, LeavesRows, StaysShut, after_item, is_accepted}
 use Rattle.office_engine.proofs.Accepted.{no_change}
+use Rattle.office_engine.proofs.RowsAccepted.{rows_stay}
 
 -- while the store is open, a crash leaves what is committed
 abbrev pub IsSettled : State → Type 0
@@ -146,7 +150,7 @@ pub record IsDecided {S : Type 0} (g : Ghosts S) (first last : Held S) (item : I
   pub stays : CommitsNothing g (record first { in_transaction = true }) last
   pub goes_on : Continues g (record first { in_transaction = true }) last decided
   pub decides : Decides g (record first { in_transaction = true }) last decided item
-  pub rows : Tells g (record first { in_transaction = true }) last decided (λ tables answer. RowsTell tables (visit_on item.0 item.1.now) item.2 answer)
+  pub serves : Serves g (record first { in_transaction = true }) last decided (λ t. by_rows.serve t (visit_on item.0 item.1.now) item.2)
 
 served_after : (decided : Result Answer TableFault) (h : History) (item : Item) (db : Database) → IfOk decided (λ given. IsServed h item given db) → OnOk decided (Pictures (after_item item h) db)
 served_after (Ok given) h item db served = served.after
@@ -156,8 +160,28 @@ pub decided_made : {S : Type 0} (g : Ghosts S) (first last : Held S) (item : Ite
 decided_made g first last item decided it =
     record { committed = it.committed; stays = it.stays; goes_on = it.goes_on; makes = λ clean h legal pictured. served_after decided h item (state g last).now (it.decides clean h legal pictured) }
 
+-- what may be committed has the rows that the request makes of those that were there
+commits_rows : {S : Type 0} (g : Ghosts S) (first last : Held S) (item : Item) (decided : Result Answer TableFault) → IsDecided g first last item decided
+    → HasCleanDisk (state g last) → (db : Trees) → IsOkAnd decided (λ _. db ≡ (state g last).now.trees) → CommitsRows (state g first) item db
+commits_rows g first last item (Ok given) it clean db is =
+    let was_open = (it.stays.kept clean refl).was_open (it.goes_on clean).is_open in (
+      was_open,
+      λ t has.
+          let had = (has was_open).0 in
+          let served = it.serves clean had.office in
+          (given, served.rows, ap (λ s. by_rows.serve s (visit_on item.0 item.1.now) item.2) (sym had.are) ∙ served.is, ((state g last).now, served.becomes, is)),
+    )
+commits_rows g first last item (Err e) it clean db none = absurd none
+
+pub decided_survives : {S : Type 0} (g : Ghosts S) (first last : Held S) (item : Item) (decided : Result Answer TableFault) → IsDecided g first last item decided → (end : Held S)
+    → Survives (state g last) (state g end) (λ db. IsOkAnd decided (λ _. db ≡ (state g last).now.trees)) → Survives (state g first) (state g end) (CommitsRows (state g first) item)
+decided_survives g first last item decided it end s =
+    survives_then (state g first) (state g last) (state g end) _ _ (CommitsRows (state g first) item) (λ _ db none. absurd none)
+    (λ clean db is. commits_rows g first last item decided it (omega (arith, clean, s.clean)) db is) (survives_begin g first (state g last) _ it.stays.survives) s
+
 module _ {S : Type 0} {g : Ghosts S} {first last : Held S} {item : Item} {decided : Result Answer TableFault} (it : IsDecided g first last item decided) (end : Held S) (given : Answer)
     (settled : (s : Held S) → IsSettled (state g s)) (survives : Survives (state g first) (state g end) (CommitsTo (state g first) (after_item item)))
+    (survives_rows : Survives (state g first) (state g end) (CommitsRows (state g first) item))
     (clean : HasCleanDisk (state g end)) (early : HasCleanDisk (state g last))
     (crash : (left : Trees) → (state g end).may_leave left → (state g first).may_leave left ⊎ Makes (state g last) decided left) where
   made_it : IsMadeInside g first last (after_item item) decided
@@ -172,12 +196,32 @@ module _ {S : Type 0} {g : Ghosts S} {first last : Held S} {item : Item} {decide
     | inr makes ↦ inr (of_ok decided (makes_left (state g last) decided left makes))
   ]
 
+  left_rows : LeavesRows (state g first) (state g end) item
+  left_rows t is_open has left may = elim (survives_rows.crash clean left may) [
+    | inl was ↦ inl ((state g first).now, (has is_open).0, settled first left is_open was ∙ ap (λ (d : Database). d.trees) (has is_open).1)
+    | inr made ↦ inr (made.1 t has)
+  ]
+
   module _ (is : decided ≡ Ok given) where
     shuts : StaysShut (state g first) (state g end) given
     shuts shut = absurd (true≢false (sym (was_open made_it end early given is) ∙ shut))
 
+    in_transaction : IsOffice (state g first).now → IsServedBy (λ s. by_rows.serve s (visit_on item.0 item.1.now) item.2) (state g first).now (state g last).now given
+    in_transaction office = rw is at (it.serves early office)
+
     told : IsToldByRows (state g first) item given
-    told answered office = rw is at (it.rows early office)
+    told answered office = let served = in_transaction office in (served.rows, served.is)
+
+    -- the rows that it made
+    module _ (t : Tables) (has : HasRows t (state g first)) where
+      had : Becomes (state g first).now t
+      had = (has (was_open made_it end early given is)).0
+
+      made_rows : IsServedBy (λ s. by_rows.serve s (visit_on item.0 item.1.now) item.2) (state g first).now (state g last).now given
+      made_rows = in_transaction had.office
+
+      makes_rows : RowsMake t item given made_rows.rows
+      makes_rows = ap (λ s. by_rows.serve s (visit_on item.0 item.1.now) item.2) (sym had.are) ∙ made_rows.is
 
     module _ (h : History) (legal : IsLegal h) (keeps : IsKeptBy h (state g first)) where
       served : IsServed h item given (state g last).now
@@ -209,9 +253,23 @@ module _ {S : Type 0} {g : Ghosts S} {first last : Held S} {item : Item} {decide
         accepted = λ _. ap (λ (d : Database). d.trees) (sym shows.now_is);
         none = λ none. absurd (true≢false (sym accepted ∙ none));
       };
+      served_rows = λ t has. (
+        (made_rows t has).rows,
+        inr (makes_rows t has),
+        λ is_open. (subst (λ db. Becomes db (made_rows t has).rows) (sym shows.now_is) (made_rows t has).becomes, shows.committed_is ∙ sym shows.now_is),
+      );
+      leaves_rows = left_rows;
+      durable_rows = λ t has accepted. (
+        (made_rows t has).rows,
+        makes_rows t has,
+        λ left may. ((state g last).now, (made_rows t has).becomes, settled end left shows.is_open may ∙ ap (λ (d : Database). d.trees) shows.committed_is),
+      );
     }
 
   module _ (none : is_accepted given ≡ false) (back : IsRolledBack (state g last) (state g end)) where
+    still_rows : (t : Tables) → HasRows t (state g first) → HasRows t (state g end)
+    still_rows t has is_open = let same = unchanged made_it end early back is_open in (subst (λ db. Becomes db t) (sym same.1) (has same.0).0, same.2 ∙ sym same.1)
+
     -- the answer tells of no change
     turn_same : decided ≡ Ok given → IsTurn (state g first) (state g end) item given
     turn_same is = record {
@@ -235,6 +293,13 @@ module _ {S : Type 0} {g : Ghosts S} {first last : Held S} {item : Item} {decide
           | inr makes ↦ let is_made : IsTrue (is_accepted given) × (left ≡ (state g last).now.trees) = rw is at makes in absurd (true≢false (sym is_made.0 ∙ none))
         ];
       };
+      served_rows = λ t has. (
+        t,
+        inr (makes_rows is t has ∙ ap (λ rows. Some (given, rows)) (rows_stay given none t (made_rows is t has).rows (visit_on item.0 item.1.now) item.2 (makes_rows is t has))),
+        still_rows t has,
+      );
+      leaves_rows = left_rows;
+      durable_rows = λ t has accepted. absurd (true≢false (sym accepted ∙ none));
     }
 
     -- it is a failure
@@ -253,6 +318,9 @@ module _ {S : Type 0} {g : Ghosts S} {first last : Held S} {item : Item} {decide
         accepted = λ accepted. absurd (true≢false (sym accepted ∙ none));
         none = λ _ answered. absurd (answered fails);
       };
+      served_rows = λ t has. (t, inl (fails, refl), still_rows t has);
+      leaves_rows = left_rows;
+      durable_rows = λ t has accepted. absurd (true≢false (sym accepted ∙ none));
     }
 
   module _ (told : (decided ≡ Ok given) ⊎ IsFailure given) (committed : IsTrue (is_accepted given) → (decided ≡ Ok given) × Shows (state g last) (state g end) (state g last).now (state g last).now false)

@@ -4,5 +4,6 @@ pub mod FoundAfter
 pub mod Kept
 pub mod RunTurns
 pub mod Stopping
-pub mod OneAnswer
 pub mod Upgraded
+pub mod RowsAccepted
+pub mod ServedByRows

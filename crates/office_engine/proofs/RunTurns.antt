@@ -12,7 +12,8 @@ use Rattle.office_history.specs.Histories.{History, with_changes}
 use Rattle.office_history.specs.Answers.{answer, change}
 use Rattle.office_history.specs.Runs.{IsLegal, IsFailure, Item, Run}
 use Rattle.office_history.proofs.Accepted.{grown_by_none}
-use Rattle.office_engine.specs.Keeping.{AllStayShut, CommitsRun, IsKeptBy, IsLeftOf, IsLeftOfEither, IsLeftOfRun, IsTurn, InTurn, LeavesRun, Runs, after_item}
+use Rattle.office_rows.specs.Rows.{Tables}
+use Rattle.office_engine.specs.Keeping.{AllStayShut, CommitsRun, HasRows, IsKeptBy, IsLeftOf, IsLeftOfEither, IsLeftOfRun, IsTurn, InTurn, LeavesRun, Runs, RunsRows, after_item}
 use Rattle.office_engine.proofs.FoundAfter.{changes_or, failure_or, found_more}
 
 module _ {S : Type 0} (g : Ghosts S) where
@@ -44,6 +45,16 @@ module _ {S : Type 0} (g : Ghosts S) where
   turns_run old new (i ∷ items) (a ∷ told) turns h legal keeps =
       let one = turns.1.served h legal keeps in
       let more = turns_run turns.0 new items told turns.2 one.0 one.2.legal one.2.kept in
+      (more.0, (one.0, one.1, more.1), more.2)
+
+  -- the same of whatever rows an office has
+  pub turns_rows : (old new : Held S) (items : List Item) (told : List Answer) → InTurn g old new items told → RunsRows (state g old) (state g new) items told
+  turns_rows old new [] [] turns t has = (t, refl, subst (λ (s : Held S). HasRows t (state g s)) (sym turns) has)
+  turns_rows old new [] (a ∷ told) turns t has = absurd turns
+  turns_rows old new (i ∷ items) [] turns t has = absurd turns
+  turns_rows old new (i ∷ items) (a ∷ told) turns t has =
+      let one = turns.1.served_rows t has in
+      let more = turns_rows turns.0 new items told turns.2 one.0 one.2 in
       (more.0, (one.0, one.1, more.1), more.2)
 
   -- over a store that a fault has shut, each is a failure

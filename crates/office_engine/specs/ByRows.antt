@@ -1,30 +1,27 @@
--- What a request is answered by the rows of an office, whichever rows they are.
+-- What a request does to the rows of an office, whichever rows they are.
+use Rattle.std.specs.Prelude.{◌≡◌, ◌⊎◌, List, [], ◌∷◌, Some}
 use Rattle.office_core.specs.declared.answer.Answer.{Answer}
 use Rattle.office_core.specs.declared.request.Request.{Request}
-use Rattle.office_core.specs.declared.request.Request.TheVariants.{DefineClass, DefineCollection, Deposit, List as ListDeposits, Record, Holds, DownloadBag, DownloadFile, Audit, HoldDeposit, HoldCollection, HoldClass, Release, Dispose, DueList}
 use Rattle.office_rows.specs.Rows.{Tables}
-use Rattle.office_asking.specs.Asking.{Visit}
-use Rattle.office_defining.specs.ByRows.{IsClassDefinedIn, IsCollectionDefinedIn}
-use Rattle.office_holding.specs.ByRows.{IsClassHeldIn, IsCollectionHeldIn, IsDepositHeldIn, IsReleasedIn}
-use Rattle.office_keeping.specs.ByRows.{IsDepositedIn, IsDisposedIn}
-use Rattle.office_serving.specs.Audits.{IsAuditOf}
-use Rattle.office_serving.specs.FilesByRows.{AreHoldsIn, IsBagIn, IsFileIn}
-use Rattle.office_serving.specs.ListsByRows.{IsDueListIn, IsListIn, IsRecordIn}
+use Rattle.office_history.specs.Runs.{IsFailure, Item}
+use Rattle.office_by_rows.specs.Asking.{Visit}
+use Rattle.office_by_rows.specs.Serving.{serve}
+use Rattle.office_asking.specs.Asking.{visit_on}
 
 -- the rows tell this answer to the request of that caller on that day
 abbrev pub RowsTell : Tables → Visit → Request → Answer → Type 0
-RowsTell t visit (DefineClass name years) = IsClassDefinedIn t visit name years
-RowsTell t visit (DefineCollection name) = IsCollectionDefinedIn t visit name
-RowsTell t visit (Deposit collection class accession closed bag) = IsDepositedIn t (record { day = visit.day; caller = visit.caller; collection = collection; class = class; accession = accession; closed = closed }) bag.now
-RowsTell t visit (ListDeposits collection class) = IsListIn t visit (record { collection = collection; class = class })
-RowsTell t visit (Record n) = IsRecordIn t visit n
-RowsTell t visit (Holds n) = AreHoldsIn t visit n
-RowsTell t visit (DownloadBag n) = IsBagIn t visit n
-RowsTell t visit (DownloadFile n path) = IsFileIn t visit n path.now
-RowsTell t visit (Audit n) = IsAuditOf t visit n
-RowsTell t visit (HoldDeposit n matter) = IsDepositHeldIn t visit n
-RowsTell t visit (HoldCollection name matter) = IsCollectionHeldIn t visit name
-RowsTell t visit (HoldClass name matter) = IsClassHeldIn t visit name
-RowsTell t visit (Release k) = IsReleasedIn t visit k
-RowsTell t visit (Dispose n) = IsDisposedIn t visit n
-RowsTell t visit DueList = IsDueListIn t visit
+RowsTell t visit request given = (next : Tables) × (serve t visit request ≡ Some (given, next))
+
+-- after this answer the item leaves these rows
+abbrev pub RowsMake : Tables → Item → Answer → Tables → Type 0
+RowsMake t item given next = serve t (visit_on item.0 item.1.now) item.2 ≡ Some (given, next)
+
+-- one item: a failure, after which the rows are as they were, or what it does to them
+abbrev pub RowsStep : Tables → Item → Answer → Tables → Type 0
+RowsStep t item given next = (IsFailure given × (next ≡ t)) ⊎ RowsMake t item given next
+
+-- item by item
+abbrev pub RowsRun : Tables → List Item → List Answer → Tables → Type 0
+RowsRun t [] [] last = last ≡ t
+RowsRun t (item ∷ items) (given ∷ more) last = (next : Tables) × RowsStep t item given next × RowsRun next items more last
+RowsRun t _ _ last = ⊥

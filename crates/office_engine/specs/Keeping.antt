@@ -10,7 +10,9 @@ use Rattle.sqlite.specs.Held.{Held, state}
 use Rattle.office_core.specs.Policies.{PolicyValue}
 use Rattle.office_core.specs.declared.answer.Answer.{Answer}
 use Rattle.office_core.specs.declared.answer.Answer.TheVariants as answers
-use Rattle.office_tables.specs.Tables.{IsOffice, tables_of}
+use Rattle.office_rows.specs.Rows.{Tables}
+use Rattle.office_tables.specs.Tables.{Becomes, IsOffice, tables_of}
+use Rattle.office_tables.specs.Opening.{IsLeft}
 pub use Rattle.office_tables.specs.Opening.{KeepsTables}
 use Rattle.office_history.specs.Histories.{History, Installed, with_changes}
 use Rattle.office_history.specs.Answers.{change, after, due_list}
@@ -21,7 +23,7 @@ use Rattle.office_tables.specs.declared.version.TableVersion.TheVariants.{Fifth}
 use Rattle.office_asking.specs.Asking.{visit_on}
 use Rattle.office_asking.specs.Pictures.{PicturesAt}
 use Rattle.office_serving.specs.ListsByRows.{AreDueIn, IsStockIn}
-use Rattle.office_engine.specs.ByRows.{RowsTell}
+use Rattle.office_engine.specs.ByRows.{RowsMake, RowsRun, RowsStep, RowsTell}
 
 -- ---- a call
 
@@ -119,6 +121,33 @@ IsToldByRows old item given = (IsFailure given → ⊥) → IsOffice old.now →
 abbrev pub StaysShut : State → State → Answer → Type 0
 StaysShut old new given = old.is_open ≡ false → IsFailure given × (new.is_open ≡ false)
 
+-- ---- one request, whatever rows an office has
+
+-- while the store is open its tables are an office's with these rows, and all of it is committed
+abbrev pub HasRows : Tables → State → Type 0
+HasRows t s = IsTrue s.is_open → Becomes s.now t × (s.committed ≡ s.now)
+
+-- whichever rows an office had, this is a step from them, and it has those that it leads to: after a refusal or a failure, those that it had
+abbrev pub ServesRows : State → State → Item → Answer → Type 0
+ServesRows old new item given = (t : Tables) → HasRows t old → (next : Tables) × RowsStep t item given next × HasRows next new
+
+-- what a crash leaves has the rows that the request makes of these
+abbrev pub IsLeftMade : Tables → Item → Trees → Type 0
+IsLeftMade t item left = (given : Answer) × (next : Tables) × RowsMake t item given next × IsLeft next left
+
+-- the store was open, and whichever rows an office had, a crash may leave those that the request makes of them
+abbrev pub CommitsRows : State → Item → Trees → Type 0
+CommitsRows old item left = IsTrue old.is_open × ((t : Tables) → HasRows t old → IsLeftMade t item left)
+
+-- whichever rows an office had, a crash leaves these, or those that the request makes of them
+abbrev pub LeavesRows : State → State → Item → Type 0
+LeavesRows old new item = (t : Tables) → IsTrue old.is_open → HasRows t old → (left : Trees) → new.may_leave left → IsLeft t left ⊎ IsLeftMade t item left
+
+-- after an answer that tells of a change, the rows that it made, and nothing else
+abbrev pub RowsLast : State → State → Item → Answer → Type 0
+RowsLast old new item given =
+    (t : Tables) → HasRows t old → IsTrue (is_accepted given) → (next : Tables) × RowsMake t item given next × ((left : Trees) → new.may_leave left → IsLeft next left)
+
 -- ---- requests in turn
 
 -- what one request does and is answered, as each of a run is
@@ -131,6 +160,9 @@ pub record IsTurn (old new : State) (item : Item) (given : Answer) : Type 0 wher
   pub durable : Lasts old new item given
   pub leaves : LeavesEither old new (after_item item)
   pub made : LeavesMade old new given
+  pub served_rows : ServesRows old new item given
+  pub leaves_rows : LeavesRows old new item
+  pub durable_rows : RowsLast old new item given
 
 -- the requests were served one after the other, each over the store that the one before it left
 abbrev pub InTurn : {S : Type 0} → Ghosts S → Held S → Held S → List Item → List Answer → Type 0
@@ -145,6 +177,10 @@ AllStayShut old new given = old.is_open ≡ false → All IsFailure given × (ne
 -- whichever legal history was kept, the answers are those of a run from it, and the history that it leads to is kept
 abbrev pub Runs : State → State → List Item → List Answer → Type 0
 Runs old new items given = (h : History) → IsLegal h → IsKeptBy h old → (next : History) × Run h items given next × IsLegalAndKept next new
+
+-- whichever rows an office had, the answers are those of a run from them, and it has those that it leads to
+abbrev pub RunsRows : State → State → List Item → List Answer → Type 0
+RunsRows old new items given = (t : Tables) → HasRows t old → (last : Tables) × RowsRun t items given last × HasRows last new
 
 -- ---- what is left of a run
 

@@ -26,7 +26,7 @@ ghost use Rattle.office_tables.specs.declared.version.TableVersion.{TableVersion
 ghost use Rattle.office_upgrade.specs.Upgrading as rows;
 ghost use Rattle.office_upgrade.specs.Upgrading.{HasUnknownVersion, IsOlder, IsUpgrade, NewestSurvives, TellsVersion, TellsKnown, TellsUnknown};
 ghost use Rattle.office_engine.specs.Upgrading.{GoesBackAt, IsUpgradeOf, LeavesAt, OpensOlder, StaysAt, TakesUp, UpgradeLasts, Upgrades};
-ghost use Rattle.office_engine.specs.Keeping.{AllStayShut, AreToldDue, CommitsRun, CommitsTo, CountsStock, IfClean, InTurn, InstallLasts, Installs, IsKeptBy, IsKeptOfRun, IsLeftAt, IsLeftOf, IsLeftOfEither, IsLeftOfRun, IsToldByRows, IsToldStock, Lasts, LeavesEither, LeavesInstalled, LeavesKept, LeavesMade, LeavesRun, ListsDue, Runs, Serves, StaysShut, after_item, is_accepted, after_policy};
+ghost use Rattle.office_engine.specs.Keeping.{AllStayShut, AreToldDue, CommitsRows, CommitsRun, CommitsTo, CountsStock, IfClean, InTurn, InstallLasts, Installs, IsKeptBy, IsKeptOfRun, IsLeftAt, IsLeftOf, IsLeftOfEither, IsLeftOfRun, IsToldByRows, IsToldStock, Lasts, LeavesEither, LeavesInstalled, LeavesKept, LeavesMade, LeavesRows, LeavesRun, ListsDue, RowsLast, Runs, RunsRows, Serves, ServesRows, StaysShut, after_item, is_accepted, after_policy};
 
 use crate::installing::install;
 use crate::listing::{due_list, stock};
@@ -285,6 +285,16 @@ impl<S: Alter> Office<S> {
         // Whatever was kept, it leaves no other trees than those that were there and those that the request made.
         ensures made { IfClean S.Store self.old self.new (λ old new.
             LeavesMade old new result) }
+        // Whatever rows the office has, an accepted change leaves those that it makes of them, and a refusal or a failure leaves
+        // them; a crash leaves the rows before or after.
+        ensures served_rows { IfClean S.Store self.old self.new (λ old new.
+            ServesRows old new (day, caller.entry, request.now) result) }
+        ensures survives_rows { Survives (state S.Store self.old) (state S.Store self.new)
+            (CommitsRows (state S.Store self.old) (day, caller.entry, request.now)) }
+        ensures leaves_rows { IfClean S.Store self.old self.new (λ old new.
+            LeavesRows old new (day, caller.entry, request.now)) }
+        ensures durable_rows { IfClean S.Store self.old self.new (λ old new.
+            RowsLast old new (day, caller.entry, request.now) result) }
     {
         serve(alloc, &mut self.conn, day, caller, request)
     }
@@ -298,6 +308,9 @@ impl<S: Alter> Office<S> {
     ) -> Result<Vec<Answer>, AllocError>
         ensures ran { IfClean S.Store self.old self.new (λ old new.
             IfOk result (λ answers. Runs old new items.now answers.items)) }
+        // Whatever rows the office has.
+        ensures ran_rows { IfClean S.Store self.old self.new (λ old new.
+            IfOk result (λ answers. RunsRows old new items.now answers.items)) }
         ensures in_turn { HasCleanDisk (state S.Store self.new)
             → IfOk result (λ answers. InTurn S.Store self.old self.new items.now answers.items) }
         ensures shut { IfClean S.Store self.old self.new (λ old new.

@@ -3,18 +3,19 @@
 ghost use Rattle.std.specs.Prelude.{◌≡◌, ◌≢◌, ◌⊎◌, IsOkAnd, IsTrue, Ok, OnOk, false};
 ghost use Rattle.sqlite.specs.State.{HasCleanDisk, IsRolledBack, Shows, Survives};
 ghost use Rattle.sqlite.specs.Held.{state};
-ghost use Rattle.office_tables.specs.Calls.{GoesOnInside, Tells};
+ghost use Rattle.office_tables.specs.Calls.{GoesOnInside};
 ghost use Rattle.office_tables.specs.Faults as faults;
 ghost use Rattle.office_history.specs.Runs.{IsFailure};
 ghost use Rattle.office_asking.specs.Asking.{visit_on};
-ghost use Rattle.office_asking.specs.Serving.{Decides};
-ghost use Rattle.office_engine.specs.ByRows.{RowsTell};
-ghost use Rattle.office_engine.specs.Keeping.{CommitsTo, IfClean, IsTurn, after_item, is_accepted};
+ghost use Rattle.office_asking.specs.Serving.{Serves};
+ghost use Rattle.office_by_rows.specs.Serving.{serve};
+ghost use Rattle.office_engine.specs.Keeping.{CommitsRows, CommitsTo, IfClean, IsTurn, after_item, is_accepted};
 
 use office_core::{Answer, Day, Refusal, Request};
 use office_defining::{define_class, define_collection};
 use office_holding::{hold_class, hold_collection, hold_deposit, release};
 use office_keeping::{DepositAsked, deposit, dispose};
+use office_refines::laws::requests_are_exact;
 use office_serving::{audit, download_bag, download_file, due_list, holds, list, record};
 use office_tables::TableFault;
 use sqlite::{Alter, Connection, Transaction};
@@ -57,10 +58,8 @@ fn decide<S: Alter>(
     request: &Request<'_>,
 ) -> Result<Answer, TableFault>
     ensures inside { GoesOnInside S.Store tx.old.conn tx.new.conn result }
-    ensures decides { Decides S.Store tx.old.conn.now tx.new.conn.now result
-        (day, caller.entry, request.now) }
-    ensures rows { Tells S.Store tx.old.conn.now tx.new.conn.now result (λ tables answer.
-        RowsTell tables (visit_on day caller.now) request.now answer) }
+    ensures serves { Serves S.Store tx.old.conn.now tx.new.conn.now result (λ tables.
+        serve tables (visit_on day caller.now) request.now) }
 {
     match request {
         Request::DefineClass { name, years } => define_class(alloc, tx, day, caller, name, *years),
@@ -161,7 +160,10 @@ pub fn serve<S: Alter>(
         IsTurn old new (day, caller.entry, request.now) result) }
     ensures survives { Survives (state S.Store conn.old) (state S.Store conn.new)
         (CommitsTo (state S.Store conn.old) (after_item (day, caller.entry, request.now))) }
+    ensures survives_rows { Survives (state S.Store conn.old) (state S.Store conn.new)
+        (CommitsRows (state S.Store conn.old) (day, caller.entry, request.now)) }
 {
+    requests_are_exact();
     // What the types of a day and of a request say of their values, and the connection of its state.
     let _date = day.date();
     request.prove_in_range();

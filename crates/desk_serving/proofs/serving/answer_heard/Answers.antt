@@ -18,6 +18,9 @@ returns g c = (
       durable = c.step-answer.ensures.durable honest;
       leaves = c.step-answer.ensures.leaves honest;
       made = c.step-answer.ensures.made honest;
+      served_rows = c.step-answer.ensures.served_rows honest;
+      leaves_rows = c.step-answer.ensures.leaves_rows honest;
+      durable_rows = c.step-answer.ensures.durable_rows honest;
     };
   },
   c.answer_bytes.ensures,

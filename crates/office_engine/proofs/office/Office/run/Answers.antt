@@ -4,7 +4,7 @@ use Rattle.sqlite.specs.State.{HasCleanDisk}
 use Rattle.sqlite.specs.Held.{state}
 use Rattle.sqlite.proofs.StateLemmas.{survives_then}
 use Rattle.office_engine.specs.Keeping.{CommitsRun, IsTurn}
-use Rattle.office_engine.proofs.RunTurns.{left_kept, on_err, survives_run, turns_end, turns_left, turns_next, turns_run, turns_shut, turns_survive}
+use Rattle.office_engine.proofs.RunTurns.{left_kept, on_err, survives_run, turns_end, turns_left, turns_next, turns_rows, turns_run, turns_shut, turns_survive}
 use Rattle.office_engine.proofs.office.Office.run.Goals as goal
 
 pub loop-item-preserved : goal.loop-item-preserved
@@ -22,6 +22,9 @@ loop-item-preserved g c = record {
         durable = c.step.ensures.durable clean;
         leaves = c.step.ensures.leaves clean;
         made = c.step.ensures.made clean;
+        served_rows = c.step.ensures.served_rows clean;
+        leaves_rows = c.step.ensures.leaves_rows clean;
+        durable_rows = c.step.ensures.durable_rows clean;
       } in
       rw c.push_reserved.ensures.items (turns_next g.S.Store c.args.self.now c.loop-item.self c.step.new.self c.args.items.now c.loop-item.item-index c.item-item.result c.loop-item.answers.items c.step.result
       c.loop-item-test.true c.item-item.is (c.loop-item.invariant.in_turn early) turn);
@@ -31,6 +34,11 @@ loop-item-preserved g c = record {
 pub returns-clause-ran : goal.returns-clause-ran
 returns-clause-ran g c clean =
     turns_run g.S.Store c.args.self.now c.loop-item.self c.args.items.now c.loop-item.answers.items
+    (turns_end g.S.Store c.args.self.now c.loop-item.self c.args.items.now c.loop-item.item-index c.loop-item.answers.items c.loop-item-test.false (c.loop-item.invariant.in_turn clean))
+
+pub returns-clause-ran_rows : goal.returns-clause-ran_rows
+returns-clause-ran_rows g c clean =
+    turns_rows g.S.Store c.args.self.now c.loop-item.self c.args.items.now c.loop-item.answers.items
     (turns_end g.S.Store c.args.self.now c.loop-item.self c.args.items.now c.loop-item.item-index c.loop-item.answers.items c.loop-item-test.false (c.loop-item.invariant.in_turn clean))
 
 pub returns-clause-in_turn : goal.returns-clause-in_turn

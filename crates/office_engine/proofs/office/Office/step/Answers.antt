@@ -2,7 +2,7 @@ use Rattle.std.proofs.Common.{subst}
 use Rattle.sqlite.specs.State.{HasCleanDisk, Survives}
 use Rattle.sqlite.specs.Held.{state}
 use Rattle.office_history.specs.Runs.{Item}
-use Rattle.office_engine.specs.Keeping.{CommitsTo, IsTurn, after_item}
+use Rattle.office_engine.specs.Keeping.{CommitsRows, CommitsTo, IsTurn, after_item}
 use Rattle.office_engine.proofs.office.Office.step.Goals as goal
 
 pub returns : goal.returns
@@ -19,4 +19,8 @@ returns g c =
       durable = λ clean. (turn clean).durable;
       leaves = λ clean. (turn clean).leaves;
       made = λ clean. (turn clean).made;
+      served_rows = λ clean. (turn clean).served_rows;
+      survives_rows = subst (λ x. Survives (state g.S.Store x) new (CommitsRows (state g.S.Store x) item)) c.self.view_is c.serve.ensures.survives_rows;
+      leaves_rows = λ clean. (turn clean).leaves_rows;
+      durable_rows = λ clean. (turn clean).durable_rows;
     }
