@@ -38,6 +38,9 @@ pub use office_history::laws::{
     the_least_live_hold_is_named, verdicts_decide, what_is_named_is_there,
     what_may_be_destroyed_is_on_the_due_list,
 };
+pub use office_refines::laws::{
+    alike_rows_are_served_alike, no_legal_office_is_taken_for_an_altered_one, requests_are_exact,
+};
 use office_tables::laws::contents_are_those_of_files;
 use sqlite::Alter;
 

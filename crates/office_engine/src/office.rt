@@ -285,8 +285,8 @@ impl<S: Alter> Office<S> {
         // Whatever was kept, it leaves no other trees than those that were there and those that the request made.
         ensures made { IfClean S.Store self.old self.new (λ old new.
             LeavesMade old new result) }
-        // Whatever rows the office has, an accepted change leaves those that it makes of them, and a refusal or a failure leaves
-        // them; a crash leaves the rows before or after.
+        // Whatever rows the office has, an accepted change leaves what `serve` makes of them, and a
+        // refusal or a failure leaves them; a crash leaves the rows before or after.
         ensures served_rows { IfClean S.Store self.old self.new (λ old new.
             ServesRows old new (day, caller.entry, request.now) result) }
         ensures survives_rows { Survives (state S.Store self.old) (state S.Store self.new)
