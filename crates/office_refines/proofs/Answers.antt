@@ -44,17 +44,14 @@ use Rattle.office_by_rows.specs.Values.{all_told, count_up_to, due_of_number, th
 use Rattle.office_by_rows.specs.Asking.{Visit, hold_by, told_hold, told_holds}
 use Rattle.office_by_rows.specs.Refusals.{highest_deposit, highest_hold, number_after}
 use Rattle.office_by_rows.specs.Answers.{allowed_answer, audit_of, audit_unless, bag_in, content_stored, due_list, file_in, has_names, holds_in, is_allowed_for, is_shown_unless, listed_record, listed_records, path_cmp, place_told, record_by, record_in, stored_files, told_if}
-use Rattle.office_asking.specs.Asking.{visit_on}
-use Rattle.office_asking.proofs.HoldTold.{live_told}
-use Rattle.office_asking.proofs.NumberedRows.{rows_from}
-use Rattle.office_serving.proofs.DueListLaw.{due_list_is}
-use Rattle.office_serving.proofs.FilesTold.{files_at, in_path_order}
-use Rattle.office_serving.proofs.PathsTold.{no_file_there}
-use Rattle.office_serving.proofs.ListedRows.{both, rows_beside, told_of_those}
-use Rattle.office_serving.specs.Listing as listing
 use Rattle.office_by_rows.proofs.Days.{day_back}
 use Rattle.office_refines.specs.Refining.{refusal_before}
-use Rattle.office_asking.proofs.ComesTo.{between}
+use Rattle.office_by_rows.proofs.ComesTo.{between}
+use Rattle.office_refines.proofs.DepositsTold.{both, rows_beside}
+use Rattle.office_refines.proofs.FilesTold.{files_at, in_path_order, no_file_there}
+use Rattle.office_refines.proofs.HoldsTold.{live_told}
+use Rattle.office_refines.proofs.ListsTold.{due_list_is, may_destroy, shown_record, told_of_those}
+use Rattle.office_refines.proofs.NumberedRows.{rows_from}
 use Rattle.office_refines.proofs.Readings.{days_exact, decision_exact, due_exact, found_all, hold_at, hold_told_exact, kept_there, released_days, role_exact, row_there}
 use Rattle.office_refines.proofs.Refusals.{highest_deposit_is, highest_hold_is, next_at}
 
@@ -206,18 +203,18 @@ module _ (h : History) (legal : IsLegal h) (ranged : AreInRange this_version (pi
             by true = ap (option_map Some) record_exact
             by false = refl
 
-        shown : listing.shown_record h (visit_on visit.day visit.caller) wanted n ≡ (if is_none (destruction_day h n) then (if (is_asked wanted.collection found.1.collection && is_asked wanted.class found.1.class) && free then Some (record_of h n found) else None) else None)
+        shown : shown_record h visit wanted n ≡ (if is_none (destruction_day h n) then (if (is_asked wanted.collection found.1.collection && is_asked wanted.class found.1.class) && free then Some (record_of h n found) else None) else None)
         shown =
             ap (λ o. if is_none (destruction_day h n) then option_map_or (λ (d : Date × Deposit). if histories.is_listed h visit.day visit.caller wanted d.1 then Some (record_of h n d) else None) o None else None) there
 
-        pub listed_exact : listed_record t role visit.day wanted (both h n found) ≡ Some (listing.shown_record h (visit_on visit.day visit.caller) wanted n)
+        pub listed_exact : listed_record t role visit.day wanted (both h n found) ≡ Some (shown_record h visit wanted n)
         listed_exact =
             told_by (is_asked wanted.collection found.1.collection && is_asked wanted.class found.1.class) (destruction_day h n) row_ranged.gone ∙ ap Some (sym shown)
 
       -- ---- whether it is among those that are due
 
       abbrev may : Bool
-      may = listing.may_destroy h (visit_on visit.day visit.caller) (place_row (both h n found))
+      may = may_destroy h visit (place_row (both h n found))
 
       pub place_exact : place_told t role visit.day (place_row (both h n found)) ≡ Some (if may then Some n else None)
       place_exact = (λ i. due_exact h legal ranged n found there i >>= λ due. allowed_exact acts.Dispose i >>= λ allowed. told_if allowed (Some n)) ∙ by may
@@ -241,17 +238,17 @@ module _ (h : History) (legal : IsLegal h) (ranged : AreInRange this_version (pi
   listed : (visit : Visit) (wanted : Wanted) → listed_records t visit wanted ≡ Some (histories.listed_records h visit.day visit.caller wanted)
   listed visit wanted =
       (λ i. role_exact h legal ranged visit.caller i >>= λ role. things_told (listed_record t role visit.day wanted) (rows_beside h i))
-      ∙ each_numbered (both h) (listed_record t (role_of (policy h) visit.caller) visit.day wanted) (listing.shown_record h (visit_on visit.day visit.caller) wanted) (deposits h) 1 at
+      ∙ each_numbered (both h) (listed_record t (role_of (policy h) visit.caller) visit.day wanted) (shown_record h visit wanted) (deposits h) 1 at
       ∙ ap Some (told_of_those (λ n. is_none (destruction_day h n)) (histories.listed_record h visit.day visit.caller wanted) (numbers (length (deposits h))))
     where
-      at : (i : ℕ) (x : Date × Deposit) → slice_get (deposits h) i ≡ Some x → listed_record t (role_of (policy h) visit.caller) visit.day wanted (both h (1 + i) x) ≡ Some (listing.shown_record h (visit_on visit.day visit.caller) wanted (1 + i))
+      at : (i : ℕ) (x : Date × Deposit) → slice_get (deposits h) i ≡ Some x → listed_record t (role_of (policy h) visit.caller) visit.day wanted (both h (1 + i) x) ≡ Some (shown_record h visit wanted (1 + i))
       at i x e = let one : suc i ≡ 1 + i = omega arith in listed_exact (1 + i) x (subst (λ k. deposit_numbered h k ≡ Some x) one e) visit wanted
 
   -- a row of which this is told, allowed or not
   record IsPlaceTold (visit : Visit) (pair : DepositRow × DueRow) : Type 0 where
     number : ℕ
     is : pair.0.number ≡ pos number
-    told : place_told t (role_of (policy h) visit.caller) visit.day (place_row pair) ≡ Some (if listing.may_destroy h (visit_on visit.day visit.caller) (place_row pair) then Some number else None)
+    told : place_told t (role_of (policy h) visit.caller) visit.day (place_row pair) ≡ Some (if may_destroy h visit (place_row pair) then Some number else None)
 
   module _ (visit : Visit) where
     abbrev tell : PlaceRow → Option (Option ℕ)
@@ -266,32 +263,32 @@ module _ (h : History) (legal : IsLegal h) (ranged : AreInRange this_version (pi
     record AreTold (places : List PlaceRow) : Type 0 where
       numbers : List ℕ
       told : things_told tell places ≡ Some numbers
-      are : map pos numbers ≡ map (λ (p : PlaceRow). p.number) (filter (listing.may_destroy h (visit_on visit.day visit.caller)) places)
+      are : map pos numbers ≡ map (λ (p : PlaceRow). p.number) (filter (may_destroy h visit) places)
 
     all_of : (p : DepositRow × DueRow → Bool) (pairs : List (DepositRow × DueRow)) → AllByRecursion (IsPlaceTold visit) pairs → AreTold (map place_row (filter p pairs))
     all_of p [] all = record { numbers = []; told = refl; are = refl }
     all_of p (x ∷ xs) all = by (p x) (all_of p xs all.1)
       where
-        with_it : (may : Bool) → listing.may_destroy h (visit_on visit.day visit.caller) (place_row x) ≡ may → AreTold (map place_row (filter p xs)) → AreTold (place_row x ∷ map place_row (filter p xs))
+        with_it : (may : Bool) → may_destroy h visit (place_row x) ≡ may → AreTold (map place_row (filter p xs)) → AreTold (place_row x ∷ map place_row (filter p xs))
         with_it true is rest = record {
           numbers = all.0.number ∷ rest.numbers;
           told = (λ i. (all.0.told ∙ ap (λ b. Some (if b then Some all.0.number else None)) is) i >>= λ one. rest.told i >>= λ others. Some (cons_option one others));
-          are = (λ i. sym all.0.is i ∷ rest.are i) ∙ ap (λ b. map (λ (p : PlaceRow). p.number) (if b then place_row x ∷ filter (listing.may_destroy h (visit_on visit.day visit.caller)) (map place_row (filter p xs)) else filter (listing.may_destroy h (visit_on visit.day visit.caller)) (map place_row (filter p xs)))) (sym is);
+          are = (λ i. sym all.0.is i ∷ rest.are i) ∙ ap (λ b. map (λ (p : PlaceRow). p.number) (if b then place_row x ∷ filter (may_destroy h visit) (map place_row (filter p xs)) else filter (may_destroy h visit) (map place_row (filter p xs)))) (sym is);
         }
         with_it false is rest = record {
           numbers = rest.numbers;
           told = (λ i. (all.0.told ∙ ap (λ b. Some (if b then Some all.0.number else None)) is) i >>= λ one. rest.told i >>= λ others. Some (cons_option one others));
-          are = rest.are ∙ ap (λ b. map (λ (p : PlaceRow). p.number) (if b then place_row x ∷ filter (listing.may_destroy h (visit_on visit.day visit.caller)) (map place_row (filter p xs)) else filter (listing.may_destroy h (visit_on visit.day visit.caller)) (map place_row (filter p xs)))) (sym is);
+          are = rest.are ∙ ap (λ b. map (λ (p : PlaceRow). p.number) (if b then place_row x ∷ filter (may_destroy h visit) (map place_row (filter p xs)) else filter (may_destroy h visit) (map place_row (filter p xs)))) (sym is);
         }
 
         by : (b : Bool) → AreTold (map place_row (filter p xs)) → AreTold (map place_row (if b then x ∷ filter p xs else filter p xs))
-        by true rest = with_it (listing.may_destroy h (visit_on visit.day visit.caller) (place_row x)) refl rest
+        by true rest = with_it (may_destroy h visit (place_row x)) refl rest
         by false rest = rest
 
     pub due_listed : due_list t visit ≡ Some (histories.due_list h visit.day visit.caller)
     due_listed =
         (λ i. role_exact h legal ranged visit.caller i >>= λ role. things_told (place_told t role visit.day) (due_places (epoch_day visit.day) t))
-        ∙ all.told ∙ ap Some (due_list_is h (visit_on visit.day visit.caller) t refl all.numbers all.are)
+        ∙ all.told ∙ ap Some (due_list_is h visit all.numbers all.are)
       where
         at : (i : ℕ) (x : Date × Deposit) → slice_get (deposits h) i ≡ Some x → IsPlaceTold visit (both h (1 + i) x)
         at i x e = let one : suc i ≡ 1 + i = omega arith in record { number = 1 + i; is = refl; told = place_exact (1 + i) x (subst (λ k. deposit_numbered h k ≡ Some x) one e) visit }

@@ -1,11 +1,9 @@
 -- The rows that a request leaves of a legal history, where nothing stands against it: the picture of the history after it.
-use Rattle.std.proofs.Common.{◌≡◌, ℕ, ◌+◌, ◌<◌, ◌≤◌, ℤ, pos, negsuc, neg_ℤ, ◌+ℤ◌, ◌&&◌, Bool, true, false, List, [], ◌∷◌, length, Option, Some, None, IsSome, is_some, map, filter, option_map, Result, refl, sym, ap, subst, ◌∙◌, arith, cond, if◌then◌else◌}
-use Rattle.std.specs.Prelude.{bytes_eq}
-use Rattle.std.specs.List.{AllByRecursion}
+use Rattle.std.proofs.Common.{◌≡◌, ℕ, ◌+◌, ◌≤◌, ℤ, pos, negsuc, neg_ℤ, ◌+ℤ◌, ◌&&◌, Bool, true, List, [], ◌∷◌, length, Option, Some, None, IsSome, is_some, map, filter, option_map, Result, refl, sym, ap, subst, ◌∙◌, arith, if◌then◌else◌}
+use Rattle.std.specs.List.{filter_map}
 use Rattle.std.specs.Option.{option_map_or}
 use Rattle.std.proofs.lemmas.Bool.Decides.{Decides-eqb}
-use Rattle.std.proofs.lemmas.Int.{ints}
-use Rattle.std.proofs.lemmas.List.{length-map}
+use Rattle.std.proofs.lemmas.List.{length-map, length_push}
 use Rattle.std.proofs.lemmas.List.FromFn.{length-range_with_len}
 use Rattle.std.proofs.lemmas.List.Sums.{count_by-le-length, length-filter}
 use Rattle.std.proofs.lemmas.Option.{same_Some}
@@ -14,7 +12,6 @@ use Rattle.jiff.specs.Words.{IsBetween, epoch_day}
 use Rattle.jiff_core.proofs.SignedLemmas.{signed_arith}
 use Rattle.bag_text.specs.TransferForm.{File}
 use Rattle.office_core.specs.Bounds.{max_years}
-use Rattle.office_core.specs.Days.{IsDayNumber}
 use Rattle.office_core.specs.FirstOf.{◌>>=◌}
 use Rattle.office_core.specs.Retention.{due_number}
 use Rattle.office_core.specs.RetentionReading.{due_of}
@@ -22,52 +19,43 @@ use Rattle.office_core.specs.declared.refusal.Refusal.{Refusal}
 use Rattle.office_core.specs.declared.request.Request.{Request}
 use Rattle.office_core.specs.declared.request.Request.TheVariants.{DefineClass, DefineCollection, Deposit as MakeDeposit, List as ListDeposits, Record, Holds, DownloadBag, DownloadFile, Audit, HoldDeposit, HoldCollection, HoldClass, Release, Dispose, DueList}
 use Rattle.office_core.specs.declared.retention.Due.TheVariants.{Never}
-use Rattle.office_core.proofs.DayLemmas.{day_number}
 use Rattle.office_rows.specs.Rows as rows
-use Rattle.office_rows.specs.Rows.{ClassRow, DueRow, HoldRow, Tables, class_named, is_class, is_of_class, with_class, with_due, with_hold, with_holds, with_released, this_version}
-use Rattle.office_rows.specs.Told.{class_closings, closing_of}
+use Rattle.office_rows.specs.Rows.{ClassRow, DueRow, HoldRow, Tables, class_named, is_class, is_of_class, is_within, with_class, with_hold, with_holds, with_released, this_version}
+use Rattle.office_rows.specs.Told.{closing_of}
 use Rattle.office_history.specs.Acceptance.{IsPlaceable, IsReleasable, IsThere}
 use Rattle.office_history.specs.Answers as histories
 use Rattle.office_history.specs.Answers.{allowed_change, changes_unless, deposit_change}
 use Rattle.office_history.specs.Bags.{bag_of}
-use Rattle.office_history.specs.Histories.{History, Deposit, Hold, Target, OnDeposit, OnCollection, OnClass, DefinedClass, Deposited, PlacedHold, ReleasedHold, covers, deposit_numbered, deposits, due, has_class, holds, is_live, live_holds, reaches, with_changes, years_of}
-use Rattle.office_history.specs.Lists.{numbers}
+use Rattle.office_history.specs.Histories.{History, Change, Deposit, Hold, Target, OnDeposit, OnCollection, OnClass, DefinedClass, Deposited, PlacedHold, ReleasedHold, covers, deposit_in, deposit_numbered, deposits, has_class, holds, is_live, live_holds, with_changes, years_in, years_of}
+use Rattle.office_history.specs.Lists.{last_said, numbers}
 use Rattle.office_history.specs.Pictures.{due_rows, hold_row, picture, years_back, years_number}
 use Rattle.office_history.specs.Refusals as refusing
 use Rattle.office_history.specs.RowRanges.{AreInRange, IsClassRow}
 use Rattle.office_history.specs.Runs.{IsLegal}
 use Rattle.office_history.proofs.Accepted.{allowed_of, depositable, disposable, grown_by_none, releasable}
+use Rattle.office_history.proofs.HistoryLemmas.{holds_grown}
 use Rattle.office_history.proofs.LegalReadings.{none_gone}
 use Rattle.office_history.proofs.ListLemmas.{all_numbered}
-use Rattle.office_history.proofs.RangeLemmas.{HasTarget, IsDeposited, limits_hold, placed_holds, ranged_deposits}
+use Rattle.office_history.proofs.RangeLemmas.{HasTarget, limits_hold, placed_holds, ranged_deposits}
 use Rattle.office_by_rows.specs.Values.{is_between, years_of_number}
 use Rattle.office_by_rows.specs.Asking.{Visit, target_of}
 use Rattle.office_by_rows.specs.Changes.{allowed_rows, count_in, counted_on, counted_over, due_in, if_bag, kept_as, new_deposit, new_hold, placed, released, with_due_days, with_files, with_kept, with_years}
-use Rattle.office_by_rows.proofs.Days.{day_back}
-use Rattle.office_asking.proofs.DepositTold.{deposit_rows_are}
-use Rattle.office_asking.proofs.DueTold.{years_of_row}
-use Rattle.office_asking.proofs.DuesGrown.{count_less, dues_of_class, dues_on, dues_within}
-use Rattle.office_asking.proofs.DuesPlaced.{dues_placed, dues_placed_of_class}
-use Rattle.office_asking.proofs.HoldTold.{live_told}
-use Rattle.office_asking.proofs.NumberedRows.{none_next}
-use Rattle.office_defining.specs.Revising as revising
-use Rattle.office_defining.specs.Revising.{closing_row}
-use Rattle.office_defining.proofs.ClassTold.{class_told}
-use Rattle.office_defining.proofs.CollectionTold.{collection_told}
-use Rattle.office_defining.proofs.DueDays.{closed_from, told_from}
-use Rattle.office_holding.proofs.DuesPlacedOn.{dues_placed_on}
-use Rattle.office_holding.proofs.PlacedTold as placing
-use Rattle.office_holding.proofs.PlacedTold.{not_yet}
-use Rattle.office_holding.proofs.ReleasedTold as releasing
-use Rattle.office_holding.proofs.ReleasedTold.{released_then}
-use Rattle.office_keeping.specs.Depositing as keeping
-use Rattle.office_keeping.proofs.DepositedTold.{deposited_told}
-use Rattle.office_keeping.proofs.GoneTold.{gone_told}
 use Rattle.office_refines.specs.Refining.{refusal_before}
 use Rattle.office_refines.proofs.Answers.{next_deposit, next_hold}
-use Rattle.office_asking.proofs.ComesTo.{between}
+use Rattle.office_refines.proofs.ClassesTold.{class_told, years_of_row}
+use Rattle.office_refines.proofs.CollectionsTold.{collection_told}
+use Rattle.office_by_rows.proofs.ComesTo.{between}
+use Rattle.office_refines.proofs.DepositedTold.{deposited_told}
+use Rattle.office_refines.proofs.DepositsTold.{deposit_rows_are}
+use Rattle.office_refines.proofs.DuesGrown.{IsCounted, counted_if, counted_released, dues_of_those, dues_on}
+use Rattle.office_refines.proofs.DuesPlaced.{counted_placed}
+use Rattle.office_refines.proofs.DuesRevised.{days_set}
+use Rattle.office_refines.proofs.GoneTold.{gone_told}
+use Rattle.office_refines.proofs.HoldsTold.{live_told, not_yet, placed_told, released_told}
+use Rattle.office_refines.proofs.NumberedRows.{bytes_eq-sym, eqb-sym, none_next, same_number}
 use Rattle.office_refines.proofs.Readings.{found_all, hold_at, kept_there, released_days}
 use Rattle.office_refines.proofs.Refusals.{target_exact}
+use Rattle.office_refines.proofs.Unchanged.{same_holds}
 
 -- ---- numbers in their range
 
@@ -77,44 +65,11 @@ few_pass p xs = subst (λ count. count ≤ length xs) (sym (length-filter p xs))
 within : (count most : ℕ) → count ≤ most → is_between (pos 0) (pos most) (pos count) ≡ true
 within count most few = between (pos 0) (pos most) (pos count) (omega (arith, signed_arith)) (omega (arith, signed_arith, few))
 
-one_more_within : (count most : ℕ) → count < most → is_between (pos 0) (pos most) (pos count +ℤ pos 1) ≡ true
-one_more_within count most few =
-    let sum : pos count +ℤ pos 1 ≡ pos (count + 1) = omega (arith, ints) in
-    ap (is_between (pos 0) (pos most)) sum ∙ within (count + 1) most (omega (arith, few))
-
-one_fewer_within : (count fewer most : ℕ) → count ≡ fewer + 1 → count ≤ most → is_between (pos 0) (pos most) (pos count +ℤ negsuc 0) ≡ true
-one_fewer_within count fewer most is few =
-    let rest : pos count +ℤ negsuc 0 ≡ pos fewer = omega (arith, ints, is) in
-    ap (is_between (pos 0) (pos most)) rest ∙ within fewer most (omega (arith, is, few))
+few_live : (h : History) (n : ℕ) (d : Deposit) → length (live_holds h n d) ≤ length (holds h)
+few_live h n d = subst (λ count. length (live_holds h n d) ≤ count) (length-range_with_len 1 (length (holds h))) (few_pass (λ k. is_live h k && covers h k n d) (numbers (length (holds h))))
 
 years_are : (number : ℤ) → IsBetween (neg_ℤ (pos 1)) (pos max_years) number → years_of_number number ≡ Some (years_back number)
 years_are number ranged = ap (λ b. if b then Some (years_back number) else None) (between (neg_ℤ (pos 1)) (pos max_years) number ranged.0 ranged.1)
-
--- ---- the due days of a class
-
-abbrev IsClosedOnDay : ℤ × Date → Type 0
-IsClosedOnDay d = IsDayNumber (epoch_day d.1)
-
-closed_on_days : (name : List ℕ) (start : ℕ) (xs : List (Date × Deposit)) → AllByRecursion IsDeposited xs → AllByRecursion IsClosedOnDay (closed_from name start xs)
-closed_on_days name start [] all = tt
-closed_on_days name start (x ∷ xs) all = by (bytes_eq x.1.class name) (closed_on_days name (start + 1) xs all.1)
-  where
-    by : (b : Bool) → AllByRecursion IsClosedOnDay (closed_from name (start + 1) xs) → AllByRecursion IsClosedOnDay (cond b ((pos start, x.1.closed) ∷ closed_from name (start + 1) xs) (closed_from name (start + 1) xs))
-    by true rest = (day_number x.1.closed all.0.1.closed, rest)
-    by false rest = rest
-
--- each closing day is read, and the due day set
-days_set : (years : Option ℕ) (ds : List (ℤ × Date)) (s : Tables) → AllByRecursion IsClosedOnDay ds → with_due_days years (map closing_row ds) s ≡ Some (revising.with_due_days years ds s)
-days_set years [] s all = refl
-days_set years (d ∷ ds) s all =
-    (λ i. day_back (epoch_day d.1) d.1 refl all.0 i >>= λ closed. with_due_days years (map closing_row ds) (with_due d.0 (due_number (due_of closed years)) s))
-    ∙ days_set years ds (with_due d.0 (due_number (due_of d.1 years)) s) all.1
-
--- ---- the files of a deposit
-
-same_files : (n : ℤ) (files : List File) (s : Tables) → with_files n files s ≡ keeping.with_files n files s
-same_files n [] s = refl
-same_files n (f ∷ files) s = same_files n files (rows.with_file (record { deposit = n; path = f.path; content = f.content }) s)
 
 module _ (h : History) (legal : IsLegal h) (ranged : AreInRange this_version (picture this_version h)) where
   abbrev t : Tables
@@ -124,12 +79,9 @@ module _ (h : History) (legal : IsLegal h) (ranged : AreInRange this_version (pi
 
   pub class_exact : (day : Date) (name : List ℕ) (years : Option ℕ) → with_years name years t ≡ Some (picture this_version (with_changes h (DefinedClass day name years ∷ [])))
   class_exact day name years =
-      ap (λ closings. with_due_days years closings (with_class name (years_number years) t)) closings_are
-      ∙ days_set years (closed_from name 1 (deposits h)) (with_class name (years_number years) t) (closed_on_days name 1 (deposits h) (ranged_deposits h legal))
+      ap (λ ds. with_due_days years (map closing_of (filter (is_of_class name) ds)) (with_class name (years_number years) t)) (deposit_rows_are h)
+      ∙ days_set name years h (deposits h) 1 (with_class name (years_number years) t) (ranged_deposits h legal)
       ∙ ap Some (class_told h day name years)
-    where
-      closings_are : class_closings name t ≡ map closing_row (closed_from name 1 (deposits h))
-      closings_are = ap (λ ds. map closing_of (filter (is_of_class name) ds)) (deposit_rows_are h) ∙ sym (told_from h name epoch_day (deposits h) 1)
 
   -- ---- a deposit
 
@@ -160,16 +112,12 @@ module _ (h : History) (legal : IsLegal h) (ranged : AreInRange this_version (pi
       let one : length (deposits h) + 1 ≡ next = omega arith in
       ap (λ n. kept_as n (new_deposit n d.collection d.class d.accession d.closed day d.bag) d.closed d.bag t) one
       ∙ (λ i. due_exact d.class d.closed there i >>= λ due. count_exact next d i >>= λ count. Some (with_files (pos next) d.bag (with_kept (new_deposit next d.collection d.class d.accession d.closed day d.bag) (due_number due) (pos count) t)))
-      ∙ ap Some (same_files (pos next) d.bag (with_kept (new_deposit next d.collection d.class d.accession d.closed day d.bag) (due_number (due h d)) (pos (length (live_holds h next d))) t))
       ∙ ap Some (deposited_told h day d (none_gone h legal next (none_next (deposits h))))
 
   -- ---- the count of live holds over a deposit
 
-  few_live : (n : ℕ) (d : Deposit) → length (live_holds h n d) ≤ length (holds h)
-  few_live n d = subst (λ count. length (live_holds h n d) ≤ count) (length-range_with_len 1 (length (holds h))) (few_pass (λ k. is_live h k && covers h k n d) (numbers (length (holds h))))
-
   enough : (n : ℕ) (d : Deposit) → length (live_holds h n d) ≤ h.max_holds
-  enough n d = omega (arith, few_live n d, (limits_hold h legal).holds_in)
+  enough n d = omega (arith, few_live h n d, (limits_hold h legal).holds_in)
 
   -- whichever rows of holds were written before
   counted_exact : (hs : List HoldRow) (by : ℤ) (n : ℕ) (found : Date × Deposit) → deposit_numbered h n ≡ Some found → is_between (pos 0) (pos h.max_holds) (pos (length (live_holds h n found.1)) +ℤ by) ≡ true
@@ -179,31 +127,34 @@ module _ (h : History) (legal : IsLegal h) (ranged : AreInRange this_version (pi
       (λ i. kept_there h legal ranged n found there i >>= λ (kept : DueRow). (if is_between (pos 0) (pos h.max_holds) kept.holds && is_between (pos 0) (pos h.max_holds) (kept.holds +ℤ by) then Some (with_holds (pos n) (kept.holds +ℤ by) (record t { holds = hs })) else None))
       ∙ (λ i. if now i && fits i then Some (with_holds (pos n) (pos (length (live_holds h n found.1)) +ℤ by) (record t { holds = hs })) else None)
 
+  -- a change of holds, of which one more or one less counts over each deposit that is reached
+  module _ (more : List Change) (none : filter_map deposit_in more ≡ []) (silent : (name : List ℕ) → last_said (years_in name) more ≡ None) (by : ℤ) (hs : List HoldRow)
+      (told : (dues : List DueRow) → dues ≡ due_rows (with_changes h more) → record t { holds = hs; dues = dues } ≡ picture this_version (with_changes h more)) (room : length (holds (with_changes h more)) ≤ h.max_holds) where
+    over_exact : (target : Target) → IsCounted h more by target → IsThere h target → counted_over target by (record t { holds = hs }) ≡ Some (picture this_version (with_changes h more))
+    over_exact (OnDeposit n) counted there = over (deposit_numbered h n) refl there
+      where
+        over : (o : Option (Date × Deposit)) → deposit_numbered h n ≡ o → IsSome o → counted_on n by (record t { holds = hs }) ≡ Some (picture this_version (with_changes h more))
+        over None at there = absurd cc
+        over (Some found) at there =
+            let counted_then : pos (length (live_holds h n found.1)) +ℤ by ≡ pos (length (live_holds (with_changes h more) n found.1)) =
+            ap (λ b. counted_if b by (length (live_holds h n found.1))) (sym ((Decides-eqb n n).1 refl)) ∙ counted n found.1 in
+            counted_exact hs by n found at (ap (is_between (pos 0) (pos h.max_holds)) counted_then ∙ within (length (live_holds (with_changes h more) n found.1)) h.max_holds (omega (arith, few_live (with_changes h more) n found.1, room)))
+            ∙ ap Some (told _ (dues_on h more none silent by (OnDeposit n) counted n found at (λ m d. eqb-sym n m ∙ sym (same_number m n))))
+    over_exact (OnCollection name) counted there = ap Some (told _ (dues_of_those h more none silent by (OnCollection name) counted (is_within name) (λ m x. bytes_eq-sym name x.1.collection)))
+    over_exact (OnClass name) counted there = ap Some (told _ (dues_of_those h more none silent by (OnClass name) counted (is_of_class name) (λ m x. bytes_eq-sym name x.1.class)))
+
   -- ---- a hold is placed
 
   module _ (day : Date) (hold : Hold) (allowed : IsPlaceable h hold) where
     abbrev with_it : Tables
     with_it = with_hold (new_hold (1 + length (holds h)) hold.target hold.matter day) t
 
-    told : (dues : List DueRow) → dues ≡ due_rows (with_changes h (PlacedHold day hold ∷ [])) → record with_it { dues = dues } ≡ picture this_version (with_changes h (PlacedHold day hold ∷ []))
-    told = placing.told_with h day hold (not_yet h legal)
-
-    counted_with : (target : Target) → hold.target ≡ target → IsThere h target → counted_over target (pos 1) with_it ≡ Some (picture this_version (with_changes h (PlacedHold day hold ∷ [])))
-    counted_with (OnDeposit n) is there = by (deposit_numbered h n) refl there
-      where
-        by : (o : Option (Date × Deposit)) → deposit_numbered h n ≡ o → IsSome o → counted_on n (pos 1) with_it ≡ Some (picture this_version (with_changes h (PlacedHold day hold ∷ [])))
-        by None at there = absurd cc
-        by (Some found) at there =
-            counted_exact with_it.holds (pos 1) n found at (one_more_within (length (live_holds h n found.1)) h.max_holds (omega (arith, few_live n found.1, allowed.room)))
-            ∙ ap Some (told _ (dues_placed_on h day hold (not_yet h legal) n is found at))
-    counted_with (OnCollection name) is there = ap Some (told _ (dues_placed h day hold (not_yet h legal) name is))
-    counted_with (OnClass name) is there = ap Some (told _ (dues_placed_of_class h day hold (not_yet h legal) name is))
-
     pub placed_exact : placed day hold.target hold.matter t ≡ Some (picture this_version (with_changes h (PlacedHold day hold ∷ [])))
     placed_exact =
         let one : length (holds h) + 1 ≡ 1 + length (holds h) = omega arith in
         (λ i. (next_hold h legal ranged ∙ ap Some one) i >>= λ k. counted_over hold.target (pos 1) (with_hold (new_hold k hold.target hold.matter day) t))
-        ∙ counted_with hold.target refl allowed.there
+        ∙ over_exact (PlacedHold day hold ∷ []) refl (λ name. refl) (pos 1) with_it.holds (placed_told h day hold (not_yet h legal)) (omega (arith, allowed.room, ap length (holds_grown h (PlacedHold day hold ∷ [])), length_push (holds h) (day, hold)))
+        hold.target (counted_placed h day hold (not_yet h legal)) allowed.there
 
   -- ---- a hold is released
 
@@ -214,31 +165,12 @@ module _ (h : History) (legal : IsLegal h) (ranged : AreInRange this_version (pi
     abbrev without_it : Tables
     without_it = with_released (pos k) (epoch_day day) t
 
-    told_without : (dues : List DueRow) → dues ≡ due_rows longer → record without_it { dues = dues } ≡ picture this_version longer
-    told_without = releasing.told_with h day k it.live
-
-    -- it counted over the deposit that it names
-    one_fewer : (n : ℕ) (d : Deposit) → it.found.1.target ≡ OnDeposit n → length (live_holds h n d) ≡ length (live_holds longer n d) + 1
-    one_fewer n d is =
-        count_less h day k it.found it.there it.live (released_then h day k it.live) n d
-        ∙ ap (λ b. length (live_holds longer n d) + (if b then 1 else 0)) (ap (λ target. reaches target n d) is ∙ (Decides-eqb n n).1 refl)
-
-    counted_without : (target : Target) → it.found.1.target ≡ target → IsThere h target → counted_over target (negsuc 0) without_it ≡ Some (picture this_version longer)
-    counted_without (OnDeposit n) is there = by (deposit_numbered h n) refl there
-      where
-        by : (o : Option (Date × Deposit)) → deposit_numbered h n ≡ o → IsSome o → counted_on n (negsuc 0) without_it ≡ Some (picture this_version longer)
-        by None at there = absurd cc
-        by (Some found) at there =
-            counted_exact without_it.holds (negsuc 0) n found at (one_fewer_within (length (live_holds h n found.1)) (length (live_holds longer n found.1)) h.max_holds (one_fewer n found.1 is) (enough n found.1))
-            ∙ ap Some (told_without _ (dues_on h day k it.found it.there it.live (released_then h day k it.live) n is found at))
-    counted_without (OnCollection name) is there = ap Some (told_without _ (dues_within h day k it.found it.there it.live (released_then h day k it.live) name is))
-    counted_without (OnClass name) is there = ap Some (told_without _ (dues_of_class h day k it.found it.there it.live (released_then h day k it.live) name is))
-
     pub released_exact : released day k t ≡ Some (picture this_version longer)
     released_exact =
         (λ i. (hold_at h legal ranged k ∙ ap (option_map (hold_row h k)) it.there) i >>= λ (row : HoldRow). target_of row >>= λ target. counted_over target (negsuc 0) without_it)
         ∙ (λ i. target_exact h legal ranged k it.found i >>= λ target. counted_over target (negsuc 0) without_it)
-        ∙ counted_without it.found.1.target refl (all_numbered (HasTarget h) (holds h) k it.found (placed_holds h legal) it.there)
+        ∙ over_exact (ReleasedHold day k ∷ []) refl (λ name. refl) (negsuc 0) without_it.holds (released_told h day k it.live) (omega (arith, (limits_hold h legal).holds_in, ap length (same_holds h (ReleasedHold day k ∷ []) refl)))
+        it.found.1.target (counted_released h day k it.found it.there it.live) (all_numbered (HasTarget h) (holds h) k it.found (placed_holds h legal) it.there)
 
   -- ---- any request
 

@@ -9,19 +9,17 @@ use Rattle.jiff.specs.Types.{Date}
 use Rattle.jiff.specs.Words.{epoch_day}
 use Rattle.office_core.specs.Actions.{action_text}
 use Rattle.jiff_core.proofs.SignedLemmas.{signed_arith}
-use Rattle.office_core.specs.Days.{IsDayNumber}
-use Rattle.office_core.specs.FirstOf.{◌>>=◌}
+use Rattle.office_core.specs.FirstOf.{◌>>=◌, answer_if}
 use Rattle.office_core.specs.Names.{IsName}
 use Rattle.office_core.specs.Policies.{role_of}
 use Rattle.office_core.specs.Verdicts.{denial_verdict}
 use Rattle.office_core.specs.declared.action.Action.{Action}
 use Rattle.office_core.specs.declared.action.Action.TheVariants as acts
-use Rattle.office_core.specs.declared.answer.LiveHold.{LiveHold}
 use Rattle.office_core.specs.declared.rule.Decision.{Decision}
 use Rattle.office_core.proofs.OptionLemmas.{find_some}
 use Rattle.office_rows.specs.Matching.{matching_rule}
 use Rattle.office_rows.specs.Rows as rows
-use Rattle.office_rows.specs.Rows.{CallerRow, HoldRow, OfficeRow, RuleRow, Tables, caller_named, due_numbered, is_caller, this_version}
+use Rattle.office_rows.specs.Rows.{CallerRow, OfficeRow, RuleRow, Tables, caller_named, due_numbered, is_caller, this_version}
 use Rattle.office_history.specs.Histories.{History, Deposit, Hold, Target, OnDeposit, OnCollection, OnClass, covers, deposit_numbered, destruction_day, due, hold_numbered, holds, is_live, least_hold, live_holds, policy, reaches}
 use Rattle.office_history.specs.Lists.{numbers}
 use Rattle.office_history.specs.Answers.{live_hold, scope_of}
@@ -31,19 +29,17 @@ use Rattle.office_history.specs.RowRanges.{AreInRange, AreNumbered, IsCallerRow,
 use Rattle.office_history.specs.Runs.{IsLegal}
 use Rattle.office_history.proofs.LegalReadings.{legal_policy}
 use Rattle.office_by_rows.specs.Values.{due_of_number, if_any}
-use Rattle.office_by_rows.specs.Asking.{Days, Visit, are_released_on_days, counted_hold_in, days_of, decision_by, decision_for, denial_in, hold_by, is_over, or_empty, role_in}
+use Rattle.office_by_rows.specs.Asking.{Days, Visit, are_released_on_days, counted_hold_in, days_of, decision_by, decision_for, denial_in, hold_by, or_empty, role_in, scope_of as scope_in}
 use Rattle.office_by_rows.specs.Refusals.{disposal_facts}
-use Rattle.office_by_rows.proofs.Days.{due_back}
-use Rattle.office_asking.specs.ByRows.{IsHoldIn}
-use Rattle.office_asking.specs.Holds.{IsHoldOf, scope_in}
-use Rattle.office_asking.specs.Asking.{place_and_effect, rule_and_effect}
-use Rattle.office_asking.proofs.ComesTo.{counted_is, days_told, decision_is, facts_told, hold_told, least_is, on_days, role_is}
-use Rattle.office_asking.proofs.DepositTold.{deposit_told}
-use Rattle.office_asking.proofs.DuesTold.{due_told}
-use Rattle.office_asking.proofs.HoldTold.{hold_rows_are, live_told}
-use Rattle.office_asking.proofs.MatchTold.{rule_told}
-use Rattle.office_asking.proofs.NumberedRows.{found_at, same_count}
-use Rattle.office_asking.proofs.PolicyTold.{role_told}
+use Rattle.office_by_rows.proofs.Days.{day_back, days_back, due_back}
+use Rattle.office_by_rows.proofs.ComesTo.{between, counted_read, days_read, decision_is, facts_told, least_read}
+use Rattle.office_refines.proofs.ComesTo.{effect_is, on_days, role_is, rule_is}
+use Rattle.office_refines.proofs.DepositsTold.{deposit_told, due_told}
+use Rattle.office_refines.proofs.HoldsTold.{hold_rows_are, live_told}
+use Rattle.office_refines.proofs.NumberedRows.{found_at, same_count}
+use Rattle.office_refines.proofs.PolicyTold.{role_told}
+use Rattle.office_refines.specs.Refining.{place_and_effect, rule_and_effect}
+use Rattle.office_refines.proofs.RulesTold.{rule_told}
 
 -- what is so of all is so of what is found
 pub found_all : {A : Type 0} (P : A → Type 0) (p : A → Bool) (xs : List A) (x : A) → AllByRecursion P xs → find p xs ≡ Some x → P x
@@ -99,7 +95,8 @@ module _ (h : History) (legal : IsLegal h) (ranged : AreInRange this_version (pi
           let place = numbered_at (λ (row : RuleRow). row.place) _ 1 t.rules row ranged.places is in
           let at : d.rule ≡ place.0 = same_count d.rule place.0 (sym (ap (λ p. p.0) both) ∙ place.1) in
           let in_range : IsRuleRow row = found_all IsRuleRow _ t.rules row ranged.rules is in
-          ap (option_map Some) (decision_is row d (record { rule = sym (ap (λ p. p.0) both); from_one = omega (arith, at, place.2); among_few = omega (arith, at, place.3, ranged.few_rules); effect = sym (ap (λ p. p.1) both); in_range = in_range }))
+          let rule = rule_is row d.rule (sym (ap (λ p. p.0) both)) (omega (arith, at, place.2)) (omega (arith, at, place.3, ranged.few_rules)) in_range in
+          ap (option_map Some) (decision_is row d rule (sym (ap (λ p. p.0) both)) (effect_is row.effect d.effect (sym (ap (λ p. p.1) both))))
 
   pub denial_exact : (visit : Visit) (action : Action) (collection class : Option (List ℕ)) → denial_in t visit action collection class ≡ Some (denial h visit.day visit.caller action collection class)
   denial_exact visit action collection class =
@@ -114,24 +111,18 @@ module _ (h : History) (legal : IsLegal h) (ranged : AreInRange this_version (pi
   pub hold_ranged : (k : ℕ) (found : Date × Hold) → hold_numbered h k ≡ Some found → IsHoldRow t (hold_row h k found)
   hold_ranged k found there = found_all (IsHoldRow t) (rows.is_hold (pos k)) t.holds (hold_row h k found) ranged.holds (hold_at k ∙ ap (option_map (hold_row h k)) there)
 
-  scope_is : (target : Target) → Some (scope_of target) ≡ scope_in (held_deposit target) (held_collection target) (held_class target)
+  scope_is : (target : Target) → scope_in (held_deposit target) (held_collection target) (held_class target) ≡ Some (scope_of target)
   scope_is (OnDeposit m) = refl
   scope_is (OnCollection name) = refl
   scope_is (OnClass name) = refl
 
-  hold_is : (k : ℕ) (found : Date × Hold) → hold_numbered h k ≡ Some found → IsHoldOf (hold_row h k found) (live_hold k found)
-  hold_is k found there = let it = hold_ranged k found there in record { number = refl; matter = refl; on = scope_is found.1.target; placed = refl; is_day = it.placed; is_matter = it.matter }
-
   pub hold_told_exact : (k : ℕ) (found : Date × Hold) → hold_numbered h k ≡ Some found → hold_by (hold_row h k found) ≡ Some (live_hold k found)
-  hold_told_exact k found there = hold_told (hold_row h k found) (live_hold k found) (hold_is k found there)
-
-  -- each hold was released on a day or not at all, whichever deposit it is over
-  each_released : (n : ℕ) (collection class : List ℕ) (hs : List HoldRow) → AllByRecursion (IsHoldRow t) hs → AllByRecursion (λ (r : HoldRow). is_over n collection class r ≡ true → IfSome r.released IsDayNumber) hs
-  each_released n collection class [] all = tt
-  each_released n collection class (r ∷ hs) all = (λ _. all.0.released, each_released n collection class hs all.1)
+  hold_told_exact k found there =
+      let it = hold_ranged k found there in
+      λ i. scope_is found.1.target i >>= λ on. day_back (epoch_day found.0) found.0 refl it.placed i >>= λ placed. answer_if (it.matter i) (record { number = k; matter = found.1.matter; on = on; placed = placed })
 
   pub released_days : (n : ℕ) (collection class : List ℕ) → are_released_on_days n collection class t ≡ true
-  released_days n collection class = on_days n collection class t.holds (each_released n collection class t.holds ranged.holds)
+  released_days n collection class = on_days t n collection class t.holds ranged.holds
 
   -- ---- a deposit that is there
 
@@ -149,7 +140,7 @@ module _ (h : History) (legal : IsLegal h) (ranged : AreInRange this_version (pi
     pub days_exact : days_of (deposit_row h n found) ≡ Some days
     days_exact =
         let it = found_all (IsDepositRow t) (rows.is_deposit (pos n)) t.deposits (deposit_row h n found) ranged.deposits row_there in
-        days_told (deposit_row h n found) (record { closed = found.1.closed; deposited = found.0; gone = destruction_day h n }) (record { closed = refl; deposited = refl; in_turn = it.in_turn; gone = refl; are_days = (it.closed, it.deposited, it.gone) })
+        days_read (deposit_row h n found) days it.in_turn (day_back (epoch_day days.closed) days.closed refl it.closed) (day_back (epoch_day days.deposited) days.deposited refl it.deposited) (days_back (option_map epoch_day days.gone) days.gone refl it.gone)
 
     pub kept_there : due_numbered (pos n) t.dues ≡ Some (due_row h n found)
     kept_there = due_told h n ∙ ap (option_map (due_row h n)) there
@@ -160,14 +151,13 @@ module _ (h : History) (legal : IsLegal h) (ranged : AreInRange this_version (pi
     pub due_exact : due_of_number (due_number (due h found.1)) ≡ Some (due h found.1)
     due_exact = due_back (due_number (due h found.1)) (due h found.1) refl kept_ranged.due
 
-    -- a live hold over it has a row, which tells it
-    hold_there : (k : ℕ) → covers h k n found.1 ≡ true → (told : LiveHold) × IsHoldIn t k told
+    -- a live hold over it is there
+    hold_there : (k : ℕ) → covers h k n found.1 ≡ true → (hold : Date × Hold) × (hold_numbered h k ≡ Some hold)
     hold_there k over = by (hold_numbered h k) refl over
       where
-        by : (o : Option (Date × Hold)) → hold_numbered h k ≡ o → option_map_or (λ hold. reaches hold.1.target n found.1) o false ≡ true → (told : LiveHold) × IsHoldIn t k told
+        by : (o : Option (Date × Hold)) → hold_numbered h k ≡ o → option_map_or (λ hold. reaches hold.1.target n found.1) o false ≡ true → (hold : Date × Hold) × (hold_numbered h k ≡ Some hold)
         by None is e = absurd cc
-        by (Some hold) is e =
-            (live_hold k hold, record { row = hold_row h k hold; there = hold_at k ∙ ap (option_map (hold_row h k)) is; is = hold_is k hold is })
+        by (Some hold) is e = (hold, is)
 
     pub hold_exact : counted_hold_in t (pos (length (live_holds h n found.1))) n found.1.collection found.1.class ≡ Some (least_hold h n found.1)
     hold_exact = by (live_holds h n found.1) refl
@@ -176,11 +166,11 @@ module _ (h : History) (legal : IsLegal h) (ranged : AreInRange this_version (pi
         by [] is = refl
         by (k ∷ ks) is =
             let over = (and_parts (is_live h k) (covers h k n found.1) (first_kept (λ m. is_live h m && covers h m n found.1) (numbers (length (holds h))) k ks is)).1 in
-            let told = hold_there k over in
+            let it = hold_there k over in
             let most : pos (length (k ∷ ks)) ≤ℤ pos h.max_holds = subst (λ m. pos (length (k ∷ ks)) ≤ℤ m) (sym (ap first_limit ranged.one_office)) (subst (λ xs. pos (length xs) ≤ℤ ranged.office_row.max_holds) is kept_ranged.holds.1) in
-            counted_is n found.1.collection found.1.class t (pos (length (k ∷ ks))) k
-            (record { limits = record { max_deposits = pos h.max_deposits; max_holds = pos h.max_holds }; are = refl; is = (omega (arith, signed_arith), most) })
-            (least_is n found.1.collection found.1.class t k (map pos ks) told.0 (each_released n found.1.collection found.1.class t.holds ranged.holds) (live_told h n found.1 this_version ∙ ap (map pos) is) told.1)
+            counted_read n found.1.collection found.1.class t (pos (length (k ∷ ks))) k (λ none. omega (arith, signed_arith, none)) (ap Some (between (pos 1) (pos h.max_holds) (pos (length (k ∷ ks))) (omega (arith, signed_arith)) most))
+            (least_read n found.1.collection found.1.class t k (map pos ks) (live_hold k it.0) (released_days n found.1.collection found.1.class) (live_told h n found.1 this_version ∙ ap (map pos) is)
+            ((λ i. (hold_at k ∙ ap (option_map (hold_row h k)) it.1) i >>= λ row. hold_by row) ∙ hold_told_exact k it.0 it.1))
 
     pub facts_exact : (visit : Visit) → disposal_facts t (role_of (policy h) visit.caller) visit.day n (deposit_row h n found) ≡ Some (facts_of h visit.day visit.caller acts.Dispose n found.1)
     facts_exact visit =

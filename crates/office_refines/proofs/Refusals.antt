@@ -27,14 +27,13 @@ use Rattle.office_by_rows.specs.Values.{count_of, day_numbered, if_any}
 use Rattle.office_by_rows.specs.Asking.{Visit, denial_in, target_named, target_of}
 use Rattle.office_by_rows.proofs.Days.{days_back}
 use Rattle.office_by_rows.specs.Refusals.{bag_refusals, disposal_facts, disposal_refusal, first_told, full_after, full_of_deposits, full_of_holds, gone_refusal, highest_deposit, highest_hold, hold_refusals, kept_refusals, no_such_class, no_such_collection, number_after, of_deposit, of_hold, place_refusals, refusal, refusals, release_denial, release_denial_at, release_denial_on, released_refusal, taken_refusal}
-use Rattle.office_asking.proofs.CollectionTold.{collection_there}
-use Rattle.office_asking.proofs.DepositTold.{deposit_rows_are, deposit_told}
-use Rattle.office_asking.proofs.DueTold.{years_of_row}
-use Rattle.office_asking.proofs.HoldTold.{hold_rows_are}
-use Rattle.office_asking.proofs.NumberedRows.{is_nil, last_is}
-use Rattle.office_keeping.proofs.AccessionTold.{accession_told}
 use Rattle.office_history.proofs.ListLemmas.{all_numbered}
 use Rattle.office_refines.specs.Refining.{refusal_before}
+use Rattle.office_refines.proofs.ClassesTold.{years_of_row}
+use Rattle.office_refines.proofs.CollectionsTold.{collection_there}
+use Rattle.office_refines.proofs.DepositsTold.{accession_told, deposit_rows_are, deposit_told}
+use Rattle.office_refines.proofs.HoldsTold.{hold_rows_are}
+use Rattle.office_refines.proofs.NumberedRows.{is_nil, last_is}
 use Rattle.office_refines.proofs.Readings.{days_exact, denial_exact, facts_exact, hold_at, hold_ranged, hold_told_exact, role_exact}
 
 -- ---- the first that stands

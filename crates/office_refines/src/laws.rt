@@ -1,20 +1,24 @@
 //! Laws: what the rows of a legal history come to is what the history says.
 
-ghost use Rattle.std.specs.Prelude.{◌≡◌, List, [], ◌∷◌, None, Some, is_some, true};
-ghost use Rattle.office_core.specs.Policies.{PolicyValue};
+ghost use Rattle.std.specs.Prelude.{◌≡◌, [], ◌∷◌, None, Some, is_some, option_map, true};
+ghost use Rattle.jiff.specs.Words.{epoch_day};
+ghost use Rattle.office_core.specs.Actions.{action_text};
+ghost use Rattle.office_core.specs.Policies.{IsPolicy, PolicyValue};
+ghost use Rattle.office_core.specs.Rules.{Question, decision_of};
 ghost use Rattle.office_core.specs.declared.request.Request.{Request};
+ghost use Rattle.office_rows.specs.Matching.{matching_rule};
 ghost use Rattle.office_rows.specs.Rows.{this_version};
 ghost use Rattle.office_history.specs.Answers as histories;
 ghost use Rattle.office_history.specs.Answers.{after, answer};
 ghost use Rattle.office_history.specs.Histories.{History, Installed, with_changes};
-ghost use Rattle.office_history.specs.Pictures.{picture};
+ghost use Rattle.office_history.specs.Pictures.{picture, rule_rows};
 ghost use Rattle.office_history.specs.Runs.{IsLegal};
-ghost use Rattle.office_by_rows.specs.Asking.{Visit};
+ghost use Rattle.office_by_rows.specs.Asking.{Visit, or_empty};
 ghost use Rattle.office_by_rows.specs.Answers.{allowed_answer, due_list};
 ghost use Rattle.office_by_rows.specs.Changes.{allowed_rows, installed};
 ghost use Rattle.office_by_rows.specs.Refusals.{refusal};
 ghost use Rattle.office_by_rows.specs.Serving.{serve};
-ghost use Rattle.office_refines.specs.Refining.{refusal_before};
+ghost use Rattle.office_refines.specs.Refining.{place_and_effect, refusal_before, rule_and_effect};
 
 use bag_text::laws::one_list_fault;
 use office_history::laws::{pictures_are_in_range, sound_bags};
@@ -103,3 +107,13 @@ pub fn due_lists_are_exact()
 {
     pictures_are_in_range();
 }
+
+/// The rule that is found among the rows of a policy on a day is the one that decides on that day, with
+/// its number as its place.
+pub fn matching_rules_decide()
+    ensures { (policy : PolicyValue) (asked : Question) → IsPolicy policy
+        → option_map place_and_effect
+        (matching_rule asked.role (action_text asked.action) (or_empty asked.collection)
+        (or_empty asked.class) (epoch_day asked.day) (rule_rows 1 policy.rules))
+        ≡ option_map rule_and_effect (decision_of policy.rules asked) }
+{}

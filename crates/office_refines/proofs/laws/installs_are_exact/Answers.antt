@@ -1,4 +1,4 @@
-use Rattle.office_defining.proofs.InstallTold.{install_told}
+use Rattle.office_refines.proofs.PolicyTold.{install_told}
 use Rattle.office_refines.proofs.laws.installs_are_exact.Goals as goal
 
 pub returns : goal.returns

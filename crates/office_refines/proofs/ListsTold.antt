@@ -1,0 +1,152 @@
+-- Which deposits are listed by the rows, and which are due: those that a disposal would destroy.
+use Rattle.std.proofs.Common.{◌≡◌, ℕ, suc, ◌+◌, ℤ, pos, Bool, true, false, not, ◌&&◌, List, [], ◌∷◌, length, map, filter, Option, Some, None, slice_get, is_none, refl, sym, ap, ap₂, subst, ◌∙◌, arith, cond, if◌then◌else◌}
+use Rattle.std.specs.Prelude.{int_lt}
+use Rattle.std.specs.Ordering.{int_eq, int_cmp, is_le, is_ge}
+use Rattle.std.proofs.lemmas.Int.{ints}
+use Rattle.std.specs.List.{filter_map, cons_option}
+use Rattle.jiff.specs.Types.{Date}
+use Rattle.jiff.specs.Words.{epoch_day, IsEpochDay}
+use Rattle.jiff_core.proofs.SignedLemmas.{signed_arith}
+use Rattle.jiff_core.proofs.DateLemmas.{epoch_day_range}
+use Rattle.sqlite_keyed.proofs.ListLemmas.{map-map, filter-map}
+use Rattle.office_core.specs.FirstOf.{first_some, answer_if}
+use Rattle.office_core.specs.declared.facts.Verdict.TheVariants.{NotDue}
+use Rattle.office_core.specs.declared.refusal.Refusal.{Refusal}
+use Rattle.office_core.specs.declared.request.Request.TheVariants.{Dispose}
+use Rattle.office_core.specs.declared.retention.Due.{Due}
+use Rattle.office_core.specs.declared.retention.Due.TheVariants.{On, Never}
+use Rattle.office_core.specs.declared.answer.DepositRecord.{DepositRecord}
+use Rattle.office_core.specs.Verdicts as deciding
+use Rattle.office_core.specs.declared.action.Action.TheVariants as acts
+use Rattle.office_rows.proofs.Order.{map_back}
+use Rattle.office_rows.specs.Rows.{DepositRow, DueRow, beside, least_number, is_by, is_disposable, this_version}
+use Rattle.office_rows.specs.Told.{PlaceRow, place_row, due_places}
+use Rattle.office_history.specs.Lists.{numbers}
+use Rattle.office_history.specs.Histories.{History, Deposit, deposits, deposit_numbered, destruction_day, due, live_holds, least_hold}
+use Rattle.office_history.specs.Pictures.{due_number, picture}
+use Rattle.office_history.specs.Refusals.{refusal, refusal_in, denial_at, gone_refusal, held_refusal, not_due_refusal, disposal_refusals, of_deposit, denial}
+use Rattle.office_history.specs.Answers.{due_list, Wanted, listed_record}
+use Rattle.office_history.proofs.Pictured.{different}
+use Rattle.office_by_rows.specs.Asking.{Visit}
+use Rattle.office_refines.proofs.NumberedRows.{same_count, numbers_passing}
+use Rattle.office_refines.proofs.HoldsTold.{live_same}
+use Rattle.office_refines.proofs.DepositsTold.{both, rows_beside}
+
+-- a deposit that is kept, whose disposal would be accepted
+abbrev is_due : History → Visit → ℕ → Bool
+is_due h visit n = is_none (destruction_day h n) && is_none (refusal h visit.day visit.caller (Dispose n))
+
+-- the record of a deposit that is kept, where it is listed
+abbrev pub shown_record : History → Visit → Wanted → ℕ → Option DepositRecord
+shown_record h visit wanted n = if is_none (destruction_day h n) then listed_record h visit.day visit.caller wanted n else None
+
+-- the rules let the caller destroy what stands there
+abbrev pub may_destroy : History → Visit → PlaceRow → Bool
+may_destroy h visit place = is_none (denial h visit.day visit.caller acts.Dispose (Some place.collection) (Some place.class))
+
+-- ---- two tests in one
+
+filter_both : {A : Type 0} (first second : A → Bool) (xs : List A) → filter (λ n. first n && second n) xs ≡ filter second (filter first xs)
+filter_both first second [] = refl
+filter_both first second (x ∷ xs) = by (first x) (filter_both first second xs)
+  where
+    by : (b : Bool) → filter (λ n. first n && second n) xs ≡ filter second (filter first xs)
+        → cond (b && second x) (x ∷ filter (λ n. first n && second n) xs) (filter (λ n. first n && second n) xs) ≡ filter second (cond b (x ∷ filter first xs) (filter first xs))
+    by true rest = ap (λ ns. cond (second x) (x ∷ ns) ns) rest
+    by false rest = rest
+
+pub told_of_those : {B : Type 0} (test : ℕ → Bool) (tell : ℕ → Option B) (xs : List ℕ) → filter_map (λ n. if test n then tell n else None) xs ≡ filter_map tell (filter test xs)
+told_of_those test tell [] = refl
+told_of_those test tell (x ∷ xs) = by (test x) (told_of_those test tell xs)
+  where
+    by : (b : Bool) → filter_map (λ n. if test n then tell n else None) xs ≡ filter_map tell (filter test xs)
+        → cons_option (if b then tell x else None) (filter_map (λ n. if test n then tell n else None) xs) ≡ filter_map tell (cond b (x ∷ filter test xs) (filter test xs))
+    by true rest = ap (cons_option (tell x)) rest
+    by false rest = rest
+
+-- ---- one deposit
+
+no_hold : (ks : List ℕ) → int_eq (pos (length ks)) (pos 0) ≡ is_none (slice_get ks 0)
+no_hold [] = refl
+no_hold (k ∷ ks) = different (suc (length ks)) 0 (λ e. omega (arith, e))
+
+gone_stands : (o : Option Date) → is_none (refusal_in (deciding.gone_verdict o)) ≡ is_none o
+gone_stands None = refl
+gone_stands (Some day) = refl
+
+hold_stands : (o : Option ℕ) → is_none (refusal_in (deciding.hold_verdict o)) ≡ is_none o
+hold_stands None = refl
+hold_stands (Some k) = refl
+
+day_before : (a b : ℤ) → not (int_lt a b) ≡ is_le (int_cmp b a)
+day_before a b = grind (arith, ints)
+
+from_the_least : (n : ℤ) → IsEpochDay n → is_ge (int_cmp n least_number) ≡ true
+from_the_least n range = grind (arith, ints, signed_arith, range.0)
+
+due_stands : (day : Date) (d : Due) → is_none (refusal_in (deciding.due_verdict day d)) ≡ is_by (epoch_day day) (due_number d)
+due_stands day Never = refl
+due_stands day (On date) = by (int_lt (epoch_day day) (epoch_day date)) ∙ day_before (epoch_day day) (epoch_day date)
+    ∙ ap (λ b. b && is_le (int_cmp (epoch_day date) (epoch_day day))) (sym (from_the_least (epoch_day date) (epoch_day_range date)))
+  where
+    by : (t : Bool) → is_none (refusal_in (answer_if t (NotDue date))) ≡ not t
+    by true = refl
+    by false = refl
+
+-- the four refusals of a disposal, in their order
+none_of_four : (a b c d : Option Refusal) → is_none (first_some (a ∷ b ∷ c ∷ d ∷ [])) ≡ (is_none a && (is_none b && (is_none c && is_none d)))
+none_of_four (Some x) b c d = refl
+none_of_four None (Some x) c d = refl
+none_of_four None None (Some x) d = refl
+none_of_four None None None (Some x) = refl
+none_of_four None None None None = refl
+
+-- that it is kept is asked twice
+twice : (g a c d : Bool) → (g && (a && (g && (c && d)))) ≡ ((g && (c && d)) && a)
+twice true true true true = refl
+twice true true true false = refl
+twice true true false d = refl
+twice true false true true = refl
+twice true false true false = refl
+twice true false false d = refl
+twice false a c d = refl
+
+module _ (h : History) (visit : Visit) where
+  abbrev passes : DepositRow × DueRow → Bool
+  passes p = is_disposable (epoch_day visit.day) p && may_destroy h visit (place_row p)
+
+  disposable_is : (n : ℕ) (x : Date × Deposit) → is_disposable (epoch_day visit.day) (both h n x)
+      ≡ (is_none (destruction_day h n) && (is_none (least_hold h n x.1) && is_none (not_due_refusal h visit.day x.1)))
+  disposable_is n x =
+      ap₂ (λ a b. a && b) (live_same (destruction_day h n)) (ap₂ (λ a b. a && b) (no_hold (live_holds h n x.1)) (sym (due_stands visit.day (due h x.1))))
+
+  refused_is : (n : ℕ) (x : Date × Deposit) → deposit_numbered h n ≡ Some x → is_none (refusal h visit.day visit.caller (Dispose n))
+      ≡ (is_none (denial_at h visit.day visit.caller acts.Dispose x.1) && (is_none (destruction_day h n) && (is_none (least_hold h n x.1) && is_none (not_due_refusal h visit.day x.1))))
+  refused_is n x there =
+      ap (λ o. is_none (first_some (of_deposit o (disposal_refusals h visit.day visit.caller n)))) there
+      ∙ none_of_four (denial_at h visit.day visit.caller acts.Dispose x.1) (gone_refusal h n) (held_refusal h n x.1) (not_due_refusal h visit.day x.1)
+      ∙ (λ i. is_none (denial_at h visit.day visit.caller acts.Dispose x.1) && (gone_stands (destruction_day h n) i && (hold_stands (least_hold h n x.1) i && is_none (not_due_refusal h visit.day x.1))))
+
+  passing_is : (n : ℕ) (x : Date × Deposit) → deposit_numbered h n ≡ Some x → passes (both h n x) ≡ is_due h visit n
+  passing_is n x there =
+      ap (λ b. b && may_destroy h visit (place_row (both h n x))) (disposable_is n x)
+      ∙ sym (twice (is_none (destruction_day h n)) (is_none (denial_at h visit.day visit.caller acts.Dispose x.1)) (is_none (least_hold h n x.1)) (is_none (not_due_refusal h visit.day x.1)))
+      ∙ ap (λ b. is_none (destruction_day h n) && b) (sym (refused_is n x there))
+
+  -- ---- all of them
+
+  -- the numbers of the disposable rows that the rules allow
+  due_told : map (λ (p : PlaceRow). p.number) (filter (may_destroy h visit) (due_places (epoch_day visit.day) (picture this_version h))) ≡ map pos (due_list h visit.day visit.caller)
+  due_told =
+      let pairs = filter (is_disposable (epoch_day visit.day)) (beside (picture this_version h).deposits (picture this_version h).dues) in
+      let number : DepositRow × DueRow → ℤ = λ p. p.0.number in
+      let moved : map (λ (p : PlaceRow). p.number) (filter (may_destroy h visit) (due_places (epoch_day visit.day) (picture this_version h))) ≡ map number (filter (λ p. may_destroy h visit (place_row p)) pairs) =
+      ap (map (λ (p : PlaceRow). p.number)) (filter-map (may_destroy h visit) place_row pairs) ∙ map-map (λ (p : PlaceRow). p.number) place_row (filter (λ p. may_destroy h visit (place_row p)) pairs) in
+      moved ∙ ap (map number) (sym (filter_both (is_disposable (epoch_day visit.day)) (λ p. may_destroy h visit (place_row p)) (beside (picture this_version h).deposits (picture this_version h).dues))) ∙ ap (λ ps. map number (filter passes ps)) (rows_beside h)
+      ∙ numbers_passing (both h) number (λ m x. refl) passes (is_due h visit) (deposits h) 1 (λ i x e.
+      let one : suc i ≡ 1 + i = omega arith in passing_is (1 + i) x (subst (λ k. deposit_numbered h k ≡ Some x) one e))
+      ∙ ap (map pos) (filter_both (λ n. is_none (destruction_day h n)) (λ n. is_none (refusal h visit.day visit.caller (Dispose n))) (numbers (length (deposits h))))
+
+  -- so numbers that are those of the rows that a filter gives are the due list
+  pub due_list_is : (found : List ℕ) → map pos found ≡ map (λ (p : PlaceRow). p.number) (filter (may_destroy h visit) (due_places (epoch_day visit.day) (picture this_version h))) → found ≡ due_list h visit.day visit.caller
+  due_list_is found e = map_back pos same_count found (due_list h visit.day visit.caller) (e ∙ due_told)

@@ -1,0 +1,58 @@
+-- The rows of callers, and those of a policy that is installed.
+use Rattle.std.proofs.Common.{◌≡◌, ℕ, ◌+◌, Bool, true, false, List, [], ◌∷◌, map, Some, option_map, refl, ap, ◌∙◌, cond, arith, ◌<◌, pos, Less, sym}
+use Rattle.std.specs.Prelude.{bytes_eq, find}
+use Rattle.std.specs.Ordering.{int_cmp}
+use Rattle.std.specs.List.{AllByRecursion}
+use Rattle.office_core.specs.Policies.{PolicyValue, or_stranger}
+use Rattle.office_core.specs.declared.caller.Caller.{Caller}
+use Rattle.office_core.specs.declared.rule.Rule.{Rule}
+use Rattle.office_rows.specs.Rows.{CallerRow, RuleRow, caller_named, PlacesRise, with_policy, this_version}
+use Rattle.office_rows.proofs.Order.{sorted_already}
+use Rattle.office_history.specs.Pictures.{caller_row, rule_rows, office_row, picture}
+use Rattle.office_history.specs.Histories.{History, Change, Installed, with_changes, policy}
+use Rattle.office_history.proofs.Alike.{policy_grown}
+use Rattle.office_refines.proofs.NumberedRows.{is_less}
+use Rattle.office_refines.proofs.Unchanged.{same_classes, same_collections, same_deposit_rows, same_due_rows, same_file_rows, same_hold_rows}
+
+-- ---- the role
+
+pub role_told : (name : List ℕ) (cs : List Caller) → or_stranger (option_map (λ (c : CallerRow). c.role) (caller_named name (map caller_row cs))) ≡ or_stranger (option_map (λ (c : Caller). c.role) (find (λ c. bytes_eq c.name name) cs))
+role_told name [] = refl
+role_told name (c ∷ cs) = by (bytes_eq c.name name) (role_told name cs)
+  where
+    by : (b : Bool) → or_stranger (option_map (λ (c : CallerRow). c.role) (caller_named name (map caller_row cs))) ≡ or_stranger (option_map (λ (c : Caller). c.role) (find (λ c. bytes_eq c.name name) cs))
+        → or_stranger (option_map (λ (c : CallerRow). c.role) (cond b (Some (caller_row c)) (caller_named name (map caller_row cs)))) ≡ or_stranger (option_map (λ (c : Caller). c.role) (cond b (Some c) (find (λ c. bytes_eq c.name name) cs)))
+    by true rest = refl
+    by false rest = rest
+
+-- ---- the places rise
+
+all_above : (low place : ℕ) (rules : List Rule) → low < place → AllByRecursion (λ (r : RuleRow). int_cmp (pos low) r.place ≡ Less) (rule_rows place rules)
+all_above low place [] less = tt
+all_above low place (rule ∷ rules) less = (is_less low place less, all_above low (place + 1) rules (omega (arith, less)))
+
+places_rise : (place : ℕ) (rules : List Rule) → PlacesRise (rule_rows place rules)
+places_rise place [] = tt
+places_rise place (rule ∷ rules) = (all_above place (place + 1) rules (omega arith), places_rise (place + 1) rules)
+
+-- ---- a policy that is installed
+
+module _ (h : History) (new : PolicyValue) where
+  abbrev install : List Change
+  install = Installed new ∷ []
+
+  is_policy : policy (with_changes h install) ≡ new
+  is_policy = policy_grown h install
+
+  pub install_told : with_policy (map caller_row new.callers) (rule_rows 1 new.rules) (picture this_version h) ≡ picture this_version (with_changes h install)
+  install_told = λ i. record {
+    office = office_row this_version h ∷ [];
+    callers = map caller_row (sym is_policy i).callers;
+    rules = (sorted_already (λ (r : RuleRow). r.place) (rule_rows 1 new.rules) (places_rise 1 new.rules) ∙ ap (λ (p : PolicyValue). rule_rows 1 p.rules) (sym is_policy)) i;
+    classes = sym (same_classes h install refl (λ n. refl)) i;
+    collections = sym (same_collections h install refl) i;
+    deposits = sym (same_deposit_rows h install refl (λ n. refl)) i;
+    dues = sym (same_due_rows h install refl (λ n. refl) refl (λ k. refl)) i;
+    files = sym (same_file_rows h install refl (λ n. refl)) i;
+    holds = sym (same_hold_rows h install refl (λ k. refl)) i;
+  }
