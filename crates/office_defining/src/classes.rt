@@ -1,26 +1,13 @@
 //! Classes.
 
-ghost use Rattle.std.specs.Prelude.{◌≡◌, ⊤, List, OnOk, [], ◌∷◌, map, ℤ};
-ghost use Rattle.jiff.specs.Types.{Date};
-ghost use Rattle.jiff.specs.Words.{epoch_day};
-ghost use Rattle.sqlite.specs.Held.{state};
-ghost use Rattle.office_core.specs.Days.{IsDayNumber};
-ghost use Rattle.office_core.specs.Retention.{due_number};
-ghost use Rattle.office_core.specs.RetentionReading.{due_of};
+ghost use Rattle.std.specs.Prelude.{◌≡◌, [], ◌∷◌};
 ghost use Rattle.office_core.specs.declared.request.Request.TheVariants as requests;
-ghost use Rattle.office_rows.specs.Rows.{with_due};
 ghost use Rattle.office_rows.specs.Told.{class_closings};
-ghost use Rattle.office_tables.specs.Tables.{tables_of};
-ghost use Rattle.office_tables.specs.Calls.{GoesOnInTurn, GoesOnInside, Tells, Writes};
-ghost use Rattle.office_tables.specs.Contents.{LeavesOnce};
-ghost use Rattle.office_history.specs.Histories.{DefinedClass};
+ghost use Rattle.office_tables.specs.Calls.{GoesOnInTurn, GoesOnInside};
 ghost use Rattle.office_history.specs.Pictures.{years_number};
 ghost use Rattle.office_by_rows.specs.Changes.{with_due_days, with_years};
-ghost use Rattle.office_by_rows.specs.Serving.{serve};
 ghost use Rattle.office_asking.specs.Asking.{visit_on};
-ghost use Rattle.office_asking.specs.Serving.{Accepts, Alters, Changes, Decides, Serves};
-ghost use Rattle.office_defining.specs.ByRows.{AreClosedOnDays, IsClassDefinedIn};
-ghost use Rattle.office_defining.specs.Revising.{AreDueDaysSet, closing_row};
+ghost use Rattle.office_asking.specs.Serving.{Changes, Serves};
 
 use office_asking::{day_numbered, denial};
 use office_core::{Action, Answer, Day, Name, Years, due};
@@ -45,11 +32,6 @@ fn set_due_day<S: Alter>(
     years: Years,
 ) -> Result<(), TableFault>
     ensures inside { GoesOnInside S.Store tx.old.conn tx.new.conn result }
-    ensures becomes { (closed : Date) → epoch_day closed ≡ row.now.closed
-        → Writes S.Store tx.old.conn.now tx.new.conn.now result
-        (with_due row.now.number (due_number (due_of closed years))) }
-    ensures once { LeavesOnce S.Store tx.old.conn.now tx.new.conn.now result }
-    ensures closed { OnOk result (IsDayNumber row.now.closed) }
     ensures changes { Changes S.Store tx.old.conn.now tx.new.conn.now result
         (with_due_days years (row.now ∷ [])) }
 {
@@ -64,9 +46,6 @@ fn set_due_days<S: Alter>(
     years: Years,
 ) -> Result<(), TableFault>
     ensures inside { GoesOnInTurn S.Store tx.old.conn tx.new.conn result }
-    ensures set { (deposits : List (ℤ × Date)) → rows.now ≡ map closing_row deposits
-        → Alters S.Store tx.old.conn.now tx.new.conn.now result (AreDueDaysSet years deposits) }
-    ensures closed { OnOk result (AreClosedOnDays rows.now) }
     ensures changes { Changes S.Store tx.old.conn.now tx.new.conn.now result
         (with_due_days years rows.now) }
 {
@@ -84,12 +63,6 @@ fn set_days_of_class<S: Alter>(
     years: Years,
 ) -> Result<(), TableFault>
     ensures inside { GoesOnInside S.Store tx.old.conn tx.new.conn result }
-    ensures set { (deposits : List (ℤ × Date))
-        → class_closings class.now (tables_of (state S.Store tx.old.conn.now).now)
-        ≡ map closing_row deposits
-        → Alters S.Store tx.old.conn.now tx.new.conn.now result (AreDueDaysSet years deposits) }
-    ensures rows { Tells S.Store tx.old.conn.now tx.new.conn.now result (λ tables _.
-        AreClosedOnDays (class_closings class.now tables)) }
     ensures changes { Changes S.Store tx.old.conn.now tx.new.conn.now result (λ tables.
         with_due_days years (class_closings class.now tables) tables) }
 {
@@ -105,11 +78,6 @@ fn put_years<S: Alter>(
     years: Years,
 ) -> Result<(), TableFault>
     ensures inside { GoesOnInside S.Store tx.old.conn tx.new.conn result }
-    ensures defined { (day : Date)
-        → Accepts S.Store tx.old.conn.now tx.new.conn.now result
-        (record { was_so = λ _. ⊤; changes = DefinedClass day name.now years ∷ [] }) }
-    ensures rows { Tells S.Store tx.old.conn.now tx.new.conn.now result (λ tables _.
-        AreClosedOnDays (class_closings name.now tables)) }
     ensures changes { Changes S.Store tx.old.conn.now tx.new.conn.now result
         (with_years name.now years) }
 {
@@ -130,12 +98,8 @@ pub fn define_class<S: Alter>(
     years: Years,
 ) -> Result<Answer, TableFault>
     ensures inside { GoesOnInside S.Store tx.old.conn tx.new.conn result }
-    ensures decides { Decides S.Store tx.old.conn.now tx.new.conn.now result
-        (day, caller.entry, requests.DefineClass name.now years) }
-    ensures rows { Tells S.Store tx.old.conn.now tx.new.conn.now result (λ tables given.
-        IsClassDefinedIn tables (visit_on day caller.now) name.now years given) }
-    ensures serves { Serves S.Store tx.old.conn.now tx.new.conn.now result (λ tables.
-        serve tables (visit_on day caller.now) (requests.DefineClass name.now years)) }
+    ensures serves { Serves S.Store tx.old.conn.now tx.new.conn.now result
+        (visit_on day caller.now) (requests.DefineClass name.now years) }
 {
     if let Some(why) = denial(tx, day, caller, Action::Class, None, Some(name.as_str()))? {
         return Ok(Answer::Refused(why));

@@ -1,12 +1,9 @@
 //! Collections.
 
-ghost use Rattle.std.specs.Prelude.{◌≡◌};
 ghost use Rattle.office_core.specs.declared.request.Request.TheVariants as requests;
-ghost use Rattle.office_tables.specs.Calls.{GoesOnInside, Tells};
-ghost use Rattle.office_by_rows.specs.Serving.{serve};
+ghost use Rattle.office_tables.specs.Calls.{GoesOnInside};
 ghost use Rattle.office_asking.specs.Asking.{visit_on};
-ghost use Rattle.office_asking.specs.Serving.{Decides, Serves};
-ghost use Rattle.office_defining.specs.ByRows.{IsCollectionDefinedIn};
+ghost use Rattle.office_asking.specs.Serving.{Serves};
 
 use office_asking::denial;
 use office_core::{Action, Answer, Day, Name};
@@ -25,12 +22,8 @@ pub fn define_collection<S: Alter>(
     name: &Name<'_>,
 ) -> Result<Answer, TableFault>
     ensures inside { GoesOnInside S.Store tx.old.conn tx.new.conn result }
-    ensures decides { Decides S.Store tx.old.conn.now tx.new.conn.now result
-        (day, caller.entry, requests.DefineCollection name.now) }
-    ensures rows { Tells S.Store tx.old.conn.now tx.new.conn.now result (λ tables given.
-        IsCollectionDefinedIn tables (visit_on day caller.now) name.now given) }
-    ensures serves { Serves S.Store tx.old.conn.now tx.new.conn.now result (λ tables.
-        serve tables (visit_on day caller.now) (requests.DefineCollection name.now)) }
+    ensures serves { Serves S.Store tx.old.conn.now tx.new.conn.now result
+        (visit_on day caller.now) (requests.DefineCollection name.now) }
 {
     if let Some(why) = denial(
         tx,

@@ -1,12 +1,11 @@
 //! The policy.
 
-ghost use Rattle.std.specs.Prelude.{◌≡◌, ⊤, IfErr, IfOk, [], ◌∷◌, map, Some};
+ghost use Rattle.std.specs.Prelude.{◌≡◌, IfErr, IfOk, map, Some};
 ghost use Rattle.office_tables.specs.Faults.{IsFailure};
 ghost use Rattle.office_tables.specs.Calls.{GoesOnInside};
-ghost use Rattle.office_history.specs.Histories.{Installed};
 ghost use Rattle.office_history.specs.Pictures.{action_pattern_text, caller_row, effect_number, pattern_text, rule_row, rule_rows};
 ghost use Rattle.office_by_rows.specs.Changes.{installed};
-ghost use Rattle.office_asking.specs.Serving.{Accepts, Changes};
+ghost use Rattle.office_asking.specs.Serving.{Changes};
 
 use office_core::{ActionPattern, Caller, Effect, Pattern, Policy, Rule};
 use office_tables::{CallerRow, RuleRow, TableFault, put_policy};
@@ -107,8 +106,6 @@ pub fn install<S: Alter>(
     policy: &Policy,
 ) -> Result<(), TableFault>
     ensures inside { GoesOnInside S.Store tx.old.conn tx.new.conn result }
-    ensures installed { Accepts S.Store tx.old.conn.now tx.new.conn.now result
-        (record { was_so = λ _. ⊤; changes = Installed policy.now ∷ [] }) }
     ensures changes { Changes S.Store tx.old.conn.now tx.new.conn.now result (λ tables.
         Some (installed policy.now tables)) }
 {

@@ -10,9 +10,8 @@ use Rattle.sqlite.specs.State.{State, HasCleanDisk, Survives, IsRolledBack, Show
 use Rattle.sqlite.proofs.StateLemmas.{survives_then}
 use Rattle.sqlite.proofs.Callers.{survives_begin}
 use Rattle.sql_meaning.specs.Inside.{GoesOn}
-use Rattle.office_rows.specs.Rows.{Tables}
 use Rattle.office_tables.specs.Calls.{CommitsNothing, Continues}
-use Rattle.office_tables.specs.Tables.{Becomes, IsOffice}
+use Rattle.office_tables.specs.Tables.{IsOffice}
 use Rattle.office_tables.specs.declared.fault.TableFault.{TableFault}
 use Rattle.office_core.specs.declared.answer.Answer.{Answer}
 use Rattle.office_history.specs.Histories.{History, with_changes}
@@ -20,13 +19,15 @@ use Rattle.office_history.specs.Answers.{change}
 use Rattle.office_history.specs.Runs.{IsLegal, IsFailure, Item, IsItem, serve}
 use Rattle.office_history.proofs.Accepted.{grown_by_none}
 use Rattle.office_asking.specs.Pictures.{Pictures}
-use Rattle.office_by_rows.specs.Serving as by_rows
+use Rattle.office_by_rows.specs.Asking.{Visit}
 use Rattle.office_asking.specs.Asking.{visit_on}
-use Rattle.office_asking.specs.Serving.{Decides, Finds, IsServed, IsServedBy, Serves}
-use Rattle.office_engine.specs.ByRows.{RowsMake}
+use Rattle.office_asking.specs.Serving.{IsServedBy, Serves}
+use Rattle.office_engine.specs.ByRows.{IsOfficeWith, Rows, RowsMake}
+use Rattle.office_engine.specs.Deciding.{Decides, Finds, IsServed}
 use Rattle.office_engine.specs.Keeping.{CommitsRows, CommitsTo, HasRows, IsKeptBy, IsLeftOf, IsLegalAndKept, IsToldByRows, IsTurn, KeepsTables, LeavesAlso, LeavesEither, LeavesRows, StaysShut, after_item, is_accepted}
 use Rattle.office_engine.proofs.Accepted.{no_change}
 use Rattle.office_engine.proofs.RowsAccepted.{rows_stay}
+use Rattle.office_engine.proofs.ServedByRows.{has_made, rows_made, serves_rows, tables_told}
 
 -- while the store is open, a crash leaves what is committed
 abbrev pub IsSettled : State → Type 0
@@ -150,7 +151,7 @@ pub record IsDecided {S : Type 0} (g : Ghosts S) (first last : Held S) (item : I
   pub stays : CommitsNothing g (record first { in_transaction = true }) last
   pub goes_on : Continues g (record first { in_transaction = true }) last decided
   pub decides : Decides g (record first { in_transaction = true }) last decided item
-  pub serves : Serves g (record first { in_transaction = true }) last decided (λ t. by_rows.serve t (visit_on item.0 item.1.now) item.2)
+  pub serves : Serves g (record first { in_transaction = true }) last decided (visit_on item.0 item.1.now) item.2
 
 served_after : (decided : Result Answer TableFault) (h : History) (item : Item) (db : Database) → IfOk decided (λ given. IsServed h item given db) → OnOk decided (Pictures (after_item item h) db)
 served_after (Ok given) h item db served = served.after
@@ -166,10 +167,11 @@ commits_rows : {S : Type 0} (g : Ghosts S) (first last : Held S) (item : Item) (
 commits_rows g first last item (Ok given) it clean db is =
     let was_open = (it.stays.kept clean refl).was_open (it.goes_on clean).is_open in (
       was_open,
-      λ t has.
+      λ r has.
           let had = (has was_open).0 in
+          let visit : Visit = visit_on item.0 item.1.now in
           let served = it.serves clean had.office in
-          (given, served.rows, ap (λ s. by_rows.serve s (visit_on item.0 item.1.now) item.2) (sym had.are) ∙ served.is, ((state g last).now, served.becomes, is)),
+          (given, rows_made r visit item.2 given had served, serves_rows r visit item.2 given had served, ((state g last).now, has_made r visit item.2 given had served, is)),
     )
 commits_rows g first last item (Err e) it clean db none = absurd none
 
@@ -197,31 +199,42 @@ module _ {S : Type 0} {g : Ghosts S} {first last : Held S} {item : Item} {decide
   ]
 
   left_rows : LeavesRows (state g first) (state g end) item
-  left_rows t is_open has left may = elim (survives_rows.crash clean left may) [
+  left_rows r is_open has left may = elim (survives_rows.crash clean left may) [
     | inl was ↦ inl ((state g first).now, (has is_open).0, settled first left is_open was ∙ ap (λ (d : Database). d.trees) (has is_open).1)
-    | inr made ↦ inr (made.1 t has)
+    | inr made ↦ inr (made.1 r has)
   ]
 
   module _ (is : decided ≡ Ok given) where
     shuts : StaysShut (state g first) (state g end) given
     shuts shut = absurd (true≢false (sym (was_open made_it end early given is) ∙ shut))
 
-    in_transaction : IsOffice (state g first).now → IsServedBy (λ s. by_rows.serve s (visit_on item.0 item.1.now) item.2) (state g first).now (state g last).now given
+    in_transaction : IsOffice (state g first).now → IsServedBy (visit_on item.0 item.1.now) item.2 (state g first).now (state g last).now given
     in_transaction office = rw is at (it.serves early office)
 
     told : IsToldByRows (state g first) item given
     told answered office = let served = in_transaction office in (served.rows, served.is)
 
     -- the rows that it made
-    module _ (t : Tables) (has : HasRows t (state g first)) where
-      had : Becomes (state g first).now t
+    module _ (r : Rows) (has : HasRows r (state g first)) where
+      had : IsOfficeWith r (state g first).now
       had = (has (was_open made_it end early given is)).0
 
-      made_rows : IsServedBy (λ s. by_rows.serve s (visit_on item.0 item.1.now) item.2) (state g first).now (state g last).now given
-      made_rows = in_transaction had.office
+      served_by : IsServedBy (visit_on item.0 item.1.now) item.2 (state g first).now (state g last).now given
+      served_by = in_transaction had.office
 
-      makes_rows : RowsMake t item given made_rows.rows
-      makes_rows = ap (λ s. by_rows.serve s (visit_on item.0 item.1.now) item.2) (sym had.are) ∙ made_rows.is
+      abbrev made_rows : Rows
+      made_rows = rows_made r (visit_on item.0 item.1.now) item.2 given had served_by
+
+      makes_rows : RowsMake r item given made_rows
+      makes_rows = serves_rows r (visit_on item.0 item.1.now) item.2 given had served_by
+
+      is_made : IsOfficeWith made_rows (state g last).now
+      is_made = has_made r (visit_on item.0 item.1.now) item.2 given had served_by
+
+      -- where the answer tells of no change, they are those that were there
+      makes_none : is_accepted given ≡ false → RowsMake r item given r
+      makes_none none =
+          makes_rows ∙ ap (λ (rows : Rows). Some (given, rows)) (rows_stay given none r served_by.rows (visit_on item.0 item.1.now) item.2 (tables_told r (visit_on item.0 item.1.now) item.2 given had served_by))
 
     module _ (h : History) (legal : IsLegal h) (keeps : IsKeptBy h (state g first)) where
       served : IsServed h item given (state g last).now
@@ -253,22 +266,22 @@ module _ {S : Type 0} {g : Ghosts S} {first last : Held S} {item : Item} {decide
         accepted = λ _. ap (λ (d : Database). d.trees) (sym shows.now_is);
         none = λ none. absurd (true≢false (sym accepted ∙ none));
       };
-      served_rows = λ t has. (
-        (made_rows t has).rows,
-        inr (makes_rows t has),
-        λ is_open. (subst (λ db. Becomes db (made_rows t has).rows) (sym shows.now_is) (made_rows t has).becomes, shows.committed_is ∙ sym shows.now_is),
+      served_rows = λ r has. (
+        made_rows r has,
+        inr (makes_rows r has),
+        λ is_open. (subst (IsOfficeWith (made_rows r has)) (sym shows.now_is) (is_made r has), shows.committed_is ∙ sym shows.now_is),
       );
       leaves_rows = left_rows;
-      durable_rows = λ t has accepted. (
-        (made_rows t has).rows,
-        makes_rows t has,
-        λ left may. ((state g last).now, (made_rows t has).becomes, settled end left shows.is_open may ∙ ap (λ (d : Database). d.trees) shows.committed_is),
+      durable_rows = λ r has accepted. (
+        made_rows r has,
+        makes_rows r has,
+        λ left may. ((state g last).now, is_made r has, settled end left shows.is_open may ∙ ap (λ (d : Database). d.trees) shows.committed_is),
       );
     }
 
   module _ (none : is_accepted given ≡ false) (back : IsRolledBack (state g last) (state g end)) where
-    still_rows : (t : Tables) → HasRows t (state g first) → HasRows t (state g end)
-    still_rows t has is_open = let same = unchanged made_it end early back is_open in (subst (λ db. Becomes db t) (sym same.1) (has same.0).0, same.2 ∙ sym same.1)
+    still_rows : (r : Rows) → HasRows r (state g first) → HasRows r (state g end)
+    still_rows r has is_open = let same = unchanged made_it end early back is_open in (subst (IsOfficeWith r) (sym same.1) (has same.0).0, same.2 ∙ sym same.1)
 
     -- the answer tells of no change
     turn_same : decided ≡ Ok given → IsTurn (state g first) (state g end) item given
@@ -293,13 +306,9 @@ module _ {S : Type 0} {g : Ghosts S} {first last : Held S} {item : Item} {decide
           | inr makes ↦ let is_made : IsTrue (is_accepted given) × (left ≡ (state g last).now.trees) = rw is at makes in absurd (true≢false (sym is_made.0 ∙ none))
         ];
       };
-      served_rows = λ t has. (
-        t,
-        inr (makes_rows is t has ∙ ap (λ rows. Some (given, rows)) (rows_stay given none t (made_rows is t has).rows (visit_on item.0 item.1.now) item.2 (makes_rows is t has))),
-        still_rows t has,
-      );
+      served_rows = λ r has. (r, inr (makes_none is r has none), still_rows r has);
       leaves_rows = left_rows;
-      durable_rows = λ t has accepted. absurd (true≢false (sym accepted ∙ none));
+      durable_rows = λ r has accepted. absurd (true≢false (sym accepted ∙ none));
     }
 
     -- it is a failure
@@ -318,9 +327,9 @@ module _ {S : Type 0} {g : Ghosts S} {first last : Held S} {item : Item} {decide
         accepted = λ accepted. absurd (true≢false (sym accepted ∙ none));
         none = λ _ answered. absurd (answered fails);
       };
-      served_rows = λ t has. (t, inl (fails, refl), still_rows t has);
+      served_rows = λ r has. (r, inl (fails, refl), still_rows r has);
       leaves_rows = left_rows;
-      durable_rows = λ t has accepted. absurd (true≢false (sym accepted ∙ none));
+      durable_rows = λ r has accepted. absurd (true≢false (sym accepted ∙ none));
     }
 
   module _ (told : (decided ≡ Ok given) ⊎ IsFailure given) (committed : IsTrue (is_accepted given) → (decided ≡ Ok given) × Shows (state g last) (state g end) (state g last).now (state g last).now false)

@@ -7,3 +7,5 @@ pub mod Stopping
 pub mod Upgraded
 pub mod RowsAccepted
 pub mod ServedByRows
+pub mod SameOnce
+pub mod StockTold

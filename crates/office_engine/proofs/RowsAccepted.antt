@@ -1,4 +1,4 @@
--- An answer that tells of no change leaves the rows as they were, whichever they are.
+-- An answer that tells of no change leaves the rows and the contents as they were, whichever they are.
 use Rattle.std.proofs.Common.{◌≡◌, ℕ, true, false, Option, Some, None, option_map, refl, sym, ap, ◌∙◌, true≢false}
 use Rattle.std.proofs.lemmas.Option.{same_Some}
 use Rattle.office_core.specs.FirstOf.{◌>>=◌}
@@ -13,6 +13,8 @@ use Rattle.office_by_rows.specs.Asking.{Visit}
 use Rattle.office_by_rows.specs.Changes.{allowed_rows}
 use Rattle.office_by_rows.specs.Refusals.{highest_deposit, highest_hold, number_after, refusal}
 use Rattle.office_by_rows.specs.Serving.{serve, serve_unless}
+use Rattle.office_asking.specs.Contents.{Contents, contents_after}
+use Rattle.office_engine.specs.ByRows.{Rows, rows_after}
 use Rattle.office_engine.specs.Keeping.{is_accepted}
 
 -- two, where both come to something
@@ -23,6 +25,11 @@ both_told : {A B : Type 0} (one : Option A) (other : Option B) (a : A) (b : B) �
 both_told None other a b e = absurd cc
 both_told (Some x) None a b e = absurd cc
 both_told {A = A} {B = B} (Some x) (Some y) a b e = let same = same_Some _ _ e in (ap (λ (p : A × B). Some p.0) same, ap (λ (p : A × B). Some p.1) same)
+
+contents_stay : (t : Tables) (request : Request) (given : Answer) → is_accepted given ≡ false → (k : Contents) → contents_after t request given k ≡ k
+contents_stay t request (answers.Deposited n) none k = absurd (true≢false none)
+contents_stay t request (answers.Destroyed n day) none k = absurd (true≢false none)
+contents_stay t request _ none k = refl
 
 module _ (given : Answer) (none : is_accepted given ≡ false) where
   none_of : {P : Type 0} (answer : Answer) → is_accepted answer ≡ true → Some answer ≡ Some given → P
@@ -49,10 +56,13 @@ module _ (given : Answer) (none : is_accepted given ≡ false) where
   none_changed t visit (Dispose n) is = none_of (answers.Destroyed n visit.day) refl is
   none_changed t visit DueList is = refl
 
-  pub rows_stay : (t next : Tables) (visit : Visit) (request : Request) → serve t visit request ≡ Some (given, next) → next ≡ t
-  rows_stay t next visit request is = by (refusal t visit request) is
+  tables_stay : (t next : Tables) (visit : Visit) (request : Request) → serve t visit request ≡ Some (given, next) → next ≡ t
+  tables_stay t next visit request is = by (refusal t visit request) is
     where
       by : (refused : Option (Option Refusal)) → (refused >>= λ stands. serve_unless stands t visit request) ≡ Some (given, next) → next ≡ t
       by None e = absurd cc
       by (Some (Some why)) e = ap (λ (p : Answer × Tables). p.1) (sym (same_Some _ _ e))
       by (Some None) e = let told = both_told (allowed_answer t visit request) (allowed_rows t visit request) given next e in same_Some _ _ (sym told.1 ∙ none_changed t visit request told.0)
+
+  pub rows_stay : (r : Rows) (next : Tables) (visit : Visit) (request : Request) → serve r.tables visit request ≡ Some (given, next) → rows_after r request given next ≡ r
+  rows_stay r next visit request is = λ i. record { tables = tables_stay r.tables next visit request is i; contents = contents_stay r.tables request given none r.contents i }

@@ -12,7 +12,6 @@ use Rattle.office_history.specs.Histories.{History, with_changes}
 use Rattle.office_history.specs.Answers.{answer, change}
 use Rattle.office_history.specs.Runs.{IsLegal, IsFailure, Item, Run}
 use Rattle.office_history.proofs.Accepted.{grown_by_none}
-use Rattle.office_rows.specs.Rows.{Tables}
 use Rattle.office_engine.specs.Keeping.{AllStayShut, CommitsRun, HasRows, IsKeptBy, IsLeftOf, IsLeftOfEither, IsLeftOfRun, IsTurn, InTurn, LeavesRun, Runs, RunsRows, after_item}
 use Rattle.office_engine.proofs.FoundAfter.{changes_or, failure_or, found_more}
 
@@ -49,11 +48,11 @@ module _ {S : Type 0} (g : Ghosts S) where
 
   -- the same of whatever rows an office has
   pub turns_rows : (old new : Held S) (items : List Item) (told : List Answer) → InTurn g old new items told → RunsRows (state g old) (state g new) items told
-  turns_rows old new [] [] turns t has = (t, refl, subst (λ (s : Held S). HasRows t (state g s)) (sym turns) has)
-  turns_rows old new [] (a ∷ told) turns t has = absurd turns
-  turns_rows old new (i ∷ items) [] turns t has = absurd turns
-  turns_rows old new (i ∷ items) (a ∷ told) turns t has =
-      let one = turns.1.served_rows t has in
+  turns_rows old new [] [] turns r has = (r, refl, subst (λ (s : Held S). HasRows r (state g s)) (sym turns) has)
+  turns_rows old new [] (a ∷ told) turns r has = absurd turns
+  turns_rows old new (i ∷ items) [] turns r has = absurd turns
+  turns_rows old new (i ∷ items) (a ∷ told) turns r has =
+      let one = turns.1.served_rows r has in
       let more = turns_rows turns.0 new items told turns.2 one.0 one.2 in
       (more.0, (one.0, one.1, more.1), more.2)
 

@@ -1,22 +1,35 @@
--- A request that is served by the rows is served by the legal history that they picture.
-use Rattle.std.proofs.Common.{◌≡◌, Some, sym, ap, ◌∙◌}
-use Rattle.std.specs.Prelude.{Result}
+-- What is made and told of the rows is made and told of the legal history that they picture.
+use Rattle.std.proofs.Common.{◌≡◌, true, Option, Some, sym, ap, subst, ◌∙◌}
+use Rattle.std.specs.Prelude.{Result, OnOk}
 use Rattle.std.proofs.lemmas.Option.{same_Some}
-use Rattle.std.proofs.lemmas.Result.{IfOk-weaker}
+use Rattle.std.proofs.lemmas.Result.{IfOk-weaker, on_ok_weaker}
+use Rattle.sqlite.specs.Effect.{Database}
 use Rattle.sqlite.specs.Store.{Ghosts}
-use Rattle.sqlite.specs.Held.{Held}
+use Rattle.sqlite.specs.State.{HasCleanDisk}
+use Rattle.sqlite.specs.Held.{Held, state}
+use Rattle.office_core.specs.FirstOf.{◌>>=◌}
+use Rattle.office_core.specs.Policies.{PolicyValue}
 use Rattle.office_core.specs.declared.answer.Answer.{Answer}
 use Rattle.office_core.specs.declared.request.Request.{Request}
 use Rattle.office_rows.specs.Rows.{Tables, this_version}
+use Rattle.office_tables.specs.Calls.{Shows}
 use Rattle.office_tables.specs.declared.fault.TableFault.{TableFault}
 use Rattle.office_history.specs.Answers.{after, answer}
 use Rattle.office_history.specs.Histories.{History}
 use Rattle.office_history.specs.Pictures.{picture}
 use Rattle.office_history.specs.Runs.{IsLegal, Item}
 use Rattle.office_by_rows.specs.Asking.{Visit}
+use Rattle.office_by_rows.specs.Changes.{installed}
 use Rattle.office_by_rows.specs.Serving.{serve}
 use Rattle.office_asking.specs.Asking.{visit_on}
-use Rattle.office_asking.specs.Serving.{Decides, Serves}
+use Rattle.office_asking.specs.Contents.{contents_after, contents_in}
+use Rattle.office_asking.specs.Pictures.{Pictures}
+use Rattle.office_asking.specs.Serving.{Changes, IsServedBy, Serves}
+use Rattle.office_engine.specs.ByRows.{IsOfficeWith, Rows, rows_after, serve_rows}
+use Rattle.office_engine.specs.Deciding.{Decides, Finds}
+use Rattle.office_engine.specs.Keeping.{after_policy}
+
+-- ---- a request
 
 -- what a request does to the rows of a legal history is what it does to the history
 abbrev pub AreExact : Type 0
@@ -24,7 +37,7 @@ AreExact =
     (h : History) (visit : Visit) (request : Request) → IsLegal h
     → serve (picture this_version h) visit request ≡ Some (answer h visit.day visit.caller request, picture this_version (after h visit.day visit.caller request))
 
-pub served_decides : {S : Type 0} (g : Ghosts S) (old new : Held S) (result : Result Answer TableFault) → AreExact → (item : Item) → Serves g old new result (λ t. serve t (visit_on item.0 item.1.now) item.2) → Decides g old new result item
+pub served_decides : {S : Type 0} (g : Ghosts S) (old new : Held S) (result : Result Answer TableFault) → AreExact → (item : Item) → Serves g old new result (visit_on item.0 item.1.now) item.2 → Decides g old new result item
 served_decides g old new result exact item serves clean h legal pictured =
     let visit : Visit = visit_on item.0 item.1.now in
     IfOk-weaker result _ _ (λ given is.
@@ -34,3 +47,45 @@ served_decides g old new result exact item serves clean h legal pictured =
       after = record { office = is.becomes.office; are = is.becomes.are ∙ ap (λ (p : Answer × Tables). p.1) same; once = is.once pictured.once };
     })
     (serves clean pictured.office)
+
+-- the rows with the contents that it makes of these
+module _ {old new : Database} (r : Rows) (visit : Visit) (request : Request) (given : Answer) (had : IsOfficeWith r old) (served : IsServedBy visit request old new given) where
+  pub tables_told : serve r.tables visit request ≡ Some (given, served.rows)
+  tables_told = ap (λ (x : Rows). serve x.tables visit request) (sym had.are) ∙ served.is
+
+  abbrev pub rows_made : Rows
+  rows_made = rows_after r request given served.rows
+
+  pub serves_rows : serve_rows r visit request ≡ Some (given, rows_made)
+  serves_rows = ap (λ (o : Option (Answer × Tables)). o >>= λ told. Some (told.0, rows_after r request told.0 told.1)) tables_told
+
+  contents_made : contents_in new ≡ contents_after r.tables request given r.contents
+  contents_made = served.contents ∙ ap (λ (x : Rows). contents_after x.tables request given x.contents) had.are
+
+  pub has_made : IsOfficeWith rows_made new
+  has_made = record { office = served.becomes.office; are = λ i. record { tables = served.becomes.are i; contents = contents_made i } }
+
+-- ---- an install
+
+-- what an install makes of the rows of a history is the picture of the history after it
+abbrev pub InstallsAreExact : Type 0
+InstallsAreExact = (h : History) (policy : PolicyValue) → installed policy (picture this_version h) ≡ picture this_version (after_policy policy h)
+
+pub changed_installs : {S T : Type 0} (g : Ghosts S) (first last : Held S) (result : Result T TableFault) → InstallsAreExact → (policy : PolicyValue) → Changes g (record first { in_transaction = true }) last result (λ t. Some (installed policy t))
+    → HasCleanDisk (state g last) → (h : History) → Pictures h (state g first).now → OnOk result (Pictures (after_policy policy h) (state g last).now)
+changed_installs g first last result exact policy changes clean h pictured =
+    on_ok_weaker result (λ is. record {
+      office = is.becomes.office;
+      are = is.becomes.are ∙ sym (same_Some _ _ is.is) ∙ ap (installed policy) pictured.are ∙ exact h policy;
+      once = is.once pictured.once;
+    }) (changes clean pictured.office)
+
+-- ---- what is read
+
+-- what is shown of the rows is found of the legal history that they picture
+pub shown_found : {S T : Type 0} (g : Ghosts S) (first last : Held S) (result : Result T TableFault) (is_shown : Tables → T → Type 0) (is_so : History → T → Type 0)
+    → ((h : History) → IsLegal h → (found : T) → is_shown (picture this_version h) found → is_so h found)
+    → Shows g (record first { in_transaction = true }) last result is_shown → Finds g (record first { in_transaction = true }) last result is_so
+shown_found g first last result is_shown is_so told shows clean h legal pictured =
+    IfOk-weaker result _ _ (λ found shown. (subst (Pictures h) (sym shown.0) pictured, told h legal found (subst (λ t. is_shown t found) pictured.are shown.1)))
+    (shows clean pictured.office)

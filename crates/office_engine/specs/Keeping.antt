@@ -1,6 +1,6 @@
 -- What an office keeps over its connection, what a request does to it, and what a crash may leave. `old` is the store before a call
 -- and `new` the store after it.
-use Rattle.std.specs.Prelude.{◌⊎◌, ◌≡◌, ◌≢◌, List, [], ◌∷◌, ℕ, Bool, true, false, Result, OnOk, IsTrue, All, drop}
+use Rattle.std.specs.Prelude.{◌⊎◌, ◌≡◌, ◌≢◌, List, [], ◌∷◌, ℕ, Bool, true, false, Some, Result, OnOk, IsTrue, All, drop}
 use Rattle.jiff.specs.Types.{Date}
 use Rattle.sqlite.specs.Tree.{Trees}
 use Rattle.sqlite.specs.Effect.{Database}
@@ -10,9 +10,7 @@ use Rattle.sqlite.specs.Held.{Held, state}
 use Rattle.office_core.specs.Policies.{PolicyValue}
 use Rattle.office_core.specs.declared.answer.Answer.{Answer}
 use Rattle.office_core.specs.declared.answer.Answer.TheVariants as answers
-use Rattle.office_rows.specs.Rows.{Tables}
-use Rattle.office_tables.specs.Tables.{Becomes, IsOffice, tables_of}
-use Rattle.office_tables.specs.Opening.{IsLeft}
+use Rattle.office_tables.specs.Tables.{IsOffice, contents_of, tables_of}
 pub use Rattle.office_tables.specs.Opening.{KeepsTables}
 use Rattle.office_history.specs.Histories.{History, Installed, with_changes}
 use Rattle.office_history.specs.Answers.{change, after, due_list}
@@ -20,10 +18,11 @@ use Rattle.office_history.specs.Runs.{IsLegal, IsFailure, Item, Step, Run}
 use Rattle.office_history.specs.Stocks.{Stock, stock}
 use Rattle.office_tables.specs.declared.version.TableVersion.{TableVersion}
 use Rattle.office_tables.specs.declared.version.TableVersion.TheVariants.{Fifth}
+use Rattle.office_by_rows.specs.Answers as by_rows
+use Rattle.office_by_rows.specs.Stock.{stock_by}
 use Rattle.office_asking.specs.Asking.{visit_on}
 use Rattle.office_asking.specs.Pictures.{PicturesAt}
-use Rattle.office_serving.specs.ListsByRows.{AreDueIn, IsStockIn}
-use Rattle.office_engine.specs.ByRows.{RowsMake, RowsRun, RowsStep, RowsTell}
+use Rattle.office_engine.specs.ByRows.{IsOfficeWith, Rows, RowsMake, RowsRun, RowsStep, RowsTell}
 
 -- ---- a call
 
@@ -121,32 +120,36 @@ IsToldByRows old item given = (IsFailure given → ⊥) → IsOffice old.now →
 abbrev pub StaysShut : State → State → Answer → Type 0
 StaysShut old new given = old.is_open ≡ false → IsFailure given × (new.is_open ≡ false)
 
--- ---- one request, whatever rows an office has
+-- ---- one request, whatever rows an office has: those of its tables, and the contents beside them
 
 -- while the store is open its tables are an office's with these rows, and all of it is committed
-abbrev pub HasRows : Tables → State → Type 0
-HasRows t s = IsTrue s.is_open → Becomes s.now t × (s.committed ≡ s.now)
+abbrev pub HasRows : Rows → State → Type 0
+HasRows r s = IsTrue s.is_open → IsOfficeWith r s.now × (s.committed ≡ s.now)
 
 -- whichever rows an office had, this is a step from them, and it has those that it leads to: after a refusal or a failure, those that it had
 abbrev pub ServesRows : State → State → Item → Answer → Type 0
-ServesRows old new item given = (t : Tables) → HasRows t old → (next : Tables) × RowsStep t item given next × HasRows next new
+ServesRows old new item given = (r : Rows) → HasRows r old → (next : Rows) × RowsStep r item given next × HasRows next new
 
--- what a crash leaves has the rows that the request makes of these
-abbrev pub IsLeftMade : Tables → Item → Trees → Type 0
-IsLeftMade t item left = (given : Answer) × (next : Tables) × RowsMake t item given next × IsLeft next left
+-- what a crash leaves is an office with these rows
+abbrev pub IsLeftWith : Rows → Trees → Type 0
+IsLeftWith r left = (found : Database) × IsOfficeWith r found × (left ≡ found.trees)
+
+-- it has the rows that the request makes of these
+abbrev pub IsLeftMade : Rows → Item → Trees → Type 0
+IsLeftMade r item left = (given : Answer) × (next : Rows) × RowsMake r item given next × IsLeftWith next left
 
 -- the store was open, and whichever rows an office had, a crash may leave those that the request makes of them
 abbrev pub CommitsRows : State → Item → Trees → Type 0
-CommitsRows old item left = IsTrue old.is_open × ((t : Tables) → HasRows t old → IsLeftMade t item left)
+CommitsRows old item left = IsTrue old.is_open × ((r : Rows) → HasRows r old → IsLeftMade r item left)
 
 -- whichever rows an office had, a crash leaves these, or those that the request makes of them
 abbrev pub LeavesRows : State → State → Item → Type 0
-LeavesRows old new item = (t : Tables) → IsTrue old.is_open → HasRows t old → (left : Trees) → new.may_leave left → IsLeft t left ⊎ IsLeftMade t item left
+LeavesRows old new item = (r : Rows) → IsTrue old.is_open → HasRows r old → (left : Trees) → new.may_leave left → IsLeftWith r left ⊎ IsLeftMade r item left
 
 -- after an answer that tells of a change, the rows that it made, and nothing else
 abbrev pub RowsLast : State → State → Item → Answer → Type 0
 RowsLast old new item given =
-    (t : Tables) → HasRows t old → IsTrue (is_accepted given) → (next : Tables) × RowsMake t item given next × ((left : Trees) → new.may_leave left → IsLeft next left)
+    (r : Rows) → HasRows r old → IsTrue (is_accepted given) → (next : Rows) × RowsMake r item given next × ((left : Trees) → new.may_leave left → IsLeftWith next left)
 
 -- ---- requests in turn
 
@@ -180,7 +183,7 @@ Runs old new items given = (h : History) → IsLegal h → IsKeptBy h old → (n
 
 -- whichever rows an office had, the answers are those of a run from them, and it has those that it leads to
 abbrev pub RunsRows : State → State → List Item → List Answer → Type 0
-RunsRows old new items given = (t : Tables) → HasRows t old → (last : Tables) × RowsRun t items given last × HasRows last new
+RunsRows old new items given = (r : Rows) → HasRows r old → (last : Rows) × RowsRun r items given last × HasRows last new
 
 -- ---- what is left of a run
 
@@ -237,7 +240,7 @@ ListsDue old new day caller numbers = (h : History) → IsLegal h → IsKeptBy h
 
 -- whatever rows the tables of an office held, these are the numbers that they told
 abbrev pub AreToldDue : State → Date → List ℕ → List ℕ → Type 0
-AreToldDue old day caller numbers = IsOffice old.now → AreDueIn (tables_of old.now) (visit_on day caller) numbers
+AreToldDue old day caller numbers = IsOffice old.now → by_rows.due_list (tables_of old.now) (visit_on day caller) ≡ Some numbers
 
 -- ---- the stock
 
@@ -247,4 +250,4 @@ CountsStock old new found = (h : History) → IsLegal h → IsKeptBy h old → I
 
 -- whatever contents the tables of an office held, it is the count of them
 abbrev pub IsToldStock : State → Stock → Type 0
-IsToldStock old found = IsOffice old.now → IsStockIn old.now found
+IsToldStock old found = IsOffice old.now → stock_by (contents_of old.now) ≡ Some found

@@ -1,3 +1,4 @@
 pub mod ByRows
+pub mod Deciding
 pub mod Keeping
 pub mod Upgrading

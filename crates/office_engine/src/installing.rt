@@ -7,6 +7,7 @@ ghost use Rattle.office_tables.specs.Faults.{IsFailure};
 ghost use Rattle.office_engine.specs.Keeping.{CommitsTo, IfClean, InstallLasts, Installs, KeepsTables, LeavesEither, LeavesInstalled, after_policy};
 
 use office_core::Policy;
+use office_refines::laws::installs_are_exact;
 use office_tables::TableFault;
 use sqlite::{Alter, Connection, Transaction};
 use std::alloc::Global;
@@ -62,6 +63,7 @@ pub fn install<S: Alter>(
     ensures made { IfClean S.Store conn.old conn.new (λ old new.
         LeavesInstalled old new result) }
 {
+    installs_are_exact();
     // What the type of a policy says of its callers and rules, and the connection of its state.
     let _rules = policy.rules();
     let _is_settled = conn.is_autocommit();

@@ -1,6 +1,6 @@
 //! Laws of the office: those of its histories, and what its tables tell of them.
 
-ghost use Rattle.std.specs.Prelude.{◌≡◌, ◌↔◌, ◌++◌, ℕ, IsTrue, List, [], ◌∷◌, map, pos};
+ghost use Rattle.std.specs.Prelude.{◌≡◌, ◌↔◌, ◌++◌, ℕ, IsTrue, List, [], ◌∷◌, Some, map, pos};
 ghost use Rattle.std.specs.List.{AllByRecursion};
 ghost use Rattle.std.specs.List.Sorted.{IsPermutation};
 ghost use Rattle.jiff.specs.Types.{Date};
@@ -19,9 +19,10 @@ ghost use Rattle.office_history.specs.Pictures.{due_rows};
 ghost use Rattle.office_history.specs.Stocks.{Stock, contents};
 ghost use Rattle.office_history.specs.RowRanges.{AreInRange};
 ghost use Rattle.office_history.specs.Runs.{IsFailure, IsLater, IsLegal, Item, Run, new_history};
+ghost use Rattle.office_by_rows.specs.Answers.{due_list};
+ghost use Rattle.office_by_rows.specs.Asking.{Visit};
+ghost use Rattle.office_by_rows.specs.Stock.{stock_by};
 ghost use Rattle.office_asking.specs.Pictures.{Pictures};
-ghost use Rattle.office_asking.specs.Asking.{Visit};
-ghost use Rattle.office_serving.specs.ListsByRows.{AreDueIn, IsStockIn};
 ghost use Rattle.office_engine.specs.ByRows.{RowsTell};
 ghost use Rattle.office_engine.specs.Keeping.{IsFoundAfter, IsKeptAt, IsKeptBy, IsLeftAt};
 ghost use Rattle.office_engine.specs.Upgrading.{IsLeftOfUpgrade, LeavesAt, StoppedInTurn, TakesUp};
@@ -83,8 +84,9 @@ pub fn the_rows_tell_one_answer()
     ensures answer { (t : Tables) (visit : Visit) (request : Request) (a b : Answer)
         → RowsTell t visit request a → RowsTell t visit request b → a ≡ b }
     ensures due { (t : Tables) (visit : Visit) (a b : List ℕ)
-        → AreDueIn t visit a → AreDueIn t visit b → a ≡ b }
-    ensures stock { (db : Database) (a b : Stock) → IsStockIn db a → IsStockIn db b → a ≡ b }
+        → due_list t visit ≡ Some a → due_list t visit ≡ Some b → a ≡ b }
+    ensures stock { (db : Database) (a b : Stock)
+        → stock_by (contents_of db) ≡ Some a → stock_by (contents_of db) ≡ Some b → a ≡ b }
 {}
 
 /// Tables that picture a legal history have only rows in range: a row out of its range is one that

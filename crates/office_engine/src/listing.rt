@@ -7,8 +7,10 @@ ghost use Rattle.office_tables.specs.Faults.{IsFailure};
 ghost use Rattle.office_engine.specs.Keeping.{AreToldDue, CountsStock, IfClean, IsToldStock, KeepsTables, ListsDue};
 
 use office_core::Day;
+use office_refines::laws::due_lists_are_exact;
 use office_serving::{Stock, due_numbers, stock_of};
 use office_tables::TableFault;
+use office_tables::laws::contents_are_those_of_files;
 use sqlite::{Alter, Connection};
 use std::alloc::Global;
 
@@ -30,6 +32,7 @@ pub fn due_list<S: Alter>(
     ensures kept { IfClean S.Store conn.old conn.new KeepsTables }
     ensures survives { Survives (state S.Store conn.old) (state S.Store conn.new) (λ _. ⊥) }
 {
+    due_lists_are_exact();
     // What the connection says of its state.
     let _is_settled = conn.is_autocommit();
     let mut tx = conn.transaction();
@@ -51,6 +54,7 @@ pub fn stock<S: Alter>(alloc: Global, conn: &mut Connection<S>) -> Result<Stock,
     ensures kept { IfClean S.Store conn.old conn.new KeepsTables }
     ensures survives { Survives (state S.Store conn.old) (state S.Store conn.new) (λ _. ⊥) }
 {
+    contents_are_those_of_files();
     // What the connection says of its state.
     let _is_settled = conn.is_autocommit();
     let mut tx = conn.transaction();

@@ -285,8 +285,8 @@ impl<S: Alter> Office<S> {
         // Whatever was kept, it leaves no other trees than those that were there and those that the request made.
         ensures made { IfClean S.Store self.old self.new (λ old new.
             LeavesMade old new result) }
-        // Whatever rows the office has, an accepted change leaves what `serve` makes of them, and a
-        // refusal or a failure leaves them; a crash leaves the rows before or after.
+        // Whatever rows and contents the office has, an accepted change leaves what `serve_rows` makes
+        // of them, and a refusal or a failure leaves them; a crash leaves those before or after.
         ensures served_rows { IfClean S.Store self.old self.new (λ old new.
             ServesRows old new (day, caller.entry, request.now) result) }
         ensures survives_rows { Survives (state S.Store self.old) (state S.Store self.new)
@@ -308,7 +308,7 @@ impl<S: Alter> Office<S> {
     ) -> Result<Vec<Answer>, AllocError>
         ensures ran { IfClean S.Store self.old self.new (λ old new.
             IfOk result (λ answers. Runs old new items.now answers.items)) }
-        // Whatever rows the office has.
+        // Whatever rows and contents the office has.
         ensures ran_rows { IfClean S.Store self.old self.new (λ old new.
             IfOk result (λ answers. RunsRows old new items.now answers.items)) }
         ensures in_turn { HasCleanDisk (state S.Store self.new)

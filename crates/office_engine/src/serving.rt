@@ -4,11 +4,9 @@ ghost use Rattle.std.specs.Prelude.{◌≡◌, ◌≢◌, ◌⊎◌, IsOkAnd, Is
 ghost use Rattle.sqlite.specs.State.{HasCleanDisk, IsRolledBack, Shows, Survives};
 ghost use Rattle.sqlite.specs.Held.{state};
 ghost use Rattle.office_tables.specs.Calls.{GoesOnInside};
-ghost use Rattle.office_tables.specs.Faults as faults;
 ghost use Rattle.office_history.specs.Runs.{IsFailure};
 ghost use Rattle.office_asking.specs.Asking.{visit_on};
 ghost use Rattle.office_asking.specs.Serving.{Serves};
-ghost use Rattle.office_by_rows.specs.Serving.{serve};
 ghost use Rattle.office_engine.specs.Keeping.{CommitsRows, CommitsTo, IfClean, IsTurn, after_item, is_accepted};
 
 use office_core::{Answer, Day, Refusal, Request};
@@ -58,8 +56,8 @@ fn decide<S: Alter>(
     request: &Request<'_>,
 ) -> Result<Answer, TableFault>
     ensures inside { GoesOnInside S.Store tx.old.conn tx.new.conn result }
-    ensures serves { Serves S.Store tx.old.conn.now tx.new.conn.now result (λ tables.
-        serve tables (visit_on day caller.now) request.now) }
+    ensures serves { Serves S.Store tx.old.conn.now tx.new.conn.now result
+        (visit_on day caller.now) request.now }
 {
     match request {
         Request::DefineClass { name, years } => define_class(alloc, tx, day, caller, name, *years),

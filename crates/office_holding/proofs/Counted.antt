@@ -13,14 +13,14 @@ use Rattle.office_tables.specs.declared.holds.HoldTarget.TheVariants as targets
 use Rattle.office_by_rows.specs.Changes.{counted_on, new_hold}
 use Rattle.office_by_rows.specs.Refusals.{full_after, full_of_holds, highest_hold}
 use Rattle.office_by_rows.specs.Values.{is_between}
-use Rattle.office_holding.specs.Holds.{target_of}
+use Rattle.office_asking.specs.Told.{held_target}
 
 -- whether the office is full, by the limits and the highest number that were read
 pub full_told : (t : Tables) (limits : Limits) → limits_of t ≡ Some limits → (highest : Option ℤ) → highest ≡ highest_hold t → (full : Option Refusal) → full_after limits.max_holds highest ≡ Some full → full_of_holds t ≡ Some full
 full_told t limits are highest is full told = (λ i. are i >>= λ (limits : Limits). full_after limits.max_holds (sym is i)) ∙ told
 
 -- the row that is put is that of the new hold
-pub put_row : (k : ℕ) (day : Date) (target : HoldTarget) (matter : List ℕ) → placed_row target (pos k) matter (epoch_day day) ≡ new_hold k (target_of target) matter day
+pub put_row : (k : ℕ) (day : Date) (target : HoldTarget) (matter : List ℕ) → placed_row target (pos k) matter (epoch_day day) ≡ new_hold k (held_target target) matter day
 put_row k day (targets.Deposit n) matter = refl
 put_row k day (targets.Collection name) matter = refl
 put_row k day (targets.Class name) matter = refl

@@ -18,9 +18,8 @@ use Rattle.office_by_rows.specs.Answers.{allowed_answer}
 use Rattle.office_by_rows.specs.Changes.{allowed_rows, counted_over, new_hold}
 use Rattle.office_by_rows.specs.Refusals.{first_told, full_of_holds, highest_hold, hold_refusals, kept_refusals, number_after, of_deposit, of_hold, refusal, release_denial, release_denial_on, released_refusal}
 use Rattle.office_asking.proofs.FirstTold.{none_first, one_first}
-use Rattle.office_holding.specs.ByRows.{is_there_in, subject_of}
 use Rattle.office_holding.specs.Denials.{denial_of_name, hold_denials_in, name_denial}
-use Rattle.office_holding.specs.Holds.{hold_request}
+use Rattle.office_holding.specs.Targets.{hold_request, is_there_in, subject_of}
 
 -- one that is told stands alone
 pub alone : (why : Option Refusal) → first_told (Some why ∷ []) ≡ Some why

@@ -1,12 +1,2 @@
-pub mod HoldCount
-pub mod HoldPlaces
-pub mod CountTold
-pub mod DuesPlacedOn
-pub mod PlacedTold
-pub mod HoldAsked
-pub mod ReleasedTold
-pub mod HoldsByRows
-pub mod NamesTold
-pub mod OneAnswer
 pub mod Denied
 pub mod Counted

@@ -8,7 +8,7 @@ use Rattle.office_history.specs.Histories.{Target, OnDeposit, OnCollection, OnCl
 use Rattle.office_history.specs.Pictures.{held_class, held_collection}
 use Rattle.office_by_rows.specs.Asking.{Visit, denial_in}
 use Rattle.office_by_rows.specs.Refusals.{kept_refusals, no_such_class, no_such_collection, of_deposit}
-use Rattle.office_holding.specs.ByRows.{is_there_in}
+use Rattle.office_holding.specs.Targets.{is_there_in}
 
 -- the refusal of the rules, if any, where they are asked by the name alone
 abbrev pub denial_of_name : Tables → Visit → Action → Target → Option (Option Refusal)

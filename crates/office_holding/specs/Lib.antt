@@ -1,3 +1,2 @@
-pub mod Holds
-pub mod ByRows
+pub mod Targets
 pub mod Denials

@@ -4,10 +4,9 @@ ghost use Rattle.std.specs.Prelude.{◌≡◌, Some, option_copied};
 ghost use Rattle.office_tables.specs.Calls.{GoesOnInside, Keeps, Shows, Tells};
 ghost use Rattle.office_history.specs.Pictures.{held_class, held_collection};
 ghost use Rattle.office_asking.specs.Asking.{visit_on};
-ghost use Rattle.office_asking.specs.Serving.{Finds};
-ghost use Rattle.office_holding.specs.ByRows.{IsSaidIn, is_there_in};
+ghost use Rattle.office_asking.specs.Told.{held_target};
 ghost use Rattle.office_holding.specs.Denials.{name_denial};
-ghost use Rattle.office_holding.specs.Holds.{IsSaidOf, target_of};
+ghost use Rattle.office_holding.specs.Targets.{is_there_in};
 
 use office_asking::denial;
 use office_core::{Action, Day, Refusal};
@@ -22,7 +21,7 @@ fn is_there<S: Alter>(
     ensures inside { GoesOnInside S.Store tx.old.conn tx.new.conn result }
     ensures same { Keeps S.Store tx.old.conn.now tx.new.conn.now result }
     ensures found { Tells S.Store tx.old.conn.now tx.new.conn.now result (λ tables found.
-        found ≡ is_there_in tables (target_of target.entry)) }
+        found ≡ is_there_in tables (held_target target.entry)) }
 {
     match target {
         HoldTarget::Deposit(number) => Ok(deposit_row(tx, number)?.is_some()),
@@ -33,8 +32,8 @@ fn is_there<S: Alter>(
 
 /// The name of the collection, or of the class, by which the rules are asked.
 fn names_of<'a>(target: HoldTarget<'a>) -> (Option<&'a str>, Option<&'a str>)
-    ensures collection { option_copied result.0 ≡ held_collection (target_of target.entry) }
-    ensures class { option_copied result.1 ≡ held_class (target_of target.entry) }
+    ensures collection { option_copied result.0 ≡ held_collection (held_target target.entry) }
+    ensures class { option_copied result.1 ≡ held_class (held_target target.entry) }
 {
     match target {
         HoldTarget::Deposit(_) => (None, None),
@@ -55,13 +54,8 @@ pub(crate) fn name_denial<S: Alter>(
     target: HoldTarget<'_>,
 ) -> Result<Option<Option<Refusal>>, TableFault>
     ensures inside { GoesOnInside S.Store tx.old.conn tx.new.conn result }
-    ensures same { Keeps S.Store tx.old.conn.now tx.new.conn.now result }
-    ensures denied { Finds S.Store tx.old.conn.now tx.new.conn.now result (λ h said.
-        IsSaidOf h (visit_on day caller.now) action (target_of target.entry) said) }
-    ensures rows { Tells S.Store tx.old.conn.now tx.new.conn.now result (λ tables said.
-        IsSaidIn tables (visit_on day caller.now) action (target_of target.entry) said) }
     ensures reads { Shows S.Store tx.old.conn.now tx.new.conn.now result (λ tables said.
-        name_denial tables (visit_on day caller.now) action (target_of target.entry)
+        name_denial tables (visit_on day caller.now) action (held_target target.entry)
         ≡ Some said) }
 {
     if !is_there(tx, target)? {

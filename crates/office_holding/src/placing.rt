@@ -1,23 +1,17 @@
 //! Holds that are placed on deposits, collections and classes.
 
-ghost use Rattle.std.specs.Prelude.{◌≡◌, ◌++◌, IfOk, List, Some, pos, [], ◌∷◌, ℕ};
+ghost use Rattle.std.specs.Prelude.{◌≡◌, IfOk, List, Some, pos, ℕ};
 ghost use Rattle.std.specs.Result.{result_err};
-ghost use Rattle.office_core.specs.FirstOf.{first_some};
 ghost use Rattle.office_core.specs.declared.request.Request.TheVariants as requests;
 ghost use Rattle.office_rows.specs.Rows.{with_hold};
-ghost use Rattle.office_tables.specs.Calls.{GoesOnInside, Keeps, Shows, Tells};
-ghost use Rattle.office_tables.specs.ShownHolds.{held_deposit};
-ghost use Rattle.office_history.specs.Histories.{PlacedHold};
-ghost use Rattle.office_history.specs.Refusals.{full_of_holds};
+ghost use Rattle.office_tables.specs.Calls.{GoesOnInside, Shows};
 ghost use Rattle.office_by_rows.specs.Changes.{counted_over, new_hold};
-ghost use Rattle.office_by_rows.specs.Refusals as by_rows;
-ghost use Rattle.office_by_rows.specs.Refusals.{first_told, highest_hold, number_after, refusal};
-ghost use Rattle.office_by_rows.specs.Serving.{serve};
+ghost use Rattle.office_by_rows.specs.Refusals.{first_told, full_of_holds, highest_hold, number_after, refusal};
 ghost use Rattle.office_asking.specs.Asking.{visit_on};
-ghost use Rattle.office_asking.specs.Serving.{Accepts, Changes, Decides, Finds, Serves};
+ghost use Rattle.office_asking.specs.Serving.{Changes, Serves};
+ghost use Rattle.office_asking.specs.Told.{held_target};
 ghost use Rattle.office_holding.specs.Denials.{hold_denials_in};
-ghost use Rattle.office_holding.specs.Holds.{IsNext, IsNextOrRefused, hold_denials, hold_request, target_of};
-ghost use Rattle.office_holding.specs.ByRows.{IsClassHeldIn, IsCollectionHeldIn, IsCountableOn, IsDepositHeldIn, IsHeldIn, IsHoldDenialIn, IsNextHoldIn, IsPlaceIn, subject_of};
+ghost use Rattle.office_holding.specs.Targets.{hold_request, subject_of};
 
 use crate::asking::name_denial;
 use crate::counting::count_over;
@@ -30,12 +24,8 @@ use sqlite::{Alter, Transaction};
 /// The number of the next hold, where the office takes one more.
 fn next_hold<S: Alter>(tx: &mut Transaction<'_, S>) -> Result<Result<u32, Refusal>, TableFault>
     ensures inside { GoesOnInside S.Store tx.old.conn tx.new.conn result }
-    ensures same { Keeps S.Store tx.old.conn.now tx.new.conn.now result }
-    ensures next { Finds S.Store tx.old.conn.now tx.new.conn.now result (λ h place.
-        IsNextOrRefused h (full_of_holds h ∷ []) place) }
-    ensures rows { Tells S.Store tx.old.conn.now tx.new.conn.now result IsNextHoldIn }
     ensures full { Shows S.Store tx.old.conn.now tx.new.conn.now result (λ tables place.
-        by_rows.full_of_holds tables ≡ Some (result_err place)) }
+        full_of_holds tables ≡ Some (result_err place)) }
     ensures number { Shows S.Store tx.old.conn.now tx.new.conn.now result (λ tables place.
         IfOk place (λ number. number_after (highest_hold tables) ≡ Some number)) }
 {
@@ -54,17 +44,9 @@ fn place<S: Alter>(
     matter: &str,
 ) -> Result<(), TableFault>
     ensures inside { GoesOnInside S.Store tx.old.conn tx.new.conn result }
-    ensures placed { Accepts S.Store tx.old.conn.now tx.new.conn.now result
-        (record {
-          was_so = λ h. IsNext h number;
-          changes =
-              PlacedHold day (record { target = target_of target.entry; matter = matter.now }) ∷ [];
-        }) }
-    ensures rows { Tells S.Store tx.old.conn.now tx.new.conn.now result (λ tables _.
-        IsCountableOn tables (held_deposit target.entry) (pos 1)) }
     ensures changes { Changes S.Store tx.old.conn.now tx.new.conn.now result (λ tables.
-        counted_over (target_of target.entry) (pos 1)
-        (with_hold (new_hold number (target_of target.entry) matter.now day) tables)) }
+        counted_over (held_target target.entry) (pos 1)
+        (with_hold (new_hold number (held_target target.entry) matter.now day) tables)) }
 {
     put_hold(tx, number, target, matter, kept_day(day))?;
     count_over(tx, target, 1)
@@ -72,7 +54,7 @@ fn place<S: Alter>(
 
 /// What is named, as a refusal says that there is none.
 fn subject_of(target: HoldTarget<'_>) -> Subject
-    ensures { result ≡ subject_of (target_of target.entry) }
+    ensures { result ≡ subject_of (held_target target.entry) }
 {
     match target {
         HoldTarget::Deposit(_) => Subject::Deposit,
@@ -90,13 +72,8 @@ fn hold_denial<S: Alter>(
     target: HoldTarget<'_>,
 ) -> Result<Option<Refusal>, TableFault>
     ensures inside { GoesOnInside S.Store tx.old.conn tx.new.conn result }
-    ensures same { Keeps S.Store tx.old.conn.now tx.new.conn.now result }
-    ensures denied { Finds S.Store tx.old.conn.now tx.new.conn.now result (λ h why.
-        why ≡ first_some (hold_denials h day caller.now (target_of target.entry))) }
-    ensures rows { Tells S.Store tx.old.conn.now tx.new.conn.now result (λ tables why.
-        IsHoldDenialIn tables (visit_on day caller.now) (target_of target.entry) why) }
     ensures reads { Shows S.Store tx.old.conn.now tx.new.conn.now result (λ tables why.
-        first_told (hold_denials_in tables (visit_on day caller.now) (target_of target.entry))
+        first_told (hold_denials_in tables (visit_on day caller.now) (held_target target.entry))
         ≡ Some why) }
 {
     match target {
@@ -118,16 +95,10 @@ fn place_for<S: Alter>(
     target: HoldTarget<'_>,
 ) -> Result<Result<u32, Refusal>, TableFault>
     ensures inside { GoesOnInside S.Store tx.old.conn tx.new.conn result }
-    ensures same { Keeps S.Store tx.old.conn.now tx.new.conn.now result }
-    ensures found { Finds S.Store tx.old.conn.now tx.new.conn.now result (λ h place.
-        IsNextOrRefused h
-        (hold_denials h day caller.now (target_of target.entry) ++ full_of_holds h ∷ []) place) }
-    ensures rows { Tells S.Store tx.old.conn.now tx.new.conn.now result (λ tables place.
-        IsPlaceIn tables (visit_on day caller.now) (target_of target.entry) place) }
     ensures reads { Shows S.Store tx.old.conn.now tx.new.conn.now result (λ tables place.
         (matter : List ℕ)
         → refusal tables (visit_on day caller.now)
-        (hold_request (target_of target.entry) matter)
+        (hold_request (held_target target.entry) matter)
         ≡ Some (result_err place)) }
     ensures number { Shows S.Store tx.old.conn.now tx.new.conn.now result (λ tables place.
         IfOk place (λ number. number_after (highest_hold tables) ≡ Some number)) }
@@ -147,13 +118,8 @@ fn hold<S: Alter>(
     matter: &str,
 ) -> Result<Answer, TableFault>
     ensures inside { GoesOnInside S.Store tx.old.conn tx.new.conn result }
-    ensures decides { Decides S.Store tx.old.conn.now tx.new.conn.now result
-        (day, caller.entry, hold_request (target_of target.entry) matter.now) }
-    ensures rows { Tells S.Store tx.old.conn.now tx.new.conn.now result (λ tables answer.
-        IsHeldIn tables (visit_on day caller.now) (target_of target.entry) answer) }
-    ensures serves { Serves S.Store tx.old.conn.now tx.new.conn.now result (λ tables.
-        serve tables (visit_on day caller.now)
-        (hold_request (target_of target.entry) matter.now)) }
+    ensures serves { Serves S.Store tx.old.conn.now tx.new.conn.now result
+        (visit_on day caller.now) (hold_request (held_target target.entry) matter.now) }
 {
     match place_for(tx, day, caller, target)? {
         Ok(hold) => {
@@ -175,12 +141,8 @@ pub fn hold_collection<S: Alter>(
     matter: &Matter<'_>,
 ) -> Result<Answer, TableFault>
     ensures inside { GoesOnInside S.Store tx.old.conn tx.new.conn result }
-    ensures decides { Decides S.Store tx.old.conn.now tx.new.conn.now result
-        (day, caller.entry, requests.HoldCollection name.now matter.now) }
-    ensures rows { Tells S.Store tx.old.conn.now tx.new.conn.now result (λ tables answer.
-        IsCollectionHeldIn tables (visit_on day caller.now) name.now answer) }
-    ensures serves { Serves S.Store tx.old.conn.now tx.new.conn.now result (λ tables.
-        serve tables (visit_on day caller.now) (requests.HoldCollection name.now matter.now)) }
+    ensures serves { Serves S.Store tx.old.conn.now tx.new.conn.now result
+        (visit_on day caller.now) (requests.HoldCollection name.now matter.now) }
 {
     let target = HoldTarget::Collection(name.as_str());
     hold(tx, day, caller, target, matter.as_str())
@@ -197,12 +159,8 @@ pub fn hold_class<S: Alter>(
     matter: &Matter<'_>,
 ) -> Result<Answer, TableFault>
     ensures inside { GoesOnInside S.Store tx.old.conn tx.new.conn result }
-    ensures decides { Decides S.Store tx.old.conn.now tx.new.conn.now result
-        (day, caller.entry, requests.HoldClass name.now matter.now) }
-    ensures rows { Tells S.Store tx.old.conn.now tx.new.conn.now result (λ tables answer.
-        IsClassHeldIn tables (visit_on day caller.now) name.now answer) }
-    ensures serves { Serves S.Store tx.old.conn.now tx.new.conn.now result (λ tables.
-        serve tables (visit_on day caller.now) (requests.HoldClass name.now matter.now)) }
+    ensures serves { Serves S.Store tx.old.conn.now tx.new.conn.now result
+        (visit_on day caller.now) (requests.HoldClass name.now matter.now) }
 {
     let target = HoldTarget::Class(name.as_str());
     hold(tx, day, caller, target, matter.as_str())
@@ -219,12 +177,8 @@ pub fn hold_deposit<S: Alter>(
     matter: &Matter<'_>,
 ) -> Result<Answer, TableFault>
     ensures inside { GoesOnInside S.Store tx.old.conn tx.new.conn result }
-    ensures decides { Decides S.Store tx.old.conn.now tx.new.conn.now result
-        (day, caller.entry, requests.HoldDeposit number matter.now) }
-    ensures rows { Tells S.Store tx.old.conn.now tx.new.conn.now result (λ tables answer.
-        IsDepositHeldIn tables (visit_on day caller.now) number answer) }
-    ensures serves { Serves S.Store tx.old.conn.now tx.new.conn.now result (λ tables.
-        serve tables (visit_on day caller.now) (requests.HoldDeposit number matter.now)) }
+    ensures serves { Serves S.Store tx.old.conn.now tx.new.conn.now result
+        (visit_on day caller.now) (requests.HoldDeposit number matter.now) }
 {
     let target = HoldTarget::Deposit(number);
     hold(tx, day, caller, target, matter.as_str())

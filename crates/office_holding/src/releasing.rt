@@ -1,26 +1,20 @@
 //! Holds that are released.
 
-ghost use Rattle.std.specs.Prelude.{◌≡◌, ◌↔◌, IfErr, IfOk, None, Option, Some, negsuc, option_map, pos, [], ◌∷◌};
+ghost use Rattle.std.specs.Prelude.{◌≡◌, ◌↔◌, IfErr, IfOk, None, Some, negsuc, pos, [], ◌∷◌};
 ghost use Rattle.std.specs.Result.{result_err};
 ghost use Rattle.jiff.specs.Words.{epoch_day};
-ghost use Rattle.office_core.specs.FirstOf.{first_some};
 ghost use Rattle.office_core.specs.declared.answer.LiveHold.{LiveHold};
-ghost use Rattle.office_core.specs.declared.refusal.Refusal.TheVariants.{Released};
 ghost use Rattle.office_core.specs.declared.request.Request.TheVariants as requests;
 ghost use Rattle.office_rows.specs.Rows.{hold_numbered, with_released};
 ghost use Rattle.office_tables.specs.Faults.{IsFailure};
-ghost use Rattle.office_tables.specs.Calls.{GoesOnInside, Keeps, Shows, Tells};
-ghost use Rattle.office_tables.specs.ShownHolds.{held_class, held_collection, held_deposit};
-ghost use Rattle.office_history.specs.Histories.{OnDeposit, ReleasedHold};
-ghost use Rattle.office_history.specs.Refusals.{release_denial};
+ghost use Rattle.office_tables.specs.Calls.{GoesOnInside, Shows};
+ghost use Rattle.office_history.specs.Histories.{OnDeposit};
+ghost use Rattle.office_by_rows.specs.Asking.{hold_by};
 ghost use Rattle.office_by_rows.specs.Changes.{counted_over};
 ghost use Rattle.office_by_rows.specs.Refusals.{first_told, refusal, release_denial_on, released_refusal};
-ghost use Rattle.office_by_rows.specs.Serving.{serve};
 ghost use Rattle.office_asking.specs.Asking.{visit_on};
-ghost use Rattle.office_asking.specs.Serving.{Accepts, Changes, Decides, Finds, Serves};
-ghost use Rattle.office_asking.specs.Holds.{IsHoldOf};
-ghost use Rattle.office_holding.specs.ByRows.{IsCountableOn, IsDepositReleaseIn, IsReleasableIn, IsReleaseDenialIn, IsReleasedIn, IsRowUnless};
-ghost use Rattle.office_holding.specs.Holds.{IsLiveOn, IsReleaseAsked, IsUnless, target_of};
+ghost use Rattle.office_asking.specs.Serving.{Changes, Serves};
+ghost use Rattle.office_asking.specs.Told.{held_target};
 
 use crate::asking::name_denial;
 use crate::counting::count_over;
@@ -42,11 +36,6 @@ fn deposit_release_denial<S: Alter>(
     number: u32,
 ) -> Result<Option<Refusal>, TableFault>
     ensures inside { GoesOnInside S.Store tx.old.conn tx.new.conn result }
-    ensures same { Keeps S.Store tx.old.conn.now tx.new.conn.now result }
-    ensures denied { Finds S.Store tx.old.conn.now tx.new.conn.now result (λ h why.
-        why ≡ release_denial h day caller.now (OnDeposit number)) }
-    ensures rows { Tells S.Store tx.old.conn.now tx.new.conn.now result (λ tables why.
-        IsDepositReleaseIn tables (visit_on day caller.now) (pos number) why) }
     ensures reads { Shows S.Store tx.old.conn.now tx.new.conn.now result (λ tables why.
         release_denial_on tables (visit_on day caller.now) (OnDeposit number) ≡ Some why) }
 {
@@ -72,14 +61,8 @@ fn release_denial<S: Alter>(
     target: HoldTarget<'_>,
 ) -> Result<Option<Refusal>, TableFault>
     ensures inside { GoesOnInside S.Store tx.old.conn tx.new.conn result }
-    ensures same { Keeps S.Store tx.old.conn.now tx.new.conn.now result }
-    ensures denied { Finds S.Store tx.old.conn.now tx.new.conn.now result (λ h why.
-        why ≡ release_denial h day caller.now (target_of target.entry)) }
-    ensures rows { Tells S.Store tx.old.conn.now tx.new.conn.now result (λ tables why.
-        IsReleaseDenialIn tables (visit_on day caller.now)
-        (held_deposit target.entry, held_collection target.entry, held_class target.entry) why) }
     ensures reads { Shows S.Store tx.old.conn.now tx.new.conn.now result (λ tables why.
-        release_denial_on tables (visit_on day caller.now) (target_of target.entry)
+        release_denial_on tables (visit_on day caller.now) (held_target target.entry)
         ≡ Some why) }
 {
     match target {
@@ -100,10 +83,6 @@ fn unless_refused(
     denied: Option<Refusal>,
 ) -> Result<Result<HoldRow, Refusal>, TableFault>
     ensures failure { IfErr result IsFailure }
-    ensures first { IfOk result (λ found.
-        (day : Option Day) → option_map epoch_day day ≡ hold.released
-        → IsUnless hold (first_some (denied ∷ option_map Released day ∷ [])) found) }
-    ensures rows { IfOk result (λ found. IsRowUnless denied hold found) }
     ensures reads { IfOk result (λ found.
         first_told (Some denied ∷ released_refusal hold ∷ []) ≡ Some (result_err found)) }
     ensures row { IfOk result (λ found. IfOk found (λ row. row ≡ hold)) }
@@ -113,7 +92,7 @@ fn unless_refused(
         ↔ (first_told (Some denied ∷ released_refusal hold ∷ []) ≡ None)) }
     // It wants memory only for a hold: a row that tells of none is a fault of the store.
     ensures memory { IfErr result (λ fault.
-        fault ≡ TableFault.Memory → (told : LiveHold) × IsHoldOf hold told) }
+        fault ≡ TableFault.Memory → (told : LiveHold) × (hold_by hold ≡ Some told)) }
 {
     if let Some(why) = denied {
         return Ok(Err(why));
@@ -135,11 +114,6 @@ fn releasable_hold<S: Alter>(
     number: u32,
 ) -> Result<Result<HoldRow, Refusal>, TableFault>
     ensures inside { GoesOnInside S.Store tx.old.conn tx.new.conn result }
-    ensures same { Keeps S.Store tx.old.conn.now tx.new.conn.now result }
-    ensures asked { Finds S.Store tx.old.conn.now tx.new.conn.now result (λ h found.
-        IsReleaseAsked h day caller.now number found) }
-    ensures rows { Tells S.Store tx.old.conn.now tx.new.conn.now result (λ tables found.
-        IsReleasableIn tables (visit_on day caller.now) number found) }
     ensures reads { Shows S.Store tx.old.conn.now tx.new.conn.now result (λ tables found.
         refusal tables (visit_on day caller.now) (requests.Release number)
         ≡ Some (result_err found)) }
@@ -163,15 +137,8 @@ fn end<S: Alter>(
     target: HoldTarget<'_>,
 ) -> Result<(), TableFault>
     ensures inside { GoesOnInside S.Store tx.old.conn tx.new.conn result }
-    ensures ended { Accepts S.Store tx.old.conn.now tx.new.conn.now result
-        (record {
-          was_so = λ h. IsLiveOn h number (target_of target.entry);
-          changes = ReleasedHold day number ∷ [];
-        }) }
-    ensures rows { Tells S.Store tx.old.conn.now tx.new.conn.now result (λ tables _.
-        IsCountableOn tables (held_deposit target.entry) (negsuc 0)) }
     ensures changes { Changes S.Store tx.old.conn.now tx.new.conn.now result (λ tables.
-        counted_over (target_of target.entry) (negsuc 0)
+        counted_over (held_target target.entry) (negsuc 0)
         (with_released (pos number) (epoch_day day) tables)) }
 {
     end_hold(tx, number, kept_day(day))?;
@@ -189,12 +156,8 @@ pub fn release<S: Alter>(
     hold: u32,
 ) -> Result<Answer, TableFault>
     ensures inside { GoesOnInside S.Store tx.old.conn tx.new.conn result }
-    ensures decides { Decides S.Store tx.old.conn.now tx.new.conn.now result
-        (day, caller.entry, requests.Release hold) }
-    ensures rows { Tells S.Store tx.old.conn.now tx.new.conn.now result (λ tables answer.
-        IsReleasedIn tables (visit_on day caller.now) hold answer) }
-    ensures serves { Serves S.Store tx.old.conn.now tx.new.conn.now result (λ tables.
-        serve tables (visit_on day caller.now) (requests.Release hold)) }
+    ensures serves { Serves S.Store tx.old.conn.now tx.new.conn.now result
+        (visit_on day caller.now) (requests.Release hold) }
 {
     match releasable_hold(alloc, tx, day, caller, hold)? {
         Ok(row) => {

@@ -1,10 +1,4 @@
-pub mod GoneTold
-pub mod AccessionTold
-pub mod Placing
-pub mod DepositedTold
-pub mod AskedFor
-pub mod RowsTold
-pub mod OneAnswer
-pub mod Written
+pub mod FilesAdded
+pub mod Rewritten
 pub mod RefusedFirst
 pub mod KeptAs

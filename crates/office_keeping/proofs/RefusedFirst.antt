@@ -1,13 +1,15 @@
--- What the refusals of a deposit come to, each as the rows tell it.
-use Rattle.std.proofs.Common.{◌≡◌, ℕ, ℤ, true, false, not, List, [], ◌∷◌, map, Option, Some, None, Result, IfOk, option_map, is_some, is_none, refl, sym, ap, subst, ◌∙◌}
+-- What the refusals of a deposit and of a disposal come to, each as the rows tell it.
+use Rattle.std.proofs.Common.{◌≡◌, ℕ, ℤ, pos, true, false, not, List, [], ◌∷◌, map, Option, Some, None, Result, IfOk, option_map, is_some, is_none, refl, sym, ap, subst, ◌∙◌}
+use Rattle.std.proofs.lemmas.Bool.Decides.{Decides-int_eq}
 use Rattle.sqlite.specs.Effect.{Database}
 use Rattle.office_core.specs.FirstOf.{answer_if, first_some}
 use Rattle.office_core.specs.declared.action.Action.TheVariants as acts
 use Rattle.office_core.specs.declared.refusal.Refusal.{Refusal}
 use Rattle.office_core.specs.declared.refusal.Refusal.TheVariants.{NoSuch}
 use Rattle.office_core.specs.declared.refusal.Subject.TheVariants as subjects
-use Rattle.office_rows.specs.Rows.{ClassRow, Tables, class_named, has_collection}
+use Rattle.office_rows.specs.Rows.{ClassRow, DepositRow, Tables, class_named, deposit_numbered, has_collection, is_deposit}
 use Rattle.office_tables.specs.Tables.{tables_of}
+use Rattle.office_tables.proofs.OrderLemmas.{first_passes}
 use Rattle.office_by_rows.specs.Asking.{Visit, denial_in}
 use Rattle.office_by_rows.specs.Refusals.{first_told, no_such_class, place_refusals}
 
@@ -50,3 +52,9 @@ module _ (t : Tables) (visit : Visit) (collection class : List ℕ) where
     denial_first e why is =
         let some = sym (ap not e ∙ is_there (class_named class t.classes) found read) in
         (λ i. first_told (Some (answer_if (not (sym there i)) (NoSuch subjects.Collection)) ∷ Some (answer_if (some i) (NoSuch subjects.Class)) ∷ is i ∷ [])) ∙ one_told why
+
+-- ---- a deposit that is destroyed
+
+-- the row that is found by a number has it
+pub row_number : (t : Tables) (n : ℕ) (row : DepositRow) → Some row ≡ deposit_numbered (pos n) t.deposits → pos n ≡ row.number
+row_number t n row found = sym ((Decides-int_eq row.number (pos n)).0 (first_passes (is_deposit (pos n)) t.deposits row (sym found)))

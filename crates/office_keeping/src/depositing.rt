@@ -1,24 +1,16 @@
 //! Deposits of bags.
 
-ghost use Rattle.std.specs.Prelude.{◌≡◌, IfErr, IfOk, [], ◌∷◌, Ok, Some, length};
+ghost use Rattle.std.specs.Prelude.{◌≡◌, IfErr, IfOk, [], ◌∷◌, Ok, Some};
 ghost use Rattle.std.specs.Result.{result_err};
 ghost use Rattle.office_core.specs.FirstOf.{first_some};
-ghost use Rattle.office_core.specs.declared.request.Request.TheVariants as requests;
 ghost use Rattle.office_tables.specs.Faults.{IsFailure};
-ghost use Rattle.office_tables.specs.Calls.{GoesOnInside, Keeps, Shows, Tells};
+ghost use Rattle.office_tables.specs.Calls.{GoesOnInside, Shows};
 ghost use Rattle.office_history.specs.Bags.{bag_of};
-ghost use Rattle.office_history.specs.Histories.{History, deposits};
-ghost use Rattle.office_history.specs.Refusals as refusals;
-ghost use Rattle.office_history.specs.Refusals.{place_refusals, bad_bag, closed_ahead_refusal, full_of_deposits};
+ghost use Rattle.office_history.specs.Refusals.{bad_bag, closed_ahead_refusal};
 ghost use Rattle.office_by_rows.specs.Refusals as by_rows;
 ghost use Rattle.office_by_rows.specs.Refusals.{first_told, highest_deposit, number_after};
-ghost use Rattle.office_by_rows.specs.Serving.{serve};
-ghost use Rattle.office_asking.specs.Asking.{visit_on};
-ghost use Rattle.office_asking.specs.Limits.{IsNumberAfter, IsRefusedOr};
-ghost use Rattle.office_asking.specs.Serving.{Decides, Finds, Serves};
+ghost use Rattle.office_asking.specs.Serving.{Serves};
 ghost use Rattle.office_keeping.specs.Asked.{first_refusals, request_of, visit_of};
-ghost use Rattle.office_keeping.specs.ByRows.{IsAskedOfDeposit, IsDepositedIn, IsNextDepositIn, IsPlaceRefusalIn, IsRefusalBeforeTheBag, IsTakenIn, values_of};
-ghost use Rattle.office_keeping.specs.Depositing.{IsAskedFor, number_for, refusals_before_the_bag};
 
 use crate::asked::DepositAsked;
 use crate::keeping::keep;
@@ -37,15 +29,6 @@ fn place_refusal<S: Alter>(
     asked: &DepositAsked<'_>,
 ) -> Result<Option<Refusal>, TableFault>
     ensures inside { GoesOnInside S.Store tx.old.conn tx.new.conn result }
-    ensures refusal { Finds S.Store tx.old.conn.now tx.new.conn.now result (λ h why.
-        why
-        ≡ first_some
-        (place_refusals h asked.now.day asked.now.caller.now asked.now.collection.now
-        asked.now.class.now)) }
-    ensures same { Keeps S.Store tx.old.conn.now tx.new.conn.now result }
-    ensures rows { Tells S.Store tx.old.conn.now tx.new.conn.now result (λ tables why.
-        IsPlaceRefusalIn tables (visit_on asked.now.day asked.now.caller.now)
-        asked.now.collection.now asked.now.class.now why) }
     ensures reads { Shows S.Store tx.old.conn.now tx.new.conn.now result (λ tables why.
         first_told
         (by_rows.place_refusals tables (visit_of asked.now) asked.now.collection.now
@@ -76,11 +59,6 @@ fn taken_refusal<S: Alter>(
     accession: &Accession<'_>,
 ) -> Result<Option<Refusal>, TableFault>
     ensures inside { GoesOnInside S.Store tx.old.conn tx.new.conn result }
-    ensures taken { Finds S.Store tx.old.conn.now tx.new.conn.now result (λ h why.
-        why ≡ refusals.taken_refusal h accession.now) }
-    ensures same { Keeps S.Store tx.old.conn.now tx.new.conn.now result }
-    ensures rows { Tells S.Store tx.old.conn.now tx.new.conn.now result (λ tables why.
-        IsTakenIn tables accession.now why) }
     ensures reads { Shows S.Store tx.old.conn.now tx.new.conn.now result (λ tables why.
         by_rows.taken_refusal tables accession.now ≡ Some why) }
 {
@@ -106,11 +84,6 @@ fn refusal_before_the_bag<S: Alter>(
     asked: &DepositAsked<'_>,
 ) -> Result<Option<Refusal>, TableFault>
     ensures inside { GoesOnInside S.Store tx.old.conn tx.new.conn result }
-    ensures refusal { Finds S.Store tx.old.conn.now tx.new.conn.now result (λ h why.
-        why ≡ first_some (refusals_before_the_bag h (values_of asked.now))) }
-    ensures same { Keeps S.Store tx.old.conn.now tx.new.conn.now result }
-    ensures rows { Tells S.Store tx.old.conn.now tx.new.conn.now result (λ tables why.
-        IsRefusalBeforeTheBag tables (values_of asked.now) why) }
     ensures reads { Shows S.Store tx.old.conn.now tx.new.conn.now result (λ tables why.
         first_told (first_refusals tables asked.now) ≡ Some why) }
 {
@@ -126,10 +99,6 @@ fn refusal_before_the_bag<S: Alter>(
 /// The number of the next deposit, where the office takes one more.
 fn next_number<S: Alter>(tx: &mut Transaction<'_, S>) -> Result<Result<u32, Refusal>, TableFault>
     ensures inside { GoesOnInside S.Store tx.old.conn tx.new.conn result }
-    ensures next { Finds S.Store tx.old.conn.now tx.new.conn.now result (λ h next.
-        IsNumberAfter (length (deposits h)) h.max_deposits next) }
-    ensures same { Keeps S.Store tx.old.conn.now tx.new.conn.now result }
-    ensures rows { Tells S.Store tx.old.conn.now tx.new.conn.now result IsNextDepositIn }
     ensures full { Shows S.Store tx.old.conn.now tx.new.conn.now result (λ tables next.
         by_rows.full_of_deposits tables ≡ Some (result_err next)) }
     ensures number { Shows S.Store tx.old.conn.now tx.new.conn.now result (λ tables next.
@@ -156,11 +125,6 @@ fn judged_bag<'a>(
 ) -> Result<Result<NewBag<'a>, Refusal>, TableFault>
     ensures failure { IfErr result IsFailure }
     ensures memory { IfErr result (λ fault. fault ≡ TableFault.Memory) }
-    ensures judged { IfOk result (λ asked. (h : History)
-        → IsNumberAfter (length (deposits h)) h.max_deposits number
-        → IsAskedFor h text.entry.now (bad_bag text.entry.now ∷ full_of_deposits h ∷ []) asked) }
-    ensures numbered { IfOk result (λ asked.
-        IsRefusedOr (bad_bag text.entry.now) (λ next. next ≡ number) (number_for asked)) }
     ensures refused { IfOk result (λ asked.
         result_err asked ≡ first_some (bad_bag text.entry.now ∷ result_err number ∷ [])) }
     ensures given { IfOk result (λ asked. IfOk asked (λ new. number ≡ Ok new.number)) }
@@ -184,11 +148,6 @@ fn numbered_bag<'a, S: Alter>(
     text: &'a [u8],
 ) -> Result<Result<NewBag<'a>, Refusal>, TableFault>
     ensures inside { GoesOnInside S.Store tx.old.conn tx.new.conn result }
-    ensures numbered { Finds S.Store tx.old.conn.now tx.new.conn.now result (λ h asked.
-        IsAskedFor h text.entry.now (bad_bag text.entry.now ∷ full_of_deposits h ∷ []) asked) }
-    ensures same { Keeps S.Store tx.old.conn.now tx.new.conn.now result }
-    ensures rows { Tells S.Store tx.old.conn.now tx.new.conn.now result (λ tables asked.
-        IsRefusedOr (bad_bag text.entry.now) (IsNextDepositIn tables) (number_for asked)) }
     ensures refused { Shows S.Store tx.old.conn.now tx.new.conn.now result (λ tables asked.
         first_told (Some (bad_bag text.entry.now) ∷ by_rows.full_of_deposits tables ∷ [])
         ≡ Some (result_err asked)) }
@@ -208,14 +167,6 @@ fn new_bag<'a, S: Alter>(
     text: &'a [u8],
 ) -> Result<Result<NewBag<'a>, Refusal>, TableFault>
     ensures inside { GoesOnInside S.Store tx.old.conn tx.new.conn result }
-    ensures asked { Finds S.Store tx.old.conn.now tx.new.conn.now result (λ h given.
-        IsAskedFor h text.entry.now
-        (refusals.refusals h asked.now.day asked.now.caller.now
-        (requests.Deposit asked.now.collection.now asked.now.class.now asked.now.accession.now
-        asked.now.closed text.entry)) given) }
-    ensures same { Keeps S.Store tx.old.conn.now tx.new.conn.now result }
-    ensures rows { Tells S.Store tx.old.conn.now tx.new.conn.now result (λ tables given.
-        IsAskedOfDeposit tables (values_of asked.now) text.entry.now (number_for given)) }
     ensures refused { Shows S.Store tx.old.conn.now tx.new.conn.now result (λ tables given.
         by_rows.refusal tables (visit_of asked.now) (request_of asked.now text.entry)
         ≡ Some (result_err given)) }
@@ -241,16 +192,8 @@ pub fn deposit<S: Alter>(
     bag: &[u8],
 ) -> Result<Answer, TableFault>
     ensures inside { GoesOnInside S.Store tx.old.conn tx.new.conn result }
-    ensures decides { Decides S.Store tx.old.conn.now tx.new.conn.now result (
-      asked.now.day,
-      asked.now.caller,
-      requests.Deposit asked.now.collection.now asked.now.class.now asked.now.accession.now
-          asked.now.closed bag.entry,
-    ) }
-    ensures rows { Tells S.Store tx.old.conn.now tx.new.conn.now result (λ tables given.
-        IsDepositedIn tables (values_of asked.now) bag.entry.now given) }
-    ensures serves { Serves S.Store tx.old.conn.now tx.new.conn.now result (λ tables.
-        serve tables (visit_of asked.now) (request_of asked.now bag.entry)) }
+    ensures serves { Serves S.Store tx.old.conn.now tx.new.conn.now result (visit_of asked.now)
+        (request_of asked.now bag.entry) }
 {
     let new = match new_bag(alloc, tx, asked, bag)? {
         Ok(new) => new,

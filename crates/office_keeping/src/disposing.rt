@@ -1,21 +1,17 @@
 //! The disposal of deposits.
 
-ghost use Rattle.std.specs.Prelude.{◌≡◌, [], ◌∷◌, None, Some};
+ghost use Rattle.std.specs.Prelude.{◌≡◌, Some, pos};
 ghost use Rattle.office_core.specs.declared.request.Request.TheVariants as requests;
-ghost use Rattle.office_tables.specs.Calls.{GoesOnInside, Shows, Tells};
-ghost use Rattle.office_history.specs.Histories.{Destroyed, destruction_day};
-ghost use Rattle.office_history.specs.Refusals.{refusal};
+ghost use Rattle.office_tables.specs.Calls.{GoesOnInside, Shows};
 ghost use Rattle.office_by_rows.specs.Changes.{destroyed};
 ghost use Rattle.office_by_rows.specs.Refusals as by_rows;
-ghost use Rattle.office_by_rows.specs.Serving.{serve};
 ghost use Rattle.office_asking.specs.Asking.{visit_on};
-ghost use Rattle.office_asking.specs.Serving.{Accepts, Changes, Decides, Finds, Serves};
-ghost use Rattle.office_keeping.specs.ByRows.{IsDisposalRefusalIn, IsDisposedIn};
+ghost use Rattle.office_asking.specs.Contents.{without_contents_of};
+ghost use Rattle.office_asking.specs.Serving.{Rewrites, Serves};
 
 use office_asking::{Asker, disposal_facts};
 use office_core::{Answer, Day, Refusal, Subject, verdict};
 use office_history::judging::refusal_of;
-use office_history::laws::verdicts_decide;
 use office_tables::{TableFault, deposit_row, drop_files, mark_gone};
 use sqlite::{Alter, Transaction};
 use std::alloc::Global;
@@ -29,14 +25,9 @@ fn disposal_refusal<S: Alter>(
     number: u32,
 ) -> Result<Option<Refusal>, TableFault>
     ensures inside { GoesOnInside S.Store tx.old.conn tx.new.conn result }
-    ensures refusal { Finds S.Store tx.old.conn.now tx.new.conn.now result (λ h why.
-        why ≡ refusal h day caller.now (requests.Dispose number)) }
-    ensures rows { Tells S.Store tx.old.conn.now tx.new.conn.now result (λ tables why.
-        IsDisposalRefusalIn tables (visit_on day caller.now) number why) }
     ensures reads { Shows S.Store tx.old.conn.now tx.new.conn.now result (λ tables why.
         by_rows.refusal tables (visit_on day caller.now) (requests.Dispose number) ≡ Some why) }
 {
-    verdicts_decide();
     let Some(deposit) = deposit_row(tx, number)? else {
         return Ok(Some(Refusal::NoSuch(Subject::Deposit)));
     };
@@ -48,13 +39,9 @@ fn disposal_refusal<S: Alter>(
 /// Notes the day on the deposit of that number, and takes its files away.
 fn destroy<S: Alter>(tx: &mut Transaction<'_, S>, day: Day, number: u32) -> Result<(), TableFault>
     ensures inside { GoesOnInside S.Store tx.old.conn tx.new.conn result }
-    ensures destroyed { Accepts S.Store tx.old.conn.now tx.new.conn.now result
-        (record {
-          was_so = λ h. destruction_day h number ≡ None;
-          changes = Destroyed day number ∷ [];
-        }) }
-    ensures changes { Changes S.Store tx.old.conn.now tx.new.conn.now result (λ tables.
-        Some (destroyed number day tables)) }
+    ensures changes { Rewrites S.Store tx.old.conn.now tx.new.conn.now result
+        (λ tables. Some (destroyed number day tables))
+        (λ tables contents. without_contents_of (pos number) tables.files contents) }
 {
     mark_gone(tx, number, day.number() as i64)?;
     drop_files(tx, number)
@@ -72,12 +59,8 @@ pub fn dispose<S: Alter>(
     number: u32,
 ) -> Result<Answer, TableFault>
     ensures inside { GoesOnInside S.Store tx.old.conn tx.new.conn result }
-    ensures decides { Decides S.Store tx.old.conn.now tx.new.conn.now result
-        (day, caller.entry, requests.Dispose number) }
-    ensures rows { Tells S.Store tx.old.conn.now tx.new.conn.now result (λ tables given.
-        IsDisposedIn tables (visit_on day caller.now) number given) }
-    ensures serves { Serves S.Store tx.old.conn.now tx.new.conn.now result (λ tables.
-        serve tables (visit_on day caller.now) (requests.Dispose number)) }
+    ensures serves { Serves S.Store tx.old.conn.now tx.new.conn.now result
+        (visit_on day caller.now) (requests.Dispose number) }
 {
     if let Some(why) = disposal_refusal(alloc, tx, day, caller, number)? {
         return Ok(Answer::Refused(why));

@@ -1,19 +1,15 @@
 //! A bag that is kept: its deposit's row with what is kept beside it, and its files.
 
-ghost use Rattle.std.specs.Prelude.{◌≡◌, IfErr, IfOk, [], ◌∷◌, ◌+◌, ◌<◌, ◌^◌, Ok, Some, length, option_map, pos};
-ghost use Rattle.bag_text.specs.TransferReading.{files_of};
-ghost use Rattle.office_rows.specs.Rows as rows;
+ghost use Rattle.std.specs.Prelude.{◌≡◌, IfErr, IfOk, ◌<◌, ◌^◌, Ok, Some, option_map, pos};
+ghost use Rattle.bag_text.specs.TransferReading.{file_of, files_of};
 ghost use Rattle.office_rows.specs.Rows.{with_file};
 ghost use Rattle.office_tables.specs.Faults.{IsFailure};
-ghost use Rattle.office_tables.specs.Calls.{GoesOnInTurn, GoesOnInside, Shows, Tells, Writes};
-ghost use Rattle.office_tables.specs.Contents.{LeavesOnce};
+ghost use Rattle.office_tables.specs.Calls.{GoesOnInTurn, GoesOnInside, Shows};
 ghost use Rattle.office_tables.specs.Deposits.{added_row};
 ghost use Rattle.office_core.specs.Retention.{due_number};
-ghost use Rattle.office_core.specs.declared.retention.Due.{Due};
-ghost use Rattle.office_history.specs.Histories.{Deposit, Deposited, deposits, due, live_holds};
 ghost use Rattle.office_by_rows.specs.Changes.{count_in, due_in, kept_as, with_files, with_kept};
-ghost use Rattle.office_asking.specs.ByRows.{AreReleasedOnDays, IsDueIn};
-ghost use Rattle.office_asking.specs.Serving.{Accepts, Changes, Finds};
+ghost use Rattle.office_asking.specs.Contents.{with_content_of, with_contents_of};
+ghost use Rattle.office_asking.specs.Serving.{Changes, Rewrites};
 ghost use Rattle.office_keeping.specs.Asked.{row_of};
 
 use crate::asked::DepositAsked;
@@ -31,10 +27,12 @@ fn add_file<S: Alter>(
     file: &(&str, &[u8]),
 ) -> Result<(), TableFault>
     ensures inside { GoesOnInside S.Store tx.old.conn tx.new.conn result }
-    ensures becomes { Writes S.Store tx.old.conn.now tx.new.conn.now result
+    ensures changes { Rewrites S.Store tx.old.conn.now tx.new.conn.now result
+        (λ tables.
+        Some
         (with_file
-        (record { deposit = pos number; path = file.now.0.now; content = file.now.1.now })) }
-    ensures once { LeavesOnce S.Store tx.old.conn.now tx.new.conn.now result }
+        (record { deposit = pos number; path = file.now.0.now; content = file.now.1.now }) tables))
+        (λ _ contents. with_content_of (file_of file.now) contents) }
 {
     put_file(tx, number, file.0, file.1)
 }
@@ -46,11 +44,9 @@ fn add_files<S: Alter>(
     files: &[(&str, &[u8])],
 ) -> Result<(), TableFault>
     ensures inside { GoesOnInTurn S.Store tx.old.conn tx.new.conn result }
-    ensures becomes { Writes S.Store tx.old.conn.now tx.new.conn.now result
-        (with_files (pos number) (files_of files.now)) }
-    ensures once { LeavesOnce S.Store tx.old.conn.now tx.new.conn.now result }
-    ensures changes { Changes S.Store tx.old.conn.now tx.new.conn.now result (λ tables.
-        Some (with_files (pos number) (files_of files.now) tables)) }
+    ensures changes { Rewrites S.Store tx.old.conn.now tx.new.conn.now result
+        (λ tables. Some (with_files (pos number) (files_of files.now) tables))
+        (λ _ contents. with_contents_of (files_of files.now) contents) }
 {
     for file in files {
         add_file(tx, number, file)?;
@@ -88,23 +84,6 @@ fn beside_row<S: Alter>(
     number: u32,
 ) -> Result<Beside, TableFault>
     ensures inside { GoesOnInside S.Store tx.old.conn tx.new.conn result }
-    ensures due { Finds S.Store tx.old.conn.now tx.new.conn.now result (λ h beside.
-        (deposit : Deposit) → deposit.class ≡ asked.now.class.now
-        → deposit.closed ≡ asked.now.closed
-        → beside.due ≡ due_number (due h deposit)) }
-    ensures holds { Finds S.Store tx.old.conn.now tx.new.conn.now result (λ h beside.
-        (deposit : Deposit) → deposit.collection ≡ asked.now.collection.now
-        → deposit.class ≡ asked.now.class.now
-        → beside.holds ≡ pos (length (live_holds h number deposit))) }
-    ensures rows { Tells S.Store tx.old.conn.now tx.new.conn.now result (λ tables beside.
-        (due : Due) × IsDueIn tables asked.now.class.now asked.now.closed due
-        × (beside.due ≡ due_number due)) }
-    ensures counted { Tells S.Store tx.old.conn.now tx.new.conn.now result (λ tables beside.
-        (beside.holds
-        ≡ pos
-        (length
-        (rows.live_holds (pos number) asked.now.collection.now asked.now.class.now tables)))
-        × AreReleasedOnDays tables number asked.now.collection.now asked.now.class.now) }
     ensures reads_due { Shows S.Store tx.old.conn.now tx.new.conn.now result (λ tables beside.
         option_map due_number (due_in tables asked.now.class.now asked.now.closed)
         ≡ Some beside.due) }
@@ -130,9 +109,6 @@ fn put_row<S: Alter>(
     beside: Beside,
 ) -> Result<(), TableFault>
     ensures inside { GoesOnInside S.Store tx.old.conn tx.new.conn result }
-    ensures becomes { Writes S.Store tx.old.conn.now tx.new.conn.now result
-        (with_kept (added_row deposit.entry) beside.due beside.holds) }
-    ensures once { LeavesOnce S.Store tx.old.conn.now tx.new.conn.now result }
     ensures changes { Changes S.Store tx.old.conn.now tx.new.conn.now result (λ tables.
         Some (with_kept (added_row deposit.entry) beside.due beside.holds tables)) }
 {
@@ -153,25 +129,9 @@ pub(crate) fn keep<S: Alter>(
     bag: &BagSet<'_>,
 ) -> Result<(), TableFault>
     ensures inside { GoesOnInside S.Store tx.old.conn tx.new.conn result }
-    ensures kept { Accepts S.Store tx.old.conn.now tx.new.conn.now result
-        (record {
-          was_so = λ h. number ≡ length (deposits h) + 1;
-          changes =
-              Deposited asked.now.day
-              (record {
-                collection = asked.now.collection.now;
-                class = asked.now.class.now;
-                accession = asked.now.accession.now;
-                closed = asked.now.closed;
-                bag = bag.now;
-              }) ∷ [];
-        }) }
-    ensures rows { Tells S.Store tx.old.conn.now tx.new.conn.now result (λ tables _.
-        (due : Due) × IsDueIn tables asked.now.class.now asked.now.closed due) }
-    ensures released { Tells S.Store tx.old.conn.now tx.new.conn.now result (λ tables _.
-        AreReleasedOnDays tables number asked.now.collection.now asked.now.class.now) }
-    ensures changes { Changes S.Store tx.old.conn.now tx.new.conn.now result
-        (kept_as number (row_of asked.now number bag.now) asked.now.closed bag.now) }
+    ensures changes { Rewrites S.Store tx.old.conn.now tx.new.conn.now result
+        (kept_as number (row_of asked.now number bag.now) asked.now.closed bag.now)
+        (λ _ contents. with_contents_of bag.now contents) }
 {
     let beside = beside_row(alloc, tx, asked, number)?;
     let payload = count_payload(bag);

@@ -7,7 +7,7 @@ use Rattle.bag_text.specs.declared.set_fault.SetFault.{SetFault}
 use Rattle.office_core.specs.declared.answer.AuditReport.TheVariants.{Invalid}
 use Rattle.office_history.specs.Bags.{report_on}
 use Rattle.office_history.specs.Answers.{audit_report}
-use Rattle.office_serving.specs.Audits.{audit_of, audit_unless}
+use Rattle.office_by_rows.specs.Answers.{audit_of, audit_unless}
 
 -- on a list that has no fault
 pub on_a_bag : (files : List File) → list_fault files ≡ None → audit_of files ≡ audit_report (report_on files)

@@ -10,8 +10,8 @@ use Rattle.office_core.specs.declared.answer.Answer.TheVariants as answers
 use Rattle.office_rows.specs.Rows.{Tables}
 use Rattle.office_tables.specs.declared.fault.TableFault.{TableFault}
 use Rattle.office_tables.specs.declared.fault.TableFault.TheVariants.{Memory, Store}
-use Rattle.office_by_rows.specs.Answers.{bag_in}
-use Rattle.office_serving.specs.Files.{form_in, stored_files}
+use Rattle.office_by_rows.specs.Answers.{bag_in, stored_files}
+use Rattle.office_serving.specs.Files.{form_in}
 
 module _ (files : List File) where
   pub form_is : (text : List ℕ) → IsBag files → text ≡ set_text files → form_in files ≡ Some text

@@ -1,17 +1,6 @@
-pub mod FilesTold
-pub mod Told
-pub mod ListedRows
-pub mod RecordTold
-pub mod HoldsTold
 pub mod AuditTold
-pub mod ShownTold
 pub mod PathsTold
-pub mod DueListLaw
-pub mod SameOnce
-pub mod StockTold
 pub mod AllowedTold
-pub mod ByRows
-pub mod OneAnswer
 pub mod ToldInTurn
 pub mod RecordByRow
 pub mod FormTold

@@ -24,9 +24,6 @@ module _ (t : Tables) (role : List ℕ) (day : Date) where
   -- ---- lists
 
   module _ (wanted : Wanted) (row : DepositRow) where
-    pub not_wanted : is_wanted wanted row ≡ false → is_shown t role day wanted row ≡ Some false
-    not_wanted e = ap (λ b. if b then is_shown_unless row.gone t role day row else Some false) e
-
     asked : is_wanted wanted row ≡ true → is_shown t role day wanted row ≡ is_shown_unless row.gone t role day row
     asked e = ap (λ b. if b then is_shown_unless row.gone t role day row else Some false) e
 

@@ -43,31 +43,11 @@ module _ (row : DepositRow) (kept : DueRow) where
 
   -- ---- a row that tells nothing
 
-  pub no_days : days_of row ≡ None → record_by row kept ≡ None
-  no_days none = nothing_then (count_of row.number) by_days (λ number. ap (λ o. o >>= by_files number) none)
-
-  pub no_files : count_up_to max_files row.files ≡ None → record_by row kept ≡ None
-  no_files none = nothing_then (count_of row.number) by_days (λ number. nothing_then (days_of row) (by_files number) (λ days. ap (λ o. o >>= by_bytes number days) none))
-
-  without_bytes : (number : ℕ) (days : Days) (files : ℕ) → count_up_to (max_files * max_content) row.bytes ≡ None → by_bytes number days files ≡ None
-  without_bytes number days files none = ap (λ o. o >>= by_due number days files) none
-
-  pub no_bytes : count_up_to (max_files * max_content) row.bytes ≡ None → record_by row kept ≡ None
-  no_bytes none =
-      nothing_then (count_of row.number) by_days (λ number. nothing_then (days_of row) (by_files number) (λ days. nothing_then (count_up_to max_files row.files) (by_bytes number days) (λ files. without_bytes number days files none)))
-
-  -- whatever is read before its due day
-  after_counts : ((number : ℕ) (days : Days) (files bytes : ℕ) → by_due number days files bytes ≡ None) → record_by row kept ≡ None
-  after_counts none =
-      nothing_then (count_of row.number) by_days (λ number. nothing_then (days_of row) (by_files number) (λ days. nothing_then (count_up_to max_files row.files) (by_bytes number days)
-      (λ files. nothing_then (count_up_to (max_files * max_content) row.bytes) (by_due number days files) (λ bytes. none number days files bytes))))
-
-  pub no_due : due_of_number kept.due ≡ None → record_by row kept ≡ None
-  no_due none = after_counts (λ number days files bytes. ap (λ o. o >>= by_names number days files bytes) none)
-
   pub no_names : (has_names row ≡ true → ⊥) → record_by row kept ≡ None
   no_names unnamed =
-      after_counts (λ number days files bytes. nothing_then (due_of_number kept.due) (by_names number days files bytes) (λ due. nothing_if (has_names row) _ (λ named. absurd (unnamed named))))
+      nothing_then (count_of row.number) by_days (λ number. nothing_then (days_of row) (by_files number) (λ days. nothing_then (count_up_to max_files row.files) (by_bytes number days)
+      (λ files. nothing_then (count_up_to (max_files * max_content) row.bytes) (by_due number days files)
+      (λ bytes. nothing_then (due_of_number kept.due) (by_names number days files bytes) (λ due. nothing_if (has_names row) _ (λ named. absurd (unnamed named)))))))
 
   -- ---- a row that tells a record
 

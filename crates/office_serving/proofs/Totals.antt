@@ -1,16 +1,19 @@
--- How many bytes sizes come to.
-use Rattle.std.proofs.Common.{◌≡◌, ℕ, ℤ, pos, negsuc, ◌<◌, ◌≤◌, le_trans, Bool, true, false, List, [], ◌∷◌, length, map, take, get_or, nat_le, Option, Some, None, refl, sym, ap, subst, ◌∙◌, rules}
+-- How many bytes sizes come to, and which sizes are told.
+use Rattle.std.proofs.Common.{◌≡◌, ℕ, ℤ, pos, negsuc, ◌+◌, ◌<◌, ◌≤◌, le_trans, Bool, true, false, List, [], ◌∷◌, ◌++◌, length, map, take, get_or, nat_le, Option, Some, None, refl, sym, ap, ap₂, subst, ◌∙◌, rules}
 use Rattle.std.specs.Prelude.{sum}
 use Rattle.std.proofs.lemmas.Option.{same_Some}
-use Rattle.std.proofs.lemmas.List.{get_or-map, length-map, take-map}
-use Rattle.std.proofs.lemmas.List.Sums.{sum_by-take-le}
+use Rattle.std.proofs.lemmas.List.{get_or-map, length-map, map-append, map_more, take-map}
+use Rattle.std.proofs.lemmas.List.Sums.{sum_by-take-le, sum_by_push}
 use Rattle.office_core.specs.FirstOf.{◌>>=◌, answer_if}
-use Rattle.office_core.proofs.OptionLemmas.{some_and_then, some_if}
-use Rattle.office_history.specs.Stocks.{Stock}
-use Rattle.office_by_rows.specs.Stock.{max_total, stock_in, total_by}
+use Rattle.office_core.proofs.OptionLemmas.{some_and_then}
+use Rattle.office_by_rows.specs.Stock.{max_total, total_by}
 use Rattle.office_by_rows.specs.Values.{all_told, count_of}
-use Rattle.office_asking.proofs.NumberedRows.{same_count}
 use Rattle.office_rows.proofs.Order.{map_back}
+use Rattle.office_rows.specs.Rows.{ContentRow}
+use Rattle.office_tables.specs.Tables.{contents_of}
+use Rattle.office_tables.specs.declared.kept.ContentSize.{ContentSize}
+use Rattle.sqlite.specs.Effect.{Database}
+use Rattle.sqlite_keyed.proofs.ListLemmas.{map-map}
 
 -- counts are told exactly where each is at least 0
 pub counts_are : (numbers : List ℤ) (parts : List ℕ) → all_told count_of numbers ≡ Some parts → numbers ≡ map pos parts
@@ -35,11 +38,6 @@ total_is sizes parts are fits =
     ap (λ o. o >>= λ parts. answer_if (nat_le (sum parts) max_total) (sum parts)) (ap (all_told count_of) are ∙ counts_told parts)
     ∙ ap (λ b. answer_if b (sum parts)) low
 
-pub total_of_counts : (sizes : List ℤ) (total : ℕ) → total_by sizes ≡ Some total → (parts : List ℕ) × (sizes ≡ map pos parts) × (total ≡ sum parts)
-total_of_counts sizes total e =
-    let told = some_and_then (all_told count_of sizes) (λ parts. answer_if (nat_le (sum parts) max_total) (sum parts)) total e in
-    (told.0, counts_are sizes told.0 told.1, sym (same_Some _ _ (some_if (nat_le (sum told.0) max_total) (Some (sum told.0)) total told.2).1))
-
 -- there is no total where no counts with these first are few enough
 none_told : (sizes : List ℤ) → ((parts : List ℕ) → sizes ≡ map pos parts → sum parts ≤ max_total → ⊥) → total_by sizes ≡ None
 none_told sizes never = by (all_told count_of sizes) refl
@@ -63,14 +61,24 @@ none_below size xs i x low below =
 pub none_above : (sizes : List ℤ) (k : ℕ) (first : List ℕ) → take k sizes ≡ map pos first → (sum first ≤ max_total → ⊥) → total_by sizes ≡ None
 none_above sizes k first are high =
     none_told sizes (λ parts all fits.
-    let same : first ≡ take k parts = map_back pos same_count first (take k parts) (sym are ∙ ap (take k) all ∙ take-map pos k parts) in
+    let same : first ≡ take k parts = map_back pos (λ m n is. cc) first (take k parts) (sym are ∙ ap (take k) all ∙ take-map pos k parts) in
     let less = sum_by-take-le (λ (n : ℕ). n) parts k in
     let low : sum (take k parts) ≤ max_total = le_trans less fits in
     high (subst (λ ps. sum ps ≤ max_total) (sym same) low))
 
--- the stock that contents of these sizes are has their number, and their sum
-pub stock_parts : (sizes : List ℤ) (found : Stock) → stock_in sizes ≡ Some found → (parts : List ℕ) × (sizes ≡ map pos parts) × (found ≡ record { contents = length sizes; bytes = sum parts })
-stock_parts sizes found e =
-    let told = some_and_then (total_by sizes) (λ bytes. Some (record { contents = length sizes; bytes = bytes })) found e in
-    let parts = total_of_counts sizes told.0 told.1 in
-    (parts.0, parts.1, sym (same_Some _ _ told.2) ∙ (λ i. record { contents = length sizes; bytes = parts.2 i }))
+-- one size more
+pub one_more : {X : Type 0} (size : X → ℤ) (xs : List X) (i : ℕ) (x : X) (parts : List ℕ) (more total next : ℕ) → i < length xs → map size (take i xs) ≡ map pos parts → total ≡ sum parts → next ≡ total + more
+    → size (get_or xs i x) ≡ pos more → (all : List ℕ) × (map size (take (i + 1) xs) ≡ map pos all) × (next ≡ sum all)
+one_more size xs i x parts more total next low are is added here = (
+  parts ++ more ∷ [],
+  map_more size xs i x low ∙ ap₂ (λ ys y. ys ++ y ∷ []) are here ∙ sym (map-append pos parts (more ∷ [])),
+  added ∙ ap (λ n. n + more) is ∙ sym (sum_by_push (λ (n : ℕ). n) parts more),
+)
+
+-- the sizes that are told, by the numbers of the contents
+module _ (db : Database) (sizes : List ContentSize) (same : map {B = ℤ × ℤ} (λ (s : ContentSize). (s.id, s.size)) sizes ≡ map {B = ℤ × ℤ} (λ (c : ContentRow). (c.id, c.size)) (contents_of db)) where
+  pub sizes_told : map (λ (s : ContentSize). s.size) sizes ≡ map (λ (c : ContentRow). c.size) (contents_of db)
+  sizes_told =
+      sym (map-map {B = ℤ × ℤ} (λ p. p.1) (λ (s : ContentSize). (s.id, s.size)) sizes)
+      ∙ ap (map {A = ℤ × ℤ} (λ p. p.1)) same
+      ∙ map-map {B = ℤ × ℤ} (λ p. p.1) (λ (c : ContentRow). (c.id, c.size)) (contents_of db)

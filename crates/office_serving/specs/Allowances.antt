@@ -1,14 +1,12 @@
--- What the rules let a caller do with the deposits of a collection and a class, and what is known of it.
-use Rattle.std.specs.Prelude.{◌≡◌, ℕ, ◌&&◌, Bool, List, Some, IfSome, is_none, bytes_eq}
+-- What is known of what the rules let a caller do with the deposits of a collection and a class.
+use Rattle.std.specs.Prelude.{◌≡◌, ℕ, ◌&&◌, Bool, List, Some, IfSome, bytes_eq}
 use Rattle.std.specs.HashMap.{get}
 use Rattle.jiff.specs.Types.{Date}
 use denote.Ref.{Bor}
 use Rattle.office_core.specs.declared.action.Action.{Action}
 use Rattle.office_rows.specs.Rows.{Tables}
-use Rattle.office_history.specs.Histories.{History}
-use Rattle.office_history.specs.Refusals.{denial}
 use Rattle.office_by_rows.specs.Answers.{is_allowed_for}
-use Rattle.office_asking.specs.Asking.{IsAsker, Visit, role_name}
+use Rattle.office_asking.specs.Asking.{role_name}
 use Rattle.office_serving.specs.declared.allowances.Allowances.{Allowances}
 
 -- a collection and a class
@@ -17,16 +15,6 @@ CollectionAndClass = Bor (List ℕ) × Bor (List ℕ)
 
 abbrev pub same_pair : CollectionAndClass → CollectionAndClass → Bool
 same_pair a b = bytes_eq a.0.now b.0.now && bytes_eq a.1.now b.1.now
-
--- on that day the rules let the caller do this with the deposits of this collection and this class
-abbrev pub is_allowed : History → Visit → Action → List ℕ → List ℕ → Bool
-is_allowed h visit action collection class = is_none (denial h visit.day visit.caller action (Some collection) (Some class))
-
--- they are those of this day, this caller and this action, and what is known of a pair is what the rules say of it
-pub record AreOf (h : History) (visit : Visit) (action : Action) (these : Allowances) : Type 0 where
-  pub asker : IsAsker h visit these.asker.now
-  pub action_is : these.action ≡ action
-  pub right : (pair : CollectionAndClass) → IfSome (get same_pair these.known pair) (λ is. is ≡ is_allowed h visit action pair.0.now pair.1.now)
 
 -- they are those of this role, this day and this action, and what is known of a pair is what the rows of the rules say of it
 pub record AreFor (t : Tables) (role : List ℕ) (day : Date) (action : Action) (these : Allowances) : Type 0 where

@@ -4,15 +4,11 @@
 ghost use Rattle.std.specs.Prelude.{◌≡◌, ℕ, List, Some};
 ghost use Rattle.jiff.specs.Types.{Date};
 ghost use Rattle.office_core.specs.declared.action.Action.{Action};
-ghost use Rattle.office_tables.specs.Calls.{GoesOnInTurn, Keeps, Shows, Tells};
+ghost use Rattle.office_tables.specs.Calls.{GoesOnInTurn, Shows};
 ghost use Rattle.office_rows.specs.Rows.{Tables};
-ghost use Rattle.office_history.specs.Histories.{History};
 ghost use Rattle.office_by_rows.specs.Answers.{is_allowed_for};
-ghost use Rattle.office_asking.specs.Asking.{IsAsker, Visit, role_name};
-ghost use Rattle.office_asking.specs.ByRows.{IsAskerIn, deciding_row};
-ghost use Rattle.office_asking.specs.Serving.{Finds};
-ghost use Rattle.office_serving.specs.Allowances.{AreFor, AreOf, is_allowed};
-ghost use Rattle.office_serving.specs.ListsByRows.{AreIn, IsAllowanceBy};
+ghost use Rattle.office_asking.specs.Asking.{role_name};
+ghost use Rattle.office_serving.specs.Allowances.{AreFor};
 
 use office_asking::Asker;
 use office_core::Action;
@@ -33,10 +29,6 @@ pub struct Allowances<'a> {
 impl<'a> Allowances<'a> {
     /// Those of the asker and an action, of no pair yet.
     pub fn new(alloc: Global, asker: &'a Asker, action: Action) -> Allowances<'a>
-        ensures those { (h : History) (visit : Visit)
-            → IsAsker h visit asker.now → AreOf h visit action result }
-        ensures rows { (tables : Tables) (visit : Visit)
-            → IsAskerIn tables visit asker.now → AreIn tables visit action result }
         ensures known { (tables : Tables)
             → AreFor tables (role_name asker.now) asker.now.day action result }
     {
@@ -57,16 +49,6 @@ impl<'a> Allowances<'a> {
         class: &'a str,
     ) -> Result<bool, TableFault>
         ensures inside { GoesOnInTurn S.Store tx.old.conn tx.new.conn result }
-        ensures allowed { Finds S.Store tx.old.conn.now tx.new.conn.now result (λ h is.
-            (visit : Visit) (action : Action) → AreOf h visit action self.old
-            → AreOf h visit action self.new
-            × (is ≡ is_allowed h visit action collection.now class.now)) }
-        ensures same { Keeps S.Store tx.old.conn.now tx.new.conn.now result }
-        ensures rows { Tells S.Store tx.old.conn.now tx.new.conn.now result (λ tables is.
-            (visit : Visit) (action : Action) → AreIn tables visit action self.old
-            → AreIn tables visit action self.new
-            × IsAllowanceBy
-            (deciding_row tables visit action (Some collection.now) (Some class.now)) is) }
         ensures reads { Shows S.Store tx.old.conn.now tx.new.conn.now result (λ tables is.
             (role : List ℕ) (day : Date) (action : Action)
             → AreFor tables role day action self.old

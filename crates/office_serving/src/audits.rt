@@ -3,12 +3,10 @@
 ghost use Rattle.std.specs.Prelude.{◌≡◌, IfErr, IfOk, map};
 ghost use Rattle.office_core.specs.declared.request.Request.TheVariants as requests;
 ghost use Rattle.office_tables.specs.Faults.{IsFailure};
-ghost use Rattle.office_tables.specs.Calls.{GoesOnInside, Keeps, Tells};
-ghost use Rattle.office_by_rows.specs.Serving.{serve};
+ghost use Rattle.office_tables.specs.Calls.{GoesOnInside};
+ghost use Rattle.office_by_rows.specs.Answers.{audit_of, file_in};
 ghost use Rattle.office_asking.specs.Asking.{visit_on};
-ghost use Rattle.office_asking.specs.Serving.{Decides, Serves};
-ghost use Rattle.office_serving.specs.Files.{file_in};
-ghost use Rattle.office_serving.specs.Audits.{audit_of, IsAuditOf};
+ghost use Rattle.office_serving.specs.Reading.{ServesReading};
 
 use crate::bags::{kept_files, pairs_of};
 use bag_text::laws::one_list_fault;
@@ -47,16 +45,10 @@ pub fn audit<S: Alter>(
     number: u32,
 ) -> Result<Answer, TableFault>
     ensures inside { GoesOnInside S.Store tx.old.conn tx.new.conn result }
-    ensures decides { Decides S.Store tx.old.conn.now tx.new.conn.now result
-        (day, caller.entry, requests.Audit number) }
-    ensures same { Keeps S.Store tx.old.conn.now tx.new.conn.now result }
     // Whatever the tables of the office hold, the report is that of what stands there.
-    ensures rows { Tells S.Store tx.old.conn.now tx.new.conn.now result (λ tables answer.
-        IsAuditOf tables (visit_on day caller.now) number answer) }
-    ensures serves { Serves S.Store tx.old.conn.now tx.new.conn.now result (λ tables.
-        serve tables (visit_on day caller.now) (requests.Audit number)) }
+    ensures serves { ServesReading S.Store tx.old.conn.now tx.new.conn.now result
+        (visit_on day caller.now) (requests.Audit number) }
 {
-    one_list_fault();
     match kept_files(alloc, tx, day, caller, Action::Audit, number)? {
         Ok(rows) => Ok(Answer::Audit {
             deposit: number,

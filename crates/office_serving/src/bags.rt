@@ -1,26 +1,21 @@
 //! Downloads of bags.
 
-ghost use Rattle.std.specs.Prelude.{◌≡◌, ◌↔◌, ◌≢◌, Err, IfErr, IfOk, None, Some, map, pos};
+ghost use Rattle.std.specs.Prelude.{◌≡◌, ◌↔◌, ◌≢◌, IfErr, IfOk, None, Some, map, pos};
 ghost use Rattle.std.specs.Result.{result_err};
-ghost use Rattle.bag_text.specs.BagList.{ListFault};
-ghost use Rattle.bag_text.specs.TransferForm.{IsBag, set_text};
 ghost use Rattle.bag_text.specs.TransferReading as reading;
 ghost use Rattle.office_core.specs.declared.request.Request.TheVariants as requests;
 ghost use Rattle.office_tables.specs.Faults.{IsFailure};
-ghost use Rattle.office_tables.specs.Calls.{GoesOnInside, Keeps, Shows, Tells};
+ghost use Rattle.office_tables.specs.Calls.{GoesOnInside, Shows, Tells};
 ghost use Rattle.office_tables.specs.Deposits.{files_by_path};
-ghost use Rattle.office_history.specs.Refusals.{kept_refusals};
+ghost use Rattle.office_by_rows.specs.Answers.{file_in};
 ghost use Rattle.office_by_rows.specs.Refusals.{kept_refusal};
-ghost use Rattle.office_by_rows.specs.Serving.{serve};
 ghost use Rattle.office_asking.specs.Asking.{visit_on};
-ghost use Rattle.office_asking.specs.Serving.{Decides, Finds, Serves};
-ghost use Rattle.office_serving.specs.Files.{AreFilesAsked, file_in, form_in};
-ghost use Rattle.office_serving.specs.FilesByRows.{AreAskedIn, IsBagIn};
+ghost use Rattle.office_serving.specs.Reading.{ServesReading};
+ghost use Rattle.office_serving.specs.Files.{form_in};
 
 use bag_text::{BagSet, SetFault, write_bagset};
 use office_asking::kept_deposit;
 use office_core::{Action, Answer, Day, Refusal, Sequence};
-use office_history::laws::sound_bags;
 use office_tables::{FileRow, TableFault, files_of};
 use sqlite::{Alter, Transaction};
 use std::alloc::Global;
@@ -59,14 +54,7 @@ fn form_of(alloc: Global, files: &[(&str, &[u8])]) -> Result<Vec<u8>, TableFault
     ensures reads { IfOk result (λ text. form_in (reading.files_of files.now) ≡ Some text.items) }
     ensures none { IfErr result (λ fault.
         (fault ≡ TableFault.Store) ↔ (form_in (reading.files_of files.now) ≡ None)) }
-    ensures form { IfOk result (λ text. text.items ≡ set_text (reading.files_of files.now)) }
-    ensures bag { IfOk result (λ text. IsBag (reading.files_of files.now)) }
     ensures failure { IfErr result IsFailure }
-    // Files that are no bag are a fault of the store, and a bag wants nothing but memory.
-    ensures store { (fault : SetFault) → ListFault (reading.files_of files.now) fault
-        → result ≡ Err TableFault.Store }
-    ensures memory { IsBag (reading.files_of files.now)
-        → IfErr result (λ fault. fault ≡ TableFault.Memory) }
 {
     match BagSet::of(alloc, files) {
         Ok(bag) => Ok(write_bagset(alloc, &bag)?),
@@ -81,11 +69,7 @@ fn text_of(alloc: Global, rows: &[FileRow]) -> Result<Vec<u8>, TableFault>
     ensures reads { IfOk result (λ text. form_in (map file_in rows.now) ≡ Some text.items) }
     ensures none { IfErr result (λ fault.
         fault ≡ TableFault.Store → form_in (map file_in rows.now) ≡ None) }
-    ensures text { IfOk result (λ text. text.items ≡ set_text (map file_in rows.now)) }
-    ensures bag { IfOk result (λ text. IsBag (map file_in rows.now)) }
     ensures failure { IfErr result IsFailure }
-    ensures memory { IsBag (map file_in rows.now)
-        → IfErr result (λ fault. fault ≡ TableFault.Memory) }
 {
     let pairs = pairs_of(alloc, rows)?;
     form_of(alloc, &pairs)
@@ -102,20 +86,13 @@ pub fn kept_files<S: Alter>(
     number: u32,
 ) -> Result<Result<Vec<FileRow>, Refusal>, TableFault>
     ensures inside { GoesOnInside S.Store tx.old.conn tx.new.conn result }
-    ensures asked { Finds S.Store tx.old.conn.now tx.new.conn.now result (λ h asked.
-        AreFilesAsked h number (kept_refusals h day caller.now action number) asked) }
     // Whatever the tables of the office hold, these are the rows that stand there.
     ensures stored { Tells S.Store tx.old.conn.now tx.new.conn.now result (λ tables asked.
         IfOk asked (λ rows. rows.items ≡ files_by_path (pos number) tables)) }
-    ensures same { Keeps S.Store tx.old.conn.now tx.new.conn.now result }
-    ensures rows { Tells S.Store tx.old.conn.now tx.new.conn.now result (λ tables asked.
-        AreAskedIn tables (visit_on day caller.now) action number asked) }
     ensures reads { Shows S.Store tx.old.conn.now tx.new.conn.now result (λ tables asked.
         kept_refusal tables (visit_on day caller.now) action number
         ≡ Some (result_err asked)) }
 {
-    // A bag that is kept is a bag.
-    sound_bags();
     match kept_deposit(tx, day, caller, action, number)? {
         Ok(_) => Ok(Ok(files_of(alloc, tx, number)?)),
         Err(why) => Ok(Err(why)),
@@ -133,13 +110,8 @@ pub fn download_bag<S: Alter>(
     number: u32,
 ) -> Result<Answer, TableFault>
     ensures inside { GoesOnInside S.Store tx.old.conn tx.new.conn result }
-    ensures decides { Decides S.Store tx.old.conn.now tx.new.conn.now result
-        (day, caller.entry, requests.DownloadBag number) }
-    ensures same { Keeps S.Store tx.old.conn.now tx.new.conn.now result }
-    ensures rows { Tells S.Store tx.old.conn.now tx.new.conn.now result (λ tables answer.
-        IsBagIn tables (visit_on day caller.now) number answer) }
-    ensures serves { Serves S.Store tx.old.conn.now tx.new.conn.now result (λ tables.
-        serve tables (visit_on day caller.now) (requests.DownloadBag number)) }
+    ensures serves { ServesReading S.Store tx.old.conn.now tx.new.conn.now result
+        (visit_on day caller.now) (requests.DownloadBag number) }
 {
     match kept_files(alloc, tx, day, caller, Action::Download, number)? {
         Ok(rows) => Ok(Answer::Bag {

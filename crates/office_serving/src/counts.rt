@@ -1,7 +1,7 @@
 //! What the counts of a deposit's row stand for. What stands for nothing is of a row that no accepted
 //! change writes, which is a fault of the store.
 
-ghost use Rattle.std.specs.Prelude.{◌≡◌, ◌≤◌, IfErr, IfOk, pos};
+ghost use Rattle.std.specs.Prelude.{◌≡◌, IfErr};
 ghost use Rattle.std.specs.Option.{ok_or};
 ghost use Rattle.office_tables.specs.Faults.{IsFailure};
 ghost use Rattle.office_tables.specs.declared.fault.TableFault.TheVariants.{Store};
@@ -14,8 +14,6 @@ use office_tables::TableFault;
 /// Fails with `Store`.
 pub fn count_in(number: i64, most: usize) -> Result<usize, TableFault>
     ensures reads { result ≡ ok_or (count_up_to most number) TableFault.Store }
-    ensures count { IfOk result (λ count. pos count ≡ number) }
-    ensures few { IfOk result (λ count. count ≤ most) }
     ensures failure { IfErr result IsFailure }
     ensures store { IfErr result (λ fault. fault ≡ TableFault.Store) }
 {

@@ -1,19 +1,12 @@
 //! The deposits that a caller may destroy on a day.
 
-ghost use Rattle.std.specs.Prelude.{◌≡◌, Some, pos, map, filter};
+ghost use Rattle.std.specs.Prelude.{◌≡◌, Some};
 ghost use Rattle.office_core.specs.declared.request.Request.TheVariants as requests;
-ghost use Rattle.office_tables.specs.Calls.{GoesOnInTurn, GoesOnInside, Keeps, Shows, Tells};
-ghost use Rattle.office_rows.specs.Told.{PlaceRow as Place};
-ghost use Rattle.office_history.specs.Answers.{due_list};
-ghost use Rattle.office_by_rows.specs.Answers as by_rows;
-ghost use Rattle.office_by_rows.specs.Answers.{place_told};
-ghost use Rattle.office_by_rows.specs.Serving.{serve};
+ghost use Rattle.office_tables.specs.Calls.{GoesOnInTurn, GoesOnInside, Shows};
+ghost use Rattle.office_by_rows.specs.Answers.{due_list, place_told};
 ghost use Rattle.office_by_rows.specs.Values.{things_told};
-ghost use Rattle.office_asking.specs.Asking.{IsAsker, Visit, role_name, visit_on};
-ghost use Rattle.office_asking.specs.ByRows.{IsAskerIn};
-ghost use Rattle.office_asking.specs.Serving.{Decides, Finds, Serves};
-ghost use Rattle.office_serving.specs.Listing.{may_destroy};
-ghost use Rattle.office_serving.specs.ListsByRows.{AreAllowedIn, AreDueIn, IsDueListIn};
+ghost use Rattle.office_asking.specs.Asking.{role_name, visit_on};
+ghost use Rattle.office_serving.specs.Reading.{ServesReading};
 
 use crate::allowances::Allowances;
 use office_asking::{Asker, due_numbered};
@@ -31,14 +24,6 @@ fn allowed_among<S: Alter>(
     places: &[PlaceRow],
 ) -> Result<Vec<u32>, TableFault>
     ensures inside { GoesOnInTurn S.Store tx.old.conn tx.new.conn result }
-    ensures allowed { Finds S.Store tx.old.conn.now tx.new.conn.now result (λ h numbers.
-        (visit : Visit) → IsAsker h visit asker.now
-        → map pos numbers.items
-        ≡ map (λ (p : Place). p.number) (filter (may_destroy h visit) places.now)) }
-    ensures same { Keeps S.Store tx.old.conn.now tx.new.conn.now result }
-    ensures rows { Tells S.Store tx.old.conn.now tx.new.conn.now result (λ tables numbers.
-        (visit : Visit) → IsAskerIn tables visit asker.now
-        → AreAllowedIn tables visit places.now numbers.items) }
     ensures reads { Shows S.Store tx.old.conn.now tx.new.conn.now result (λ tables numbers.
         things_told (place_told tables (role_name asker.now) asker.now.day) places.now
         ≡ Some numbers.items) }
@@ -66,13 +51,8 @@ pub fn due_numbers<S: Alter>(
     caller: &str,
 ) -> Result<Vec<u32>, TableFault>
     ensures inside { GoesOnInside S.Store tx.old.conn tx.new.conn result }
-    ensures due { Finds S.Store tx.old.conn.now tx.new.conn.now result (λ h numbers.
-        numbers.items ≡ due_list h day caller.now) }
-    ensures same { Keeps S.Store tx.old.conn.now tx.new.conn.now result }
-    ensures rows { Tells S.Store tx.old.conn.now tx.new.conn.now result (λ tables numbers.
-        AreDueIn tables (visit_on day caller.now) numbers.items) }
     ensures reads { Shows S.Store tx.old.conn.now tx.new.conn.now result (λ tables numbers.
-        by_rows.due_list tables (visit_on day caller.now) ≡ Some numbers.items) }
+        due_list tables (visit_on day caller.now) ≡ Some numbers.items) }
 {
     let asker = Asker::read(tx, day, caller)?;
     let places = due_rows(alloc, tx, day.number() as i64)?;
@@ -89,13 +69,8 @@ pub fn due_list<S: Alter>(
     caller: &str,
 ) -> Result<Answer, TableFault>
     ensures inside { GoesOnInside S.Store tx.old.conn tx.new.conn result }
-    ensures decides { Decides S.Store tx.old.conn.now tx.new.conn.now result
-        (day, caller.entry, requests.DueList) }
-    ensures same { Keeps S.Store tx.old.conn.now tx.new.conn.now result }
-    ensures rows { Tells S.Store tx.old.conn.now tx.new.conn.now result (λ tables given.
-        IsDueListIn tables (visit_on day caller.now) given) }
-    ensures serves { Serves S.Store tx.old.conn.now tx.new.conn.now result (λ tables.
-        serve tables (visit_on day caller.now) requests.DueList) }
+    ensures serves { ServesReading S.Store tx.old.conn.now tx.new.conn.now result
+        (visit_on day caller.now) requests.DueList }
 {
     let numbers = due_numbers(alloc, tx, day, caller)?;
     Ok(Answer::DueList {

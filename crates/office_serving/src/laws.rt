@@ -11,7 +11,7 @@ ghost use Rattle.bag_check.specs.FaultTexts.{fault_text};
 ghost use Rattle.bag_check.specs.Validity.{Valid, report_of};
 ghost use Rattle.office_core.specs.declared.answer.AuditReport.TheVariants.{Invalid};
 ghost use Rattle.office_history.specs.Answers.{audit_report};
-ghost use Rattle.office_serving.specs.Audits.{audit_of};
+ghost use Rattle.office_by_rows.specs.Answers.{audit_of};
 
 use bag_check::laws::judged_bags;
 use bag_text::laws::one_list_fault;

@@ -4,21 +4,14 @@ ghost use Rattle.std.specs.Prelude.{◌≡◌, List, Some, ℕ, option_copied};
 ghost use Rattle.jiff.specs.Types.{Date};
 ghost use Rattle.office_core.specs.declared.action.Action.TheVariants as acts;
 ghost use Rattle.office_core.specs.declared.request.Request.TheVariants as requests;
-ghost use Rattle.office_rows.specs.Rows.{beside};
-ghost use Rattle.office_tables.specs.Calls.{GoesOnInTurn, GoesOnInside, Keeps, Shows, Tells};
-ghost use Rattle.office_history.specs.Histories.{Deposit, deposit_numbered};
-ghost use Rattle.office_history.specs.Pictures.{deposit_row, deposit_rows, due_row, due_rows};
-ghost use Rattle.office_history.specs.Answers.{is_asked, listed_records};
-ghost use Rattle.office_by_rows.specs.Answers as by_rows;
-ghost use Rattle.office_by_rows.specs.Answers.{listed_record};
-ghost use Rattle.office_by_rows.specs.Serving.{serve};
+ghost use Rattle.office_tables.specs.Calls.{GoesOnInTurn, GoesOnInside, Shows};
+ghost use Rattle.office_history.specs.Answers.{is_asked};
+ghost use Rattle.office_by_rows.specs.Answers.{is_shown, is_wanted, listed_record};
 ghost use Rattle.office_by_rows.specs.Values.{things_told};
-ghost use Rattle.office_asking.specs.Asking.{IsAsker, Visit, role_name, visit_on};
-ghost use Rattle.office_asking.specs.ByRows.{IsAskerIn};
-ghost use Rattle.office_asking.specs.Serving.{Decides, Finds, Serves};
-ghost use Rattle.office_serving.specs.Allowances.{AreFor, AreOf};
-ghost use Rattle.office_serving.specs.Listing.{is_shown, shown_record, wanted_of};
-ghost use Rattle.office_serving.specs.ListsByRows.{AreIn, AreListedIn, IsListIn, IsShownIn, IsToldIn, is_wanted};
+ghost use Rattle.office_asking.specs.Asking.{role_name, visit_on};
+ghost use Rattle.office_serving.specs.Reading.{ServesReading};
+ghost use Rattle.office_serving.specs.Allowances.{AreFor};
+ghost use Rattle.office_serving.specs.Listing.{wanted_of};
 
 use crate::allowances::Allowances;
 use crate::records::record_in;
@@ -54,20 +47,10 @@ fn is_shown<'a, S: Alter>(
     row: &'a DepositRow,
 ) -> Result<bool, TableFault>
     ensures inside { GoesOnInTurn S.Store tx.old.conn tx.new.conn result }
-    ensures shown { Finds S.Store tx.old.conn.now tx.new.conn.now result (λ h is.
-        (visit : Visit) → AreOf h visit acts.List allowances.old
-        → AreOf h visit acts.List allowances.new
-        × ((n : ℕ) (found : Date × Deposit) → row.now ≡ deposit_row h n found
-        → is ≡ is_shown h visit (wanted_of collection.entry class.entry) n found.1)) }
-    ensures same { Keeps S.Store tx.old.conn.now tx.new.conn.now result }
-    ensures rows { Tells S.Store tx.old.conn.now tx.new.conn.now result (λ tables is.
-        (visit : Visit) → AreIn tables visit acts.List allowances.old
-        → AreIn tables visit acts.List allowances.new
-        × IsShownIn tables visit (wanted_of collection.entry class.entry) row.now is) }
     ensures reads { Shows S.Store tx.old.conn.now tx.new.conn.now result (λ tables is.
         (role : List ℕ) (day : Date) → AreFor tables role day acts.List allowances.old
         → AreFor tables role day acts.List allowances.new
-        × (by_rows.is_shown tables role day (wanted_of collection.entry class.entry) row.now
+        × (is_shown tables role day (wanted_of collection.entry class.entry) row.now
         ≡ Some is)) }
 {
     if !is_wanted(row, collection, class) {
@@ -90,17 +73,6 @@ fn shown_record<'a, S: Alter>(
     row: &'a DepositAndDue,
 ) -> Result<Option<DepositRecord>, TableFault>
     ensures inside { GoesOnInTurn S.Store tx.old.conn tx.new.conn result }
-    ensures shown { Finds S.Store tx.old.conn.now tx.new.conn.now result (λ h told.
-        (visit : Visit) → AreOf h visit acts.List allowances.old
-        → AreOf h visit acts.List allowances.new
-        × ((n : ℕ) (found : Date × Deposit) → deposit_numbered h n ≡ Some found
-        → row.now ≡ (deposit_row h n found, due_row h n found)
-        → told ≡ shown_record h visit (wanted_of collection.entry class.entry) n)) }
-    ensures same { Keeps S.Store tx.old.conn.now tx.new.conn.now result }
-    ensures rows { Tells S.Store tx.old.conn.now tx.new.conn.now result (λ tables told.
-        (visit : Visit) → AreIn tables visit acts.List allowances.old
-        → AreIn tables visit acts.List allowances.new
-        × IsToldIn tables visit (wanted_of collection.entry class.entry) row.now told) }
     ensures reads { Shows S.Store tx.old.conn.now tx.new.conn.now result (λ tables told.
         (role : List ℕ) (day : Date) → AreFor tables role day acts.List allowances.old
         → AreFor tables role day acts.List allowances.new
@@ -124,16 +96,6 @@ fn shown_among<S: Alter>(
     rows: &[DepositAndDue],
 ) -> Result<Vec<DepositRecord>, TableFault>
     ensures inside { GoesOnInTurn S.Store tx.old.conn tx.new.conn result }
-    ensures listed { Finds S.Store tx.old.conn.now tx.new.conn.now result (λ h told.
-        (visit : Visit) → IsAsker h visit asker.now
-        → rows.now ≡ beside (deposit_rows h) (due_rows h)
-        → told.items
-        ≡ listed_records h visit.day visit.caller (wanted_of collection.entry class.entry)) }
-    ensures same { Keeps S.Store tx.old.conn.now tx.new.conn.now result }
-    ensures rows { Tells S.Store tx.old.conn.now tx.new.conn.now result (λ tables told.
-        (visit : Visit) → IsAskerIn tables visit asker.now
-        → AreListedIn tables visit (wanted_of collection.entry class.entry) rows.now
-        told.items) }
     ensures reads { Shows S.Store tx.old.conn.now tx.new.conn.now result (λ tables told.
         things_told
         (listed_record tables (role_name asker.now) asker.now.day
@@ -163,17 +125,9 @@ pub fn list<S: Alter>(
     class: Option<&Name<'_>>,
 ) -> Result<Answer, TableFault>
     ensures inside { GoesOnInside S.Store tx.old.conn tx.new.conn result }
-    ensures decides { Decides S.Store tx.old.conn.now tx.new.conn.now result (
-      day,
-      caller.entry,
-      requests.List (option_copied collection.entry) (option_copied class.entry),
-    ) }
-    ensures same { Keeps S.Store tx.old.conn.now tx.new.conn.now result }
-    ensures rows { Tells S.Store tx.old.conn.now tx.new.conn.now result (λ tables given.
-        IsListIn tables (visit_on day caller.now) (wanted_of collection.entry class.entry) given) }
-    ensures serves { Serves S.Store tx.old.conn.now tx.new.conn.now result (λ tables.
-        serve tables (visit_on day caller.now)
-        (requests.List (option_copied collection.entry) (option_copied class.entry))) }
+    ensures serves { ServesReading S.Store tx.old.conn.now tx.new.conn.now result
+        (visit_on day caller.now)
+        (requests.List (option_copied collection.entry) (option_copied class.entry)) }
 {
     let asker = Asker::read(tx, day, caller)?;
     let rows = deposits_and_dues(alloc, tx)?;

@@ -1,22 +1,13 @@
 //! Records of deposits.
 
-ghost use Rattle.std.specs.Prelude.{◌≡◌, ◌↔◌, IfErr, IfOk, None, Some, ℕ, pos};
-ghost use Rattle.jiff.specs.Types.{Date};
+ghost use Rattle.std.specs.Prelude.{◌≡◌, ◌↔◌, IfErr, IfOk, None, Some};
 ghost use Rattle.office_core.specs.declared.answer.Answer.TheVariants as answers;
-ghost use Rattle.office_core.specs.declared.answer.DepositRecord.{DepositRecord};
 ghost use Rattle.office_core.specs.declared.request.Request.TheVariants as requests;
 ghost use Rattle.office_tables.specs.Faults.{IsFailure};
-ghost use Rattle.office_tables.specs.Calls.{GoesOnInside, Keeps, Shows, Tells};
-ghost use Rattle.office_tables.specs.declared.fault.TableFault.TheVariants.{Memory};
-ghost use Rattle.office_history.specs.Histories.{Deposit, deposit_numbered};
-ghost use Rattle.office_history.specs.Pictures.{deposit_row};
-ghost use Rattle.office_history.specs.Answers.{record_of};
+ghost use Rattle.office_tables.specs.Calls.{GoesOnInside, Shows};
 ghost use Rattle.office_by_rows.specs.Answers.{record_by, record_in};
-ghost use Rattle.office_by_rows.specs.Serving.{serve};
 ghost use Rattle.office_asking.specs.Asking.{visit_on};
-ghost use Rattle.office_asking.specs.Serving.{Decides, Finds, Serves};
-ghost use Rattle.office_serving.specs.ListsByRows.{IsRecordBy, IsRecordIn};
-ghost use Rattle.office_serving.specs.Told.{IsRecordOf};
+ghost use Rattle.office_serving.specs.Reading.{ServesReading};
 
 use crate::counts::count_in;
 use bag_text::{MAX_CONTENT, MAX_FILES};
@@ -41,10 +32,7 @@ pub fn record_in(
     ensures reads { IfOk result (λ told. record_by row.now kept.now ≡ Some told) }
     ensures store { IfErr result (λ fault.
         (fault ≡ TableFault.Store) ↔ (record_by row.now kept.now ≡ None)) }
-    ensures told { IfOk result (λ told. IsRecordOf row.now kept.now told) }
     ensures failure { IfErr result IsFailure }
-    ensures memory { IfErr result (λ fault.
-        fault ≡ TableFault.Memory → (told : DepositRecord) × IsRecordOf row.now kept.now told) }
 {
     let days = days_in(row)?;
     let files = count_in(row.files, MAX_FILES)?;
@@ -75,12 +63,6 @@ fn record_of<S: Alter>(
     row: &DepositRow,
 ) -> Result<DepositRecord, TableFault>
     ensures inside { GoesOnInside S.Store tx.old.conn tx.new.conn result }
-    ensures told { Finds S.Store tx.old.conn.now tx.new.conn.now result (λ h told.
-        (n : ℕ) (found : Date × Deposit) → deposit_numbered h n ≡ Some found
-        → row.now ≡ deposit_row h n found → told ≡ record_of h n found) }
-    ensures same { Keeps S.Store tx.old.conn.now tx.new.conn.now result }
-    ensures rows { Tells S.Store tx.old.conn.now tx.new.conn.now result (λ tables told.
-        (n : ℕ) → pos n ≡ row.now.number → IsRecordBy tables n row.now told) }
     ensures reads { Shows S.Store tx.old.conn.now tx.new.conn.now result (λ tables told.
         record_in tables row.now ≡ Some (answers.Record told)) }
 {
@@ -99,13 +81,8 @@ pub fn record<S: Alter>(
     number: u32,
 ) -> Result<Answer, TableFault>
     ensures inside { GoesOnInside S.Store tx.old.conn tx.new.conn result }
-    ensures decides { Decides S.Store tx.old.conn.now tx.new.conn.now result
-        (day, caller.entry, requests.Record number) }
-    ensures same { Keeps S.Store tx.old.conn.now tx.new.conn.now result }
-    ensures rows { Tells S.Store tx.old.conn.now tx.new.conn.now result (λ tables given.
-        IsRecordIn tables (visit_on day caller.now) number given) }
-    ensures serves { Serves S.Store tx.old.conn.now tx.new.conn.now result (λ tables.
-        serve tables (visit_on day caller.now) (requests.Record number)) }
+    ensures serves { ServesReading S.Store tx.old.conn.now tx.new.conn.now result
+        (visit_on day caller.now) (requests.Record number) }
 {
     match kept_deposit(tx, day, caller, Action::Record, number)? {
         Ok(row) => Ok(Answer::Record(record_of(alloc, tx, &row)?)),

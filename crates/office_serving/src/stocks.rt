@@ -2,16 +2,12 @@
 
 ghost use Rattle.std.specs.Prelude.{◌≡◌, Some, map};
 ghost use Rattle.std.specs.Option.{ok_or};
-ghost use Rattle.office_tables.specs.Calls.{GoesOnInside, Keeps};
+ghost use Rattle.office_tables.specs.Calls.{GoesOnInside};
 ghost use Rattle.office_tables.specs.Contents.{Does};
 ghost use Rattle.office_tables.specs.Tables.{contents_of};
 ghost use Rattle.office_tables.specs.declared.fault.TableFault.TheVariants.{Store};
-ghost use Rattle.office_history.specs.Stocks.{stock};
 ghost use Rattle.office_by_rows.specs.Stock.{stock_by, stock_in, total_by};
-ghost use Rattle.office_asking.specs.Serving.{Finds};
-ghost use Rattle.office_serving.specs.ListsByRows.{IsStockIn};
 
-use office_tables::laws::contents_are_those_of_files;
 use office_tables::{ContentSize, TableFault, contents};
 use sqlite::{Alter, Transaction};
 use std::alloc::Global;
@@ -72,16 +68,9 @@ fn stock_in(sizes: &[ContentSize]) -> Result<Stock, TableFault>
 /// Fails with `Memory` or `Store`.
 pub fn stock_of<S: Alter>(alloc: Global, tx: &mut Transaction<'_, S>) -> Result<Stock, TableFault>
     ensures inside { GoesOnInside S.Store tx.old.conn tx.new.conn result }
-    ensures stock { Finds S.Store tx.old.conn.now tx.new.conn.now result (λ h found.
-        found ≡ stock h) }
-    ensures same { Keeps S.Store tx.old.conn.now tx.new.conn.now result }
-    ensures rows { Does S.Store tx.old.conn.now tx.new.conn.now result (λ old _ found.
-        IsStockIn old found) }
     ensures reads { Does S.Store tx.old.conn.now tx.new.conn.now result (λ old new found.
         (new ≡ old) × (stock_by (contents_of old) ≡ Some found)) }
 {
-    // Where contents are kept once, they are those of the files.
-    contents_are_those_of_files();
     let sizes = contents(alloc, tx)?;
     stock_in(&sizes)
 }

@@ -1,39 +1,26 @@
-use Rattle.std.proofs.Common.{rules, ◌≡◌, IsTrue, None, Err, sym, ap, ok_or, ◌∙◌}
+use Rattle.std.proofs.Common.{rules, ◌≡◌, ◌≤◌, ◌&&◌, pos, true, Some, None, Err, sym, ap, ok_or, ◌∙◌}
+use Rattle.std.proofs.lemmas.Bool.{and_parts}
+use Rattle.office_core.specs.Bounds.{max_rules}
+use Rattle.office_core.specs.declared.rule.Decision.{Decision}
 use Rattle.office_tables.specs.declared.fault.TableFault.TheVariants.{Store}
-use Rattle.office_by_rows.specs.Values.{effect_of}
-use Rattle.office_asking.specs.Asking.{IsDecisionOf}
-use Rattle.office_asking.proofs.ComesTo.{decision_is}
-use Rattle.office_asking.proofs.TellsNothing.{no_effect, no_rule, rule_back}
+use Rattle.office_by_rows.specs.Values.{effect_of, is_between}
+use Rattle.office_by_rows.specs.Asking.{is_rule}
+use Rattle.office_by_rows.proofs.ComesTo.{decision_is, place_is}
+use Rattle.office_asking.proofs.RowsRead.{rule_is, some_read}
+use Rattle.office_asking.proofs.TellsNothing.{is_inside, no_effect, no_rule}
 use Rattle.office_asking.proofs.asker.decision_in.Goals as goal
 
-says : (c : goal.In_ok-effect_of-in-Ok) → IsDecisionOf c.args.row.now (record { rule = c.in-Ok.rule; effect = c.in_ok-effect_of-in-Ok.field-0 })
-says c =
-    let yes : IsTrue c.is_rule.result = search rules in
-    let is = c.is_rule.ensures.0 yes in
-    let patterns = is.0 in
-    let days = is.1 in
-    record {
-      rule = search rules;
-      from_one = search rules;
-      among_few = search rules;
-      effect = search rules;
-      in_range = record {
-        effect = search rules;
-        role = patterns.0;
-        action = patterns.1;
-        collection = patterns.2;
-        class = patterns.3;
-        first = days.0;
-        last = days.1;
-        in_turn = days.2;
-      };
-    }
-
-pub returns-in_ok-effect_of-in-Ok-clause-decision : goal.returns-in_ok-effect_of-in-Ok-clause-decision
-returns-in_ok-effect_of-in-Ok-clause-decision c = says c
-
 pub returns-in_ok-effect_of-in-Ok-clause-reads : goal.returns-in_ok-effect_of-in-Ok-clause-reads
-returns-in_ok-effect_of-in-Ok-clause-reads c = ap (λ o. ok_or o Store) (sym (decision_is c.args.row.now (record { rule = c.in-Ok.rule; effect = c.in_ok-effect_of-in-Ok.field-0 }) (says c)))
+returns-in_ok-effect_of-in-Ok-clause-reads c =
+    let row = c.args.row.now in
+    let decision : Decision = record { rule = c.in-Ok.rule; effect = c.in_ok-effect_of-in-Ok.field-0 } in
+    let place : pos c.in-Ok.rule ≡ row.place = search rules in
+    let from_one : 1 ≤ c.in-Ok.rule = search rules in
+    let among_few : c.in-Ok.rule ≤ max_rules = search rules in
+    let effect : effect_of row.effect ≡ Some c.in_ok-effect_of-in-Ok.field-0 = some_read (effect_of row.effect) Store c.in_ok-effect_of-in-Ok.field-0 (search rules) in
+    let yes : c.is_rule.result ≡ true = search rules in
+    let is : is_rule row ≡ true = sym (rule_is row) ∙ (λ i. place_is row.place c.in-Ok.rule place from_one among_few i && (sym c.is_rule.ensures ∙ yes) i) in
+    ap (λ o. ok_or o Store) (sym (decision_is row decision is place effect))
 
 pub returns-in_err-effect_of-in-Ok-clause-reads : goal.returns-in_err-effect_of-in-Ok-clause-reads
 returns-in_err-effect_of-in-Ok-clause-reads c =
@@ -44,4 +31,8 @@ returns-in_err-effect_of-in-Ok-clause-reads c =
 pub returns-in_default-clause-reads : goal.returns-in_default-clause-reads
 returns-in_default-clause-reads c =
     let row = c.args.row.now in
-    ap (λ o. ok_or o Store) (sym (no_rule row (λ e. let back = rule_back row e in let yes : IsTrue c.is_rule.result = c.is_rule.ensures.1 (back.1, back.2) in absurd (search (rules, yes)))))
+    ap (λ o. ok_or o Store) (sym (no_rule row (λ e.
+    let both = and_parts (is_between (pos 1) (pos max_rules) row.place) _ (rule_is row ∙ e) in
+    let place = is_inside (pos 1) (pos max_rules) row.place both.0 in
+    let yes : c.is_rule.result ≡ true = c.is_rule.ensures ∙ both.1 in
+    absurd (search (rules, place, yes)))))

@@ -1,7 +1,8 @@
-use Rattle.std.proofs.Common.{rules, ◌≤ℤ◌}
+use Rattle.std.proofs.Common.{rules, ◌≡◌, ◌≤ℤ◌, None}
 use Rattle.office_tables.specs.declared.fault.TableFault.TheVariants.{Store}
 use Rattle.office_by_rows.specs.Values.{day_numbered, if_any}
-use Rattle.office_asking.proofs.RowsRead.{days_read, some_read}
+use Rattle.office_by_rows.proofs.ComesTo.{days_read, no_days}
+use Rattle.office_asking.proofs.RowsRead.{some_read}
 use Rattle.office_asking.proofs.deposits.days_in.Goals as goal
 
 pub returns-clause-reads : goal.returns-clause-reads
@@ -12,3 +13,10 @@ returns-clause-reads c =
     (some_read (day_numbered row.closed) Store c.in_ok-day_numbered.field-0 (search rules))
     (some_read (day_numbered row.deposited) Store c.in_ok-day_numbered-2.field-0 (search rules))
     (some_read (if_any day_numbered row.gone) Store c.in_ok-optional_day_numbered.field-0 (search rules))
+
+pub returns-in_err-optional_day_numbered-clause-none : goal.returns-in_err-optional_day_numbered-clause-none
+returns-in_err-optional_day_numbered-clause-none c =
+    let row = c.args.row.now in
+    let untold : if_any day_numbered row.gone ≡ None = search rules in
+    let none = no_days row untold in
+    search (rules, none)

@@ -1,67 +1,15 @@
-use Rattle.std.proofs.Common.{rules, ◌≡◌, sym, ◌∙◌, Some, None, option_map, [], ◌∷◌, ap, pos}
+use Rattle.std.proofs.Common.{rules, ◌≡◌, sym, ◌∙◌, Some, None, [], ◌∷◌, ap, pos}
 use Rattle.std.proofs.lemmas.Result.{IfOk-weaker}
 use Rattle.sqlite.specs.Held.{state}
-use Rattle.office_history.specs.Histories as histories
-use Rattle.office_history.specs.Pictures.{deposit_row}
-use Rattle.office_history.specs.Refusals.{denial, kept_refusals}
-use Rattle.office_asking.proofs.Readings.{pictured_still}
-use Rattle.office_asking.proofs.DepositAsked.{deposit_read, none_there}
 use Rattle.office_tables.specs.Tables.{tables_of}
 use Rattle.office_asking.specs.Asking.{visit_on}
-use Rattle.office_asking.specs.ByRows.{IsDenialBy, deciding_row, deciding_row_at}
-use Rattle.office_asking.proofs.RowsTold.{office_still, told_before, none_asked, row_asked}
-use Rattle.office_tables.proofs.InTurn.{clean_first, inside_after, inside_failed, same_then, whatever}
+use Rattle.office_asking.proofs.RowsTold.{office_still, told_before}
+use Rattle.office_tables.proofs.InTurn.{clean_first, inside_after, inside_failed}
 use Rattle.office_rows.specs.Rows.{deposit_numbered}
 use Rattle.office_by_rows.specs.Asking.{denial_in}
 use Rattle.office_by_rows.specs.Refusals as by_rows
 use Rattle.office_by_rows.specs.Refusals.{denial_at, first_told, gone_refusal, of_deposit}
 use Rattle.office_asking.proofs.deposits.kept_deposit.Goals as goal
-
-pub returns-in_default-clause-asked : goal.returns-in_default-clause-asked
-returns-in_default-clause-asked g c clean h legal pictured =
-    let a = c.args in
-    let read = deposit_read pictured a.number c.in_ok-deposit.field-0 (c.in_ok-deposit.ensures.found clean pictured.office) in
-    let none : None ≡ option_map (deposit_row h a.number) (histories.deposit_numbered h a.number) = search (rules, read) in
-    (pictured_still pictured (c.in_ok-deposit.ensures.same clean pictured.office), none_there h a.number (kept_refusals h a.day a.caller.now a.action a.number) none)
-
-pub returns-clause-asked : goal.returns-clause-asked
-returns-clause-asked g c clean h legal pictured =
-    let a = c.args in
-    let early = clean_first c.denial.ensures.inside.stays clean in
-    let read = deposit_read pictured a.number c.in_ok-deposit.field-0 (c.in_ok-deposit.ensures.found early pictured.office) in
-    let still = pictured_still pictured (c.in_ok-deposit.ensures.same early pictured.office) in
-    let row = c.in-Some.deposit in
-    let some : Some row ≡ option_map (deposit_row h a.number) (histories.deposit_numbered h a.number) = sym c.in-Some.is ∙ read in
-    let denied = c.in_ok-denied.ensures.denied clean h legal still in
-    let collection : c.deref.result.now ≡ row.collection = search rules in
-    let class : c.deref-2.result.now ≡ row.class = search rules in
-    let said : c.in_ok-denied.denied ≡ denial h a.day a.caller.now a.action (Some row.collection) (Some row.class) = denied.1 ∙ (λ i. denial h a.day a.caller.now a.action (Some (collection i)) (Some (class i))) in
-    IfOk-weaker c.unless_refused.result _ _ (λ asked says. (denied.0, says h a.day a.caller.now a.action a.number some said)) c.unless_refused.ensures.asked
-
-pub returns-clause-same : goal.returns-clause-same
-returns-clause-same g c clean office = whatever c.unless_refused.result (same_then c.in_ok-deposit.ensures.inside c.in_ok-denied.ensures.inside c.in_ok-deposit.ensures.same c.in_ok-denied.ensures.same clean office)
-
-pub returns-in_default-clause-rows : goal.returns-in_default-clause-rows
-returns-in_default-clause-rows g c clean office =
-    let a = c.args in
-    let old = state g.S.Store a.tx.now.conn.now in
-    let found = c.in_ok-deposit.ensures.found clean office in
-    none_asked (tables_of old.now) (visit_on a.day a.caller.now) a.action a.number (search (rules, found))
-
-pub returns-clause-rows : goal.returns-clause-rows
-returns-clause-rows g c clean office =
-    let a = c.args in
-    let old = state g.S.Store a.tx.now.conn.now in
-    let early = clean_first c.denial.ensures.inside.stays clean in
-    let same = c.in_ok-deposit.ensures.same early office in
-    let row = c.in-Some.deposit in
-    let there = sym c.in-Some.is ∙ c.in_ok-deposit.ensures.found early office in
-    let collection : c.deref.result.now ≡ row.collection = search rules in
-    let class : c.deref-2.result.now ≡ row.class = search rules in
-    let visit = visit_on a.day a.caller.now in
-    let told = told_before same (λ t. IsDenialBy (deciding_row t visit a.action (Some c.deref.result.now) (Some c.deref-2.result.now)) c.in_ok-denied.denied) (c.in_ok-denied.ensures.rows clean (office_still same office)) in
-    let denial : IsDenialBy (deciding_row_at (tables_of old.now) visit a.action row) c.in_ok-denied.denied = rw (collection, class) at told in
-    row_asked (tables_of old.now) visit a.action a.number row there c.in_ok-denied.denied denial c.unless_refused.result c.unless_refused.ensures.kept c.unless_refused.ensures.refused
 
 pub returns-in_err-denied-clause-inside : goal.returns-in_err-denied-clause-inside
 returns-in_err-denied-clause-inside g c = inside_failed c.in_ok-deposit.ensures.inside c.denial.ensures.inside _ (search rules) (search rules)

@@ -4,41 +4,11 @@ use Rattle.std.proofs.lemmas.Int.{to_z-of_z}
 use Rattle.sqlite.specs.Held.{state}
 use Rattle.office_tables.specs.Tables.{tables_of}
 use Rattle.office_tables.specs.declared.fault.TableFault.TheVariants.{Store}
-use Rattle.office_asking.specs.ByRows.{IsLeastIn}
-use Rattle.office_asking.proofs.Readings.{pictured_still}
 use Rattle.office_asking.proofs.RowsTold.{office_still, there_is, told_before}
-use Rattle.office_asking.proofs.DuesTold.{unheld}
 use Rattle.office_tables.proofs.InTurn.{clean_first, in_turn, inside_after, inside_failed, none_called}
 use Rattle.office_by_rows.specs.Asking.{counted_hold_in, least_hold_in}
-use Rattle.office_asking.proofs.RowsRead.{counted_read}
+use Rattle.office_by_rows.proofs.ComesTo.{counted_read}
 use Rattle.office_asking.proofs.due.counted_hold.Goals as goal
-
-pub returns-then-count-eq0-clause-least : goal.returns-then-count-eq0-clause-least
-returns-then-count-eq0-clause-least g c clean h legal pictured =
-    let none : c.args.count ≡ pos 0 = search rules in
-    (pictured, λ deposit within of counted. sym (unheld h c.args.number deposit (sym counted ∙ none)))
-
-pub returns-then-count-eq0-clause-rows : goal.returns-then-count-eq0-clause-rows
-returns-then-count-eq0-clause-rows g c clean office = search rules
-
-pub returns-clause-least : goal.returns-clause-least
-returns-clause-least g c clean h legal pictured =
-    let early = clean_first c.least_hold.ensures.inside.stays clean in
-    let still = pictured_still pictured (c.in_ok-check_count.ensures.same early pictured.office) in
-    let found = c.in_ok-found.ensures.least clean h legal still in
-    let some : Some c.in_ok-hold.hold ≡ c.in_ok-found.found = there_is c.in_ok-found.found Store c.in_ok-hold.hold c.in_ok-hold.ensures in
-    (found.0, λ deposit within of counted. some ∙ found.1 deposit within of)
-
-pub returns-clause-rows : goal.returns-clause-rows
-returns-clause-rows g c clean office =
-    let mid = state g.S.Store c.check_count.new.tx.conn.now in
-    let early = clean_first c.least_hold.ensures.inside.stays clean in
-    let same = c.in_ok-check_count.ensures.same early office in
-    let some : Some c.in_ok-hold.hold ≡ c.in_ok-found.found = there_is c.in_ok-found.found Store c.in_ok-hold.hold c.in_ok-hold.ensures in
-    let least = c.in_ok-found.ensures.rows clean (office_still same office) in
-    let is : IsLeastIn (tables_of mid.now) c.args.number c.args.collection.now c.args.class.now c.in_ok-hold.hold = subst (λ o. IfSome o (λ k. IsLeastIn (tables_of mid.now) c.args.number c.args.collection.now c.args.class.now k)) (sym some) least in
-    let fits : SFits w64 c.args.count = search rules in
-    (rw (to_z-of_z w64 c.args.count fits) at c.in_ok-check_count.ensures.rows early office, told_before same (λ t. IsLeastIn t c.args.number c.args.collection.now c.args.class.now c.in_ok-hold.hold) is)
 
 pub returns-then-count-eq0-clause-inside : goal.returns-then-count-eq0-clause-inside
 returns-then-count-eq0-clause-inside g c = none_called _ (search rules)

@@ -1,90 +1,19 @@
-use Rattle.std.proofs.Common.{rules, ◌≡◌, ap, sym, ◌∙◌, pos, Some, option_map, w64, refl, subst}
+use Rattle.std.proofs.Common.{rules, ◌≡◌, sym, ◌∙◌, pos, Some, w64, subst}
 use mir.Val.{SFits, of_z, to_z}
 use Rattle.std.proofs.lemmas.Int.{to_z-of_z}
 use Rattle.sqlite.specs.Held.{state}
-use Rattle.jiff.specs.Words.{epoch_day}
-use Rattle.office_core.specs.declared.action.Action.TheVariants as acts
-use Rattle.office_rows.specs.Rows.{DepositRow, DueRow, due_numbered}
-use Rattle.office_history.specs.Histories.{deposit_numbered, least_hold, due}
-use Rattle.office_history.specs.Pictures.{due_number, due_row}
-use Rattle.office_history.specs.Refusals.{deciding_rule}
-use Rattle.office_history.proofs.DisposalFacts.{same_facts}
-use Rattle.office_asking.proofs.NumberedRows.{same_count}
-use Rattle.office_asking.proofs.DuesTold.{due_back}
+use Rattle.office_rows.specs.Rows.{due_numbered}
 use Rattle.office_tables.specs.Tables.{tables_of}
-use Rattle.office_asking.specs.ByRows.{IsCountedIn, IsLeastIn}
 use Rattle.office_asking.proofs.RowsTold.{office_still, told_before}
-use Rattle.office_tables.proofs.InTurn.{clean_first, failed_before, failed_in_turn, inside_as, inside_failed, inside_then, same_then, then_in_turn}
+use Rattle.office_tables.proofs.InTurn.{clean_first, failed_before, failed_in_turn, inside_as, inside_failed, inside_then, then_in_turn}
 use Rattle.office_tables.specs.declared.fault.TableFault.TheVariants.{Store}
 use Rattle.office_by_rows.specs.Values.{due_of_number}
 use Rattle.office_by_rows.specs.Asking.{counted_hold_in}
 use Rattle.office_asking.specs.Asking.{role_name}
 use Rattle.office_asking.specs.Told.{told_days}
-use Rattle.office_asking.proofs.ComesTo.{facts_told}
-use Rattle.office_asking.proofs.RowsRead.{some_read}
+use Rattle.office_by_rows.proofs.ComesTo.{facts_told}
+use Rattle.office_asking.proofs.RowsRead.{same_count, some_read}
 use Rattle.office_asking.proofs.due.disposal_facts.Goals as goal
-
-pub returns-clause-facts : goal.returns-clause-facts
-returns-clause-facts g c clean h legal pictured =
-    let a = c.args in
-    let before_last = clean_first c.counted_hold.ensures.inside.stays clean in
-    let early = clean_first c.kept_of.ensures.inside.stays before_last in
-    let decided = c.in_ok-decision.ensures.decided early h legal pictured in
-    let kept = c.in_ok-kept.ensures.kept before_last h legal decided.0 in
-    let held = c.in_ok-hold.ensures.least clean h legal kept.0 in
-    let row = a.row.now in
-    let count : pos c.row.inside.number ≡ row.number = search rules in
-    let collection : c.deref.result.now ≡ row.collection = search rules in
-    let class : c.deref-2.result.now ≡ row.class = search rules in
-    let covered : c.deref-3.result.now ≡ row.collection = search rules in
-    let covered_of : c.deref-4.result.now ≡ row.class = search rules in
-    let gone : option_map epoch_day c.in_ok-days.days.gone ≡ row.gone = search rules in
-    let fits : SFits w64 c.kept.inside.holds = search rules in
-    let counts : c.kept.inside.holds ≡ c.in_ok-kept.kept.holds = search rules in
-    let falls : due_number c.in_ok-due.due ≡ c.in_ok-kept.kept.due = search rules in (
-      held.0,
-      λ visit is n found there row_is.
-          let same : c.row.inside.number ≡ n = same_count c.row.inside.number n (count ∙ ap (λ (r : DepositRow). r.number) row_is) in
-          let kept_is : c.in_ok-kept.kept ≡ due_row h c.row.inside.number found = kept.1 found (ap (deposit_numbered h) same ∙ there) in
-          same_facts h visit.day visit.caller n found row row_is c.in_ok-decision.decision c.in_ok-days.days.gone c.in_ok-hold.hold c.in_ok-due.due
-          (decided.1 visit is ∙ (λ i. deciding_rule h visit.day visit.caller acts.Dispose (Some (collection i)) (Some (class i))))
-          gone
-          (held.1 found.1 (sym (ap (λ (r : DepositRow). r.collection) row_is) ∙ sym covered) (sym (ap (λ (r : DepositRow). r.class) row_is) ∙ sym covered_of) (to_z-of_z w64 c.kept.inside.holds fits ∙ counts ∙ ap (λ (k : DueRow). k.holds) kept_is) ∙ ap (λ m. least_hold h m found.1) same)
-          (due_back c.in_ok-due.due (due h found.1) (falls ∙ ap (λ (k : DueRow). k.due) kept_is)),
-    )
-
-pub returns-clause-rows : goal.returns-clause-rows
-returns-clause-rows g c clean office visit is n numbered =
-    let a = c.args in
-    let s0 = state g.S.Store a.tx.now.conn.now in
-    let before_last = clean_first c.counted_hold.ensures.inside.stays clean in
-    let early = clean_first c.kept_of.ensures.inside.stays before_last in
-    let same1 = c.in_ok-decision.ensures.same early office in
-    let office1 = office_still same1 office in
-    let same2 = same_then c.in_ok-decision.ensures.inside c.in_ok-kept.ensures.inside c.in_ok-decision.ensures.same c.in_ok-kept.ensures.same before_last office in
-    let row = a.row.now in
-    let number : c.row.inside.number ≡ n = same_count c.row.inside.number n ((search rules) ∙ sym numbered) in
-    let collection : c.deref.result.now ≡ row.collection = search rules in
-    let class : c.deref-2.result.now ≡ row.class = search rules in
-    let covered : c.deref-3.result.now ≡ row.collection = search rules in
-    let covered_of : c.deref-4.result.now ≡ row.class = search rules in
-    let fits : SFits w64 c.kept.inside.holds = search rules in
-    let counts : c.kept.inside.holds ≡ c.in_ok-kept.kept.holds = search rules in
-    let kept = c.in_ok-kept.kept in
-    let there = told_before same1 (λ t. Some kept ≡ due_numbered (pos c.row.inside.number) t.dues) (c.in_ok-kept.ensures.rows before_last office1) in
-    let held = told_before same2 (λ t. IsCountedIn t (to_z w64 (of_z w64 c.kept.inside.holds)) (IsLeastIn t c.row.inside.number c.deref-3.result.now c.deref-4.result.now) c.in_ok-hold.hold) (c.in_ok-hold.ensures.rows clean (office_still same2 office)) in
-    record {
-      action = refl;
-      decided = rw (collection, class) at (c.in_ok-decision.ensures.rows early office visit is);
-      days = c.in_ok-days.days;
-      are_days = c.in_ok-days.ensures.days;
-      gone = refl;
-      kept = kept;
-      there = subst (λ m. Some kept ≡ due_numbered (pos m) (tables_of s0.now).dues) number there;
-      due = search rules;
-      is_due = search rules;
-      hold = rw (to_z-of_z w64 c.kept.inside.holds fits ∙ counts, number, covered, covered_of) at held;
-    }
 
 pub returns-in_err-kept-clause-inside : goal.returns-in_err-kept-clause-inside
 returns-in_err-kept-clause-inside g c = inside_failed c.in_ok-decision.ensures.inside c.kept_of.ensures.inside _ (search rules) (search rules)

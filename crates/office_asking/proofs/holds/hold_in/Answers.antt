@@ -5,39 +5,15 @@ use Rattle.std.proofs.lemmas.Result.{IfErr-weaker}
 use Rattle.office_core.specs.Names.{is_matter}
 use Rattle.office_core.specs.declared.answer.LiveHold.{LiveHold}
 use Rattle.office_tables.specs.declared.fault.TableFault.TheVariants.{Memory, Store}
-use Rattle.office_asking.specs.Holds.{IsHoldOf, scope_in}
+use Rattle.office_by_rows.specs.Values.{day_numbered}
 use Rattle.office_by_rows.specs.Asking.{hold_by, scope_of, target_named, target_of}
-use Rattle.office_asking.proofs.ComesTo.{hold_told}
+use Rattle.office_by_rows.proofs.ComesTo.{hold_told}
+use Rattle.office_asking.proofs.RowsRead.{some_read}
 use Rattle.office_asking.proofs.TellsNothing.{names_nothing, no_matter, no_scope}
 use Rattle.office_asking.proofs.holds.hold_in.Goals as goal
 
 not_store : Memory ≡ Store → ⊥
 not_store e = absurd cc
-
-pub returns-clause-told : goal.returns-clause-told
-returns-clause-told c =
-    let deposit = c.in_ok-named.ensures.deposit in
-    let collection = c.in_ok-named.ensures.collection in
-    let class = c.in_ok-named.ensures.class in
-    record { number = search rules; matter = search rules; on = c.scope_of-on.ensures ∙ (λ i. scope_in (deposit i) (collection i) (class i)); placed = search rules; is_day = search rules; is_matter = search rules }
-
-pub returns-in_err-text_of_kind-clause-memory : goal.returns-in_err-text_of_kind-clause-memory
-returns-in_err-text_of_kind-clause-memory c =
-    let row = c.args.row.now in
-    let text : c.deref.result.now ≡ row.matter = search rules in
-    let deposit = c.in_ok-named.ensures.deposit in
-    let collection = c.in_ok-named.ensures.collection in
-    let class = c.in_ok-named.ensures.class in
-    let on : Some c.scope_of-on.result ≡ scope_in row.deposit row.collection row.class = c.scope_of-on.ensures ∙ (λ i. scope_in (deposit i) (collection i) (class i)) in
-    let wanted : c.in_err-text_of_kind.field-0.0 ≡ Memory → (told : LiveHold) × IsHoldOf row told = λ is. elim (cases_Bool (is_matter row.matter)) [
-      | inl kind ↦ (
-        record { number = c.row.inside.number; matter = row.matter; on = c.scope_of-on.result; placed = c.in_ok-placed.placed },
-        record { number = search rules; matter = refl; on = on; placed = search rules; is_day = search rules; is_matter = kind },
-      )
-      | inr isnt ↦ absurd (let store = c.text_of_kind.ensures.store (λ kind. true≢false (sym kind ∙ ap is_matter text ∙ isnt)) in search (rules, store, is))
-    ] in
-    let gives : IfErr c.from_residual-in_err-text_of_kind.result (λ fault. fault ≡ c.in_err-text_of_kind.field-0.0) = search rules in
-    IfErr-weaker c.from_residual-in_err-text_of_kind.result _ _ (λ fault e is. wanted (sym e ∙ is)) gives
 
 pub returns-in_err-named-clause-store : goal.returns-in_err-named-clause-store
 returns-in_err-named-clause-store c =
@@ -56,12 +32,14 @@ returns-in_err-text_of_kind-clause-store c =
     let deposit = c.in_ok-named.ensures.deposit in
     let collection = c.in_ok-named.ensures.collection in
     let class = c.in_ok-named.ensures.class in
-    let on : Some c.scope_of-on.result ≡ scope_in row.deposit row.collection row.class = c.scope_of-on.ensures ∙ (λ i. scope_in (deposit i) (collection i) (class i)) in
+    let number : pos c.row.inside.number ≡ row.number = search rules in
+    let on : scope_of row.deposit row.collection row.class ≡ Some c.scope_of-on.result = sym (c.scope_of-on.ensures ∙ (λ i. scope_of (deposit i) (collection i) (class i))) in
+    let placed : day_numbered row.placed ≡ Some c.in_ok-placed.placed = some_read (day_numbered row.placed) Store c.in_ok-placed.placed (search rules) in
     let failed : c.in_err-text_of_kind.field-0.0 ≡ Store ↔ hold_by row ≡ None = elim (cases_Bool (is_matter row.matter)) [
       | inl kind ↦ (
           let memory : c.in_err-text_of_kind.field-0.0 ≡ Memory = (let it = c.text_of_kind.ensures.memory (ap is_matter text ∙ kind) in search (rules, it)) in
           let told : LiveHold = record { number = c.row.inside.number; matter = row.matter; on = c.scope_of-on.result; placed = c.in_ok-placed.placed } in
-          let is = hold_told row told (record { number = search rules; matter = refl; on = on; placed = search rules; is_day = search rules; is_matter = kind }) in
+          let is = hold_told row told number on placed refl kind in
           (λ store. absurd (not_store (sym memory ∙ store)), λ none. absurd (none-some told (sym none ∙ is)))
           )
       | inr isnt ↦ (

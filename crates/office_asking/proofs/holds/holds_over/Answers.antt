@@ -1,48 +1,14 @@
 use Rattle.std.proofs.Common.{rules, ◌≡◌, false, map, pos, sym, ◌∙◌}
 use Rattle.std.specs.List.{list_any}
-use Rattle.std.proofs.lemmas.Result.{IfOk-weaker}
 use Rattle.sqlite.specs.Held.{state}
 use Rattle.office_core.specs.Days.{first_day_number, last_day_number}
 use Rattle.office_rows.specs.Rows.{live_holds}
 use Rattle.office_tables.specs.Releases.{is_outside_of, is_over}
 use Rattle.office_tables.specs.Tables.{tables_of}
-use Rattle.office_asking.proofs.HoldTold.{live_read}
-use Rattle.office_asking.proofs.InTurn.{ok_both}
-use Rattle.office_asking.proofs.Readings.{pictured_still}
-use Rattle.office_asking.proofs.ReleasesTold.{released_on_days}
-use Rattle.office_asking.proofs.RowsTold.{office_still, told_before}
-use Rattle.office_tables.proofs.InTurn.{clean_first, inside_then, same_then}
+use Rattle.office_asking.proofs.RowsTold.{office_still, ok_both, told_before}
+use Rattle.office_tables.proofs.InTurn.{clean_first, inside_then}
 use Rattle.office_asking.proofs.RowsRead.{released_read}
 use Rattle.office_asking.proofs.holds.holds_over.Goals as goal
-
-pub returns-clause-live : goal.returns-clause-live
-returns-clause-live g c clean h legal pictured =
-    let a = c.args in
-    let early = clean_first c.live_holds.ensures.inside.stays clean in
-    let still = pictured_still pictured (c.in_ok-outside.ensures.same early pictured.office) in
-    ok_both c.live_holds.result (λ numbers same are. (
-      pictured_still still same,
-      λ deposit within of. live_read still a.number a.collection.now a.class.now numbers.items are deposit within of,
-    ))
-    (c.live_holds.ensures.same clean still.office) (c.live_holds.ensures.found clean still.office)
-
-pub returns-clause-same : goal.returns-clause-same
-returns-clause-same g c = same_then c.in_ok-outside.ensures.inside c.live_holds.ensures.inside c.in_ok-outside.ensures.same c.live_holds.ensures.same
-
-pub returns-clause-rows : goal.returns-clause-rows
-returns-clause-rows g c clean office =
-    let a = c.args in
-    let old = state g.S.Store a.tx.now.conn.now in
-    let early = clean_first c.live_holds.ensures.inside.stays clean in
-    let same = c.in_ok-outside.ensures.same early office in
-    let inside : c.in_ok-outside.outside ≡ false = search rules in
-    let none : list_any (is_outside_of (is_over (pos a.number) a.collection.now a.class.now) first_day_number last_day_number) (tables_of old.now).holds ≡ false =
-    sym (c.in_ok-outside.ensures.found early office) ∙ inside in
-    IfOk-weaker c.live_holds.result _ _ (λ numbers are. (
-      told_before same (λ t. map pos numbers.items ≡ live_holds (pos a.number) a.collection.now a.class.now t) are,
-      released_on_days (pos a.number) a.collection.now a.class.now (tables_of old.now).holds none,
-    ))
-    (c.live_holds.ensures.found clean (office_still same office))
 
 pub returns-clause-inside : goal.returns-clause-inside
 returns-clause-inside g c = inside_then c.in_ok-outside.ensures.inside c.live_holds.ensures.inside

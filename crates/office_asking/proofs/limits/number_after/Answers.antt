@@ -21,21 +21,11 @@ has_room count limit lt =
       | inr under ↦ sym (ap (λ b. answer_if b Full) under)
     ]
 
-pub returns-then-limit-last-clause-next : goal.returns-then-limit-last-clause-next
-returns-then-limit-last-clause-next c =
-    let last : c.unwrap_or-last.result ≡ unwrap_or c.args.last 0 = search rules in
-    is_full (unwrap_or c.args.last 0) c.args.limit (rw last at c.if-limit-last.true)
-
 pub returns-then-limit-last-clause-full : goal.returns-then-limit-last-clause-full
 returns-then-limit-last-clause-full c =
     let last : c.unwrap_or-last.result ≡ unwrap_or c.args.last 0 = search rules in
     ap (λ o. o >>= λ last. Some (answer_if (nat_le c.args.limit (unwrap_or last 0)) Full)) (count_back c.args.last)
     ∙ ap Some (sym (is_full (unwrap_or c.args.last 0) c.args.limit (rw last at c.if-limit-last.true)))
-
-pub returns-clause-next : goal.returns-clause-next
-returns-clause-next c =
-    let last : c.unwrap_or-last.result ≡ unwrap_or c.args.last 0 = search rules in
-    (has_room (unwrap_or c.args.last 0) c.args.limit (rw last at c.if-limit-last.false), ap (λ k. k + 1) last)
 
 pub returns-clause-full : goal.returns-clause-full
 returns-clause-full c =

@@ -1,6 +1,6 @@
 use Rattle.std.proofs.Common.{rules, ◌≡◌, ◌++◌, ◌∷◌, [], ◌∙◌, take}
 use Rattle.office_history.specs.Pictures.{rule_row, rule_rows}
-use Rattle.office_defining.proofs.InstallTold.{more_rows}
+use Rattle.office_defining.proofs.RuleRows.{more_rows}
 use Rattle.office_defining.proofs.policy.rule_rows.Goals as goal
 
 pub loop-rule-preserved : goal.loop-rule-preserved

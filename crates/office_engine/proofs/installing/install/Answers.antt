@@ -8,6 +8,7 @@ use Rattle.sqlite.proofs.StateLemmas.{survives_then}
 use Rattle.office_history.specs.Runs as runs
 use Rattle.office_engine.specs.Keeping.{CommitsTo, InstallLasts, Installs, after_policy}
 use Rattle.office_engine.proofs.Ends.{IsMadeInside, inside, left_by, made_kept, made_lasting, made_survives, of_ok, on_committed, unchanged, was_open}
+use Rattle.office_engine.proofs.ServedByRows.{changed_installs}
 use Rattle.office_engine.proofs.installing.install.Goals as goal
 
 pub returns : goal.returns
@@ -22,7 +23,7 @@ returns g c =
       committed = c.is_autocommit-is_settled.ensures.settled (c.is_autocommit-is_settled.ensures.value ∙ ap not c.requires.outside);
       stays = rw begun at c.install-done.ensures.inside.stays;
       goes_on = rw begun at c.install-done.ensures.inside.goes_on;
-      makes = λ clean h legal pictured. let accepted = rw begun at (c.install-done.ensures.installed clean) in accepted h legal pictured tt;
+      makes = λ clean h legal pictured. changed_installs g.S.Store first last c.install-done.result c.installs_are_exact.ensures policy (rw begun at c.install-done.ensures.changes) clean h pictured;
     } in
     let survives : Survives (state g.S.Store first) (state g.S.Store end) (CommitsTo (state g.S.Store first) (after_policy policy)) = made_survives made end c.end.ensures.survives in
     let crash : Survives (state g.S.Store first) (state g.S.Store end) (λ left. IsOkAnd c.install-done.result (λ _. left ≡ (state g.S.Store last).now.trees)) =

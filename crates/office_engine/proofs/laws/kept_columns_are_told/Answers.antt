@@ -1,5 +1,5 @@
 use Rattle.std.proofs.Common.{ap}
-use Rattle.office_serving.proofs.StockTold.{contents_held}
+use Rattle.office_engine.proofs.StockTold.{contents_held}
 use Rattle.office_engine.proofs.laws.kept_columns_are_told.Goals as goal
 
 pub returns : goal.returns

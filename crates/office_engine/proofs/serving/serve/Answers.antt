@@ -2,7 +2,6 @@ use Rattle.std.proofs.Common.{◌≡◌, ◌∙◌, true, false, not, ap, subst,
 use Rattle.sqlite.specs.State.{HasCleanDisk, Survives}
 use Rattle.sqlite.specs.Held.{state}
 use Rattle.office_history.specs.Runs.{Item}
-use Rattle.office_by_rows.specs.Serving as by_rows
 use Rattle.office_asking.specs.Asking.{visit_on}
 use Rattle.office_asking.specs.Serving.{Serves}
 use Rattle.office_engine.specs.Keeping.{CommitsRows, CommitsTo, IsTurn, after_item}
@@ -20,7 +19,7 @@ returns g c =
     let end = c.end.new.tx.0 in
     let begun = c.transaction-tx.ensures.begun in
     let same : end ≡ c.conn-1.given.0 = search rules in
-    let serves : Serves g.S.Store (record first { in_transaction = true }) last c.decide-decided.result (λ t. by_rows.serve t (visit_on item.0 item.1.now) item.2) = rw begun at c.decide-decided.ensures.serves in
+    let serves : Serves g.S.Store (record first { in_transaction = true }) last c.decide-decided.result (visit_on item.0 item.1.now) item.2 = rw begun at c.decide-decided.ensures.serves in
     let decided : IsDecided g.S.Store first last item c.decide-decided.result = record {
       ranged = (search rules, c.prove_in_range.ensures);
       committed = c.is_autocommit-is_settled.ensures.settled (c.is_autocommit-is_settled.ensures.value ∙ ap not c.requires.outside);

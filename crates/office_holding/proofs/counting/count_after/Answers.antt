@@ -1,37 +1,15 @@
-use Rattle.std.proofs.Common.{rules, ◌≡◌, w64, pos, ◌+ℤ◌, IfOk, OnOk, sym, ◌∙◌}
+use Rattle.std.proofs.Common.{rules, ◌≡◌, w64, pos, sym, ◌∙◌}
 use mir.Val.{SFits}
 use Rattle.std.proofs.lemmas.Int.{to_z-of_z}
-use Rattle.jiff.specs.Words.{IsBetween}
-use Rattle.office_rows.specs.Rows.{due_numbered}
+use Rattle.std.proofs.lemmas.Result.{IfOk-weaker}
 use Rattle.sqlite.specs.Held.{state}
+use Rattle.office_rows.specs.Rows.{due_numbered}
 use Rattle.office_tables.specs.Tables.{tables_of}
 use Rattle.office_tables.specs.declared.fault.TableFault.TheVariants.{Store}
-use Rattle.office_tables.proofs.InTurn.{clean_first, inside_after, inside_failed, same_then, whatever}
-use Rattle.office_asking.proofs.InTurn.{ok_both}
-use Rattle.office_asking.proofs.RowsTold.{tells_then, there_is, office_still, told_before}
-use Rattle.office_holding.proofs.HoldsByRows.{counted_after}
-use Rattle.std.proofs.lemmas.Result.{IfOk-weaker}
+use Rattle.office_tables.proofs.InTurn.{clean_first, inside_after, inside_failed}
+use Rattle.office_asking.proofs.RowsTold.{there_is, office_still, told_before}
 use Rattle.office_holding.proofs.Counted.{counted_told}
 use Rattle.office_holding.proofs.counting.count_after.Goals as goal
-
-pub returns-clause-rows : goal.returns-clause-rows
-returns-clause-rows g c clean office =
-    let a = c.args in
-    let old = state g.S.Store a.tx.now.conn.now in
-    let early = clean_first c.due_row.ensures.inside.stays clean in
-    let row = c.in_ok-row.row in
-    let read = tells_then c.in_ok-limits.ensures.inside c.in_ok-found.ensures.inside c.in_ok-limits.ensures.same (λ t found. found ≡ due_numbered (pos a.number) t.dues) c.in_ok-found.ensures.found clean office in
-    let there = sym read ∙ sym (there_is c.in_ok-found.found Store row c.in_ok-row.ensures) in
-    let fits : SFits w64 c.row.inside.holds = search rules in
-    let held : c.row.inside.holds ≡ row.holds = search rules in
-    let most = c.in_ok-limits.limits in
-    let before : OnOk c.count_with.result (IsBetween (pos 0) (pos most.max_holds) row.holds) = rw (to_z-of_z w64 c.row.inside.holds fits, held) at c.count_with.ensures.before in
-    let after : IfOk c.count_with.result (λ sum. (sum ≡ row.holds +ℤ a.by) × IsBetween (pos 0) (pos most.max_holds) sum) =
-    rw (to_z-of_z w64 c.row.inside.holds fits, to_z-of_z w64 a.by c.ranges.by, held) at c.count_with.ensures.after in
-    ok_both c.count_with.result (counted_after (tables_of old.now) (pos a.number) a.by most.max_deposits most.max_holds (c.in_ok-limits.ensures.found early office) row there) before after
-
-pub returns-clause-same : goal.returns-clause-same
-returns-clause-same g c clean office = whatever c.count_with.result (same_then c.in_ok-limits.ensures.inside c.in_ok-found.ensures.inside c.in_ok-limits.ensures.same c.in_ok-found.ensures.same clean office)
 
 pub returns-clause-inside : goal.returns-clause-inside
 returns-clause-inside g c = inside_after c.in_ok-limits.ensures.inside c.in_ok-found.ensures.inside _ (search rules)

@@ -3,8 +3,8 @@ use Rattle.std.proofs.lemmas.Int.{to_z-of_z}
 use Rattle.office_rows.specs.Rows.{with_more_holds, with_more_holds_class}
 use Rattle.office_by_rows.specs.Changes.{counted_over}
 use Rattle.office_asking.specs.Serving.{Changes}
+use Rattle.office_asking.specs.Told.{held_target}
 use Rattle.office_asking.proofs.ServedBy.{changes_by}
-use Rattle.office_holding.specs.Holds.{target_of}
 use Rattle.office_holding.proofs.counting.count_over.Goals as goal
 
 pub returns-in-Collection-clause-changes : goal.returns-in-Collection-clause-changes
@@ -12,13 +12,13 @@ returns-in-Collection-clause-changes g c =
     let a = c.args in
     let add = c.add_holds.ensures in
     let more = rw (to_z-of_z w64 a.by c.ranges.by) at add.becomes in
-    let changes = changes_by add.inside (with_more_holds c.in-Collection.name.now a.by) more add.once in
-    subst (λ target. Changes g.S.Store a.tx.now.conn.now c.add_holds.new.tx.conn.now c.add_holds.result (counted_over target a.by)) (sym (ap target_of c.in-Collection.is)) changes
+    let changes = changes_by add.inside (with_more_holds c.in-Collection.name.now a.by) more add.contents in
+    subst (λ target. Changes g.S.Store a.tx.now.conn.now c.add_holds.new.tx.conn.now c.add_holds.result (counted_over target a.by)) (sym (ap held_target c.in-Collection.is)) changes
 
 pub returns-in-Class-clause-changes : goal.returns-in-Class-clause-changes
 returns-in-Class-clause-changes g c =
     let a = c.args in
     let add = c.add_holds_class.ensures in
     let more = rw (to_z-of_z w64 a.by c.ranges.by) at add.becomes in
-    let changes = changes_by add.inside (with_more_holds_class c.in-Class.name.now a.by) more add.once in
-    subst (λ target. Changes g.S.Store a.tx.now.conn.now c.add_holds_class.new.tx.conn.now c.add_holds_class.result (counted_over target a.by)) (sym (ap target_of c.in-Class.is)) changes
+    let changes = changes_by add.inside (with_more_holds_class c.in-Class.name.now a.by) more add.contents in
+    subst (λ target. Changes g.S.Store a.tx.now.conn.now c.add_holds_class.new.tx.conn.now c.add_holds_class.result (counted_over target a.by)) (sym (ap held_target c.in-Class.is)) changes

@@ -1,26 +1,26 @@
 use Rattle.std.proofs.Common.{rules, pos, refl}
-use Rattle.office_keeping.proofs.DepositedTold.{next_file, still_once}
 use Rattle.office_tables.proofs.InTurn.{in_turn, none_called, turn_as, turn_failed, turn_then}
+use Rattle.office_keeping.proofs.FilesAdded.{all_added, next_file}
 use Rattle.office_keeping.proofs.keeping.add_files.Goals as goal
 
 pub loop-file-preserved : goal.loop-file-preserved
 loop-file-preserved g c =
-    let n = pos c.args.number in
-    let files = c.args.files.now in
-    let added = c.loop-file.invariant in
+    let so_far = c.loop-file.invariant in
     let add = c.in_ok-add_file.ensures in
     record {
-      inside = turn_as (turn_then added.inside (in_turn add.inside)) _ tt;
-      becomes = next_file added.inside add.inside n files c.loop-file.file-index added.becomes _ c.loop-file-test.true add.becomes;
-      once = still_once added.inside add.inside n files c.loop-file.file-index added.becomes added.once add.once;
+      inside = turn_as (turn_then so_far.inside (in_turn add.inside)) _ tt;
+      adds = next_file so_far.inside add.inside (pos c.args.number) c.args.files.now c.loop-file.file-index so_far.adds _ c.loop-file-test.true add.changes;
     }
 
 pub loop-file-init : goal.loop-file-init
 loop-file-init g c = record {
   inside = none_called _ tt;
-  becomes = λ clean office. (office, refl);
-  once = λ clean office kept. kept;
+  adds = λ clean office. record { office = office; rows = refl; contents = refl; once = λ was. was };
 }
 
 pub returns-in_err-add_file-clause-inside : goal.returns-in_err-add_file-clause-inside
 returns-in_err-add_file-clause-inside g c = turn_failed c.loop-file.invariant.inside (in_turn c.add_file.ensures.inside) _ (search rules) (search rules)
+
+pub returns-clause-changes : goal.returns-clause-changes
+returns-clause-changes g c =
+    all_added g.S.Store c.args.tx.now.conn.now c.loop-file.tx.conn.now (pos c.args.number) c.args.files.now c.loop-file.file-index c.loop-file-test.false c.loop-file.invariant.adds

@@ -1,43 +1,12 @@
-use Rattle.std.proofs.Common.{rules, w64, pos, length, ℤ, ap, sym, ◌≡◌, ◌∙◌}
+use Rattle.std.proofs.Common.{rules, w64, pos, ap, sym, ◌≡◌, ◌∙◌}
 use mir.Val.{SFits}
 use Rattle.std.proofs.lemmas.Int.{to_z-of_z}
 use Rattle.office_core.specs.Retention.{due_number}
-use Rattle.office_rows.specs.Rows.{Tables, live_holds}
-use Rattle.office_asking.specs.ByRows.{AreReleasedOnDays}
-use Rattle.office_asking.proofs.RowsTold.{tells_then, office_still, told_before}
+use Rattle.office_asking.proofs.RowsTold.{office_still, told_before}
 use Rattle.office_tables.proofs.InTurn.{clean_first, inside_after, inside_failed}
 use Rattle.std.specs.Prelude.{Some, option_map}
 use Rattle.office_by_rows.specs.Changes.{count_in}
 use Rattle.office_keeping.proofs.keeping.beside_row.Goals as goal
-
-pub returns-clause-due : goal.returns-clause-due
-returns-clause-due g c clean h legal pictured =
-    let early = clean_first c.live_count.ensures.inside.stays clean in
-    let first = c.in_ok-due.ensures.due early h legal pictured in
-    let second = c.in_ok-holds.ensures.count clean h legal first.0 in
-    (second.0, λ deposit class_is closed_is. c.number.ensures ∙ ap due_number (first.1 deposit (class_is ∙ sym c.as_str-class.ensures.text) closed_is))
-
-pub returns-clause-holds : goal.returns-clause-holds
-returns-clause-holds g c clean h legal pictured =
-    let early = clean_first c.live_count.ensures.inside.stays clean in
-    let first = c.in_ok-due.ensures.due early h legal pictured in
-    let second = c.in_ok-holds.ensures.count clean h legal first.0 in
-    let fits : SFits w64 c.in_ok-holds.holds = search rules in
-    (second.0, λ deposit is within. to_z-of_z w64 c.in_ok-holds.holds fits ∙ second.1 deposit (is ∙ sym c.as_str-collection.ensures.text) (within ∙ sym c.as_str-class.ensures.text))
-
-pub returns-clause-rows : goal.returns-clause-rows
-returns-clause-rows g c clean office =
-    let early = clean_first c.live_count.ensures.inside.stays clean in
-    (c.in_ok-due.due, rw c.as_str-class.ensures.text at (c.in_ok-due.ensures.rows early office), c.number.ensures)
-
-pub returns-clause-counted : goal.returns-clause-counted
-returns-clause-counted g c clean office =
-    let a = c.args in
-    let q = a.asked.now in
-    let fits : SFits w64 c.in_ok-holds.holds = search rules in
-    let held = λ (t : Tables) (n : ℤ). (n ≡ pos (length (live_holds (pos a.number) q.collection.now q.class.now t))) × AreReleasedOnDays t a.number q.collection.now q.class.now in
-    let counted = tells_then c.in_ok-due.ensures.inside c.in_ok-holds.ensures.inside c.in_ok-due.ensures.same held (rw (c.as_str-collection.ensures.text, c.as_str-class.ensures.text) at c.in_ok-holds.ensures.rows) clean office in
-    (to_z-of_z w64 c.in_ok-holds.holds fits ∙ counted.0, counted.1)
 
 pub returns-in_err-holds-clause-inside : goal.returns-in_err-holds-clause-inside
 returns-in_err-holds-clause-inside g c = inside_failed c.in_ok-due.ensures.inside c.live_count.ensures.inside _ (search rules) (search rules)

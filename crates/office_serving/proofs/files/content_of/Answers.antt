@@ -1,13 +1,9 @@
 use Rattle.std.proofs.Common.{Result, Ok, Err, List, ℕ, Bool, Option, None, OnOk, IfOk, refl, ap, sym, ◌∙◌, pos, option_copied, option_map, if◌then◌else◌, rules}
-use Rattle.std.proofs.lemmas.Result.{IfOk-weaker}
 use Rattle.sqlite.specs.Held.{state}
 use Rattle.bag_text.specs.Paths.{is_good}
-use Rattle.bag_text.specs.TransferForm.{content_at}
 use Rattle.office_rows.specs.Rows.{FileRow, file_at}
 use Rattle.office_tables.specs.Tables.{tables_of}
-use Rattle.office_asking.proofs.Readings.{pictured_still}
-use Rattle.office_serving.proofs.FilesTold.{content_read}
-use Rattle.office_serving.proofs.PathsTold.{spelled, is_spelled, unspelled, no_file_there}
+use Rattle.office_serving.proofs.PathsTold.{spelled, is_spelled, unspelled}
 use Rattle.office_tables.proofs.InTurn.{in_turn, none_called}
 use Rattle.office_serving.proofs.files.content_of.Goals as goal
 
@@ -15,40 +11,6 @@ use Rattle.office_serving.proofs.files.content_of.Goals as goal
 both : {V E P : Type 0} {Q R : V → Type 0} (r : Result V E) → ((v : V) → P → Q v → R v) → OnOk r P → IfOk r Q → IfOk r R
 both (Ok v) next p q = next v p q
 both (Err e) next p q = tt
-
-pub returns-in-Some-clause-content : goal.returns-in-Some-clause-content
-returns-in-Some-clause-content g c clean h legal pictured =
-    let a = c.args in
-    let text = c.in-Some.text in
-    let same = spelled (is_good a.path.now) text.now a.path.now (ap option_copied (sym c.in-Some.is) ∙ c.bag_path.ensures) in
-    both c.file_of.result (λ content stands read. (
-      pictured_still pictured stands,
-      λ found there kept. content_read pictured a.number found there kept text.now _ read ∙ ap (content_at found.1.bag) same,
-    )) (c.file_of.ensures.same clean pictured.office) (c.file_of.ensures.found clean pictured.office)
-
-pub returns-in-None-clause-content : goal.returns-in-None-clause-content
-returns-in-None-clause-content g c clean h legal pictured =
-    let a = c.args in
-    let bad = unspelled (is_good a.path.now) a.path.now (ap option_copied (sym c.in-None.is) ∙ c.bag_path.ensures) in
-    (pictured, λ found there kept. no_file_there found.1.bag (c.sound_bags.ensures h legal a.number found there).bag.each a.path.now bad)
-
-pub returns-in-Some-clause-rows : goal.returns-in-Some-clause-rows
-returns-in-Some-clause-rows g c clean office =
-    let a = c.args in
-    let files = (tables_of (state g.S.Store a.tx.now.conn.now).now).files in
-    let stored : List ℕ → Option (List ℕ) = λ path. option_map (λ (f : FileRow). f.content) (file_at (pos a.number) path files) in
-    let text = c.in-Some.text in
-    let read = ap option_copied (sym c.in-Some.is) ∙ c.bag_path.ensures in
-    let same = spelled (is_good a.path.now) text.now a.path.now read in
-    let good = is_spelled (is_good a.path.now) text.now a.path.now read in
-    IfOk-weaker c.file_of.result _ _ (λ content says. says ∙ ap stored same ∙ ap (λ (b : Bool). if b then stored a.path.now else None) (sym good)) (c.file_of.ensures.found clean office)
-
-pub returns-in-None-clause-rows : goal.returns-in-None-clause-rows
-returns-in-None-clause-rows g c clean office =
-    let a = c.args in
-    let files = (tables_of (state g.S.Store a.tx.now.conn.now).now).files in
-    let bad = unspelled (is_good a.path.now) a.path.now (ap option_copied (sym c.in-None.is) ∙ c.bag_path.ensures) in
-    ap (λ (b : Bool). if b then option_map (λ (f : FileRow). f.content) (file_at (pos a.number) a.path.now files) else None) (sym bad)
 
 pub returns-in-Some-clause-inside : goal.returns-in-Some-clause-inside
 returns-in-Some-clause-inside g c = in_turn c.file_of.ensures.inside

@@ -4,21 +4,18 @@ use Rattle.sqlite.specs.State.{HasCleanDisk}
 use Rattle.sqlite.specs.Held.{state}
 use Rattle.office_core.specs.declared.answer.LiveHold.{LiveHold}
 use Rattle.office_rows.specs.Rows.{Tables}
-use Rattle.office_history.specs.Answers.{told_hold}
 use Rattle.office_tables.specs.Tables.{tables_of}
-use Rattle.office_by_rows.specs.Asking as by_rows
+use Rattle.office_tables.proofs.InTurn.{clean_first, in_turn, none_called, turn_as, turn_failed, turn_then}
+use Rattle.office_by_rows.specs.Asking.{told_hold}
 use Rattle.office_by_rows.specs.Values.{all_told}
 use Rattle.office_asking.proofs.RowsTold.{office_still}
-use Rattle.office_serving.specs.FilesByRows.{AreHoldsOf}
-use Rattle.office_serving.proofs.HoldsTold.{next_told, next_by_row}
 use Rattle.office_serving.proofs.ToldInTurn.{all_next}
-use Rattle.office_tables.proofs.InTurn.{clean_first, in_turn, none_called, turn_as, turn_failed, turn_then}
 use Rattle.office_serving.proofs.hold_lists.told_each.Goals as goal
 
 -- one number after another, whose row is read where no row has changed
-next_read : (old now : Tables) → now ≡ old → (ks : List ℕ) (i d : ℕ) → i < length ks → (before : List LiveHold) → all_told (by_rows.told_hold old) (map pos (take i ks)) ≡ Some before → (told : LiveHold)
-    → by_rows.told_hold now (pos (get_or ks i d)) ≡ Some told → all_told (by_rows.told_hold old) (map pos (take (i + 1) ks)) ≡ Some (before ++ told ∷ [])
-next_read old now same ks i d low before all told is = all_next (by_rows.told_hold old) pos ks i d low before all told (subst (λ t. by_rows.told_hold t (pos (get_or ks i d)) ≡ Some told) same is)
+next_read : (old now : Tables) → now ≡ old → (ks : List ℕ) (i d : ℕ) → i < length ks → (before : List LiveHold) → all_told (told_hold old) (map pos (take i ks)) ≡ Some before → (told : LiveHold)
+    → told_hold now (pos (get_or ks i d)) ≡ Some told → all_told (told_hold old) (map pos (take (i + 1) ks)) ≡ Some (before ++ told ∷ [])
+next_read old now same ks i d low before all told is = all_next (told_hold old) pos ks i d low before all told (subst (λ t. told_hold t (pos (get_or ks i d)) ≡ Some told) same is)
 
 pub loop-number-preserved : goal.loop-number-preserved
 loop-number-preserved g c =
@@ -30,32 +27,17 @@ loop-number-preserved g c =
     let early = λ (clean : HasCleanDisk new). clean_first c.told_hold.ensures.inside.stays clean in
     record {
       inside = turn_as (turn_then inv.inside (in_turn c.in_ok-told_hold.ensures.inside)) _ tt;
-      told = λ clean h legal pictured.
-          let there = inv.told (early clean) h legal pictured in
-          let found = c.in_ok-told_hold.ensures.told clean h legal there.0 in
-          (found.0, c.in_ok-push.ensures.items ∙ next_told (told_hold h) a.numbers.now c.loop-number.number-index _ c.loop-number-test.true c.loop-number.told.items c.in_ok-told_hold.field-0 there.1 found.1);
-      same = λ clean office.
-          let same = inv.same (early clean) office in
-          c.in_ok-told_hold.ensures.same clean (office_still same office) ∙ same;
       reads = λ clean office.
           let before = inv.reads (early clean) office in
           let said = c.in_ok-told_hold.ensures.reads clean (office_still before.0 office) in
           let more = next_read (tables_of old.now) (tables_of now.now) (ap tables_of before.0) a.numbers.now c.loop-number.number-index _ c.loop-number-test.true c.loop-number.told.items before.1 c.in_ok-told_hold.field-0 said.1 in
           (said.0 ∙ before.0, more ∙ ap Some (sym c.in_ok-push.ensures.items));
-      rows = λ clean office.
-          let same = inv.same (early clean) office in
-          let read = c.in_ok-told_hold.ensures.rows clean (office_still same office) in
-          let more = next_by_row (tables_of old.now) (tables_of now.now) (ap tables_of same) a.numbers.now c.loop-number.number-index _ c.loop-number-test.true c.loop-number.told.items c.in_ok-told_hold.field-0 (inv.rows (early clean) office) read in
-          subst (AreHoldsOf (tables_of old.now) _) (sym c.in_ok-push.ensures.items) more;
     }
 
 pub loop-number-init : goal.loop-number-init
 loop-number-init g c = record {
   inside = none_called _ tt;
-  told = λ clean h legal pictured. (pictured, c.new-told.ensures.items);
-  same = λ _ _. refl;
   reads = λ clean office. (refl, ap Some (sym c.new-told.ensures.items));
-  rows = λ clean office. subst (AreHoldsOf _ []) (sym c.new-told.ensures.items) (record { one_each = refl; each = tt });
 }
 
 pub returns-in_err-told_hold-clause-inside : goal.returns-in_err-told_hold-clause-inside
@@ -69,4 +51,4 @@ returns-clause-reads g c clean office =
     let a = c.args in
     let read = c.loop-number.invariant.reads clean office in
     let finished : take c.loop-number.number-index a.numbers.now ≡ a.numbers.now = take_all c.loop-number.number-index a.numbers.now (omega (arith, c.loop-number-test.false)) in
-    (read.0, ap (λ ks. all_told (by_rows.told_hold (tables_of (state g.S.Store a.tx.now.conn.now).now)) (map pos ks)) (sym finished) ∙ read.1)
+    (read.0, ap (λ ks. all_told (told_hold (tables_of (state g.S.Store a.tx.now.conn.now).now)) (map pos ks)) (sym finished) ∙ read.1)

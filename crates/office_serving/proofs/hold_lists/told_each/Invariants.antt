@@ -1,16 +1,10 @@
 use Rattle.std.proofs.Common.{Ok, ◌≡◌, Some, map, pos, take}
-use Rattle.std.specs.List.{filter_map}
 use Rattle.sqlite.specs.State.{HasCleanDisk}
 use Rattle.sqlite.specs.Held.{state}
-use Rattle.office_history.specs.Histories.{History}
-use Rattle.office_history.specs.Answers.{told_hold}
-use Rattle.office_history.specs.Runs.{IsLegal}
 use Rattle.office_tables.specs.Calls.{GoesOnInTurn}
 use Rattle.office_tables.specs.Tables.{IsOffice, tables_of}
-use Rattle.office_by_rows.specs.Asking as by_rows
+use Rattle.office_by_rows.specs.Asking.{told_hold}
 use Rattle.office_by_rows.specs.Values.{all_told}
-use Rattle.office_asking.specs.Pictures.{Pictures}
-use Rattle.office_serving.specs.FilesByRows.{AreHoldsOf}
 use Rattle.office_serving.proofs.hold_lists.told_each.Given as goal
 
 abbrev pub invariant-loop-number : goal.invariant-loop-number
@@ -19,8 +13,5 @@ invariant-loop-number g l =
     let now = state g.S.Store l.tx.conn.now in
     record {
       inside : GoesOnInTurn {T = Unit {0}} g.S.Store l.fn.tx.conn l.tx.conn (Ok tt);
-      told : HasCleanDisk now → (h : History) → IsLegal h → Pictures h old.now → Pictures h now.now × (l.told.items ≡ filter_map (told_hold h) (take l.number-index l.numbers));
-      same : HasCleanDisk now → IsOffice old.now → now.now ≡ old.now;
-      reads : HasCleanDisk now → IsOffice old.now → (now.now ≡ old.now) × (all_told (by_rows.told_hold (tables_of old.now)) (map pos (take l.number-index l.numbers)) ≡ Some l.told.items);
-      rows : HasCleanDisk now → IsOffice old.now → AreHoldsOf (tables_of old.now) (map pos (take l.number-index l.numbers)) l.told.items;
+      reads : HasCleanDisk now → IsOffice old.now → (now.now ≡ old.now) × (all_told (told_hold (tables_of old.now)) (map pos (take l.number-index l.numbers)) ≡ Some l.told.items);
     }

@@ -1,9 +1,7 @@
-use Rattle.std.proofs.Common.{rules, ◌≡◌, refl, Some, None, true, ◌&&◌, sym, subst, ◌∙◌, IfErr}
+use Rattle.std.proofs.Common.{rules, ◌≡◌, Some, None, true, ◌&&◌, sym, subst, ◌∙◌, IfErr}
 use Rattle.office_core.specs.declared.answer.DepositRecord.{DepositRecord}
 use Rattle.office_tables.specs.declared.fault.TableFault.{TableFault}
 use Rattle.office_tables.specs.declared.fault.TableFault.TheVariants.{Memory}
-use Rattle.office_serving.specs.Told.{IsRecordOf}
-use Rattle.office_serving.proofs.RecordTold.{whichever}
 use Rattle.office_serving.proofs.records.record_in.Goals.{In_ok-class}
 use Rattle.std.proofs.lemmas.Bool.{and_parts}
 use Rattle.std.proofs.lemmas.Result.{IfErr-weaker}
@@ -26,47 +24,6 @@ told c = record {
   bytes = c.in_ok-bytes.bytes;
   due = c.in_ok-due.due;
 }
-
-is_told : (c : In_ok-class) → IsRecordOf c.args.row.now c.args.kept.now (told c)
-is_told c = record {
-  number = search rules;
-  accession = search rules;
-  is_accession = search rules;
-  collection = search rules;
-  is_collection = search rules;
-  class = search rules;
-  is_class = search rules;
-  days = c.in_ok-days.days;
-  are_days = c.in_ok-days.ensures.days;
-  closed = refl;
-  deposited = refl;
-  files = search rules;
-  few_files = search rules;
-  bytes = search rules;
-  few_bytes = search rules;
-  due_is = search rules;
-  is_due = search rules;
-}
-
-wants_memory : (c : In_ok-class) → (told : DepositRecord) × IsRecordOf c.args.row.now c.args.kept.now told
-wants_memory c = (told c, is_told c)
-
-pub returns-clause-told : goal.returns-clause-told
-returns-clause-told c = rw (c.in_ok-to_owned.ensures, c.in_ok-to_owned-2.ensures, c.in_ok-to_owned-3.ensures) (is_told (goal.at.returns-clause-told c).In_ok-class)
-
-pub returns-in_err-to_owned-clause-memory : goal.returns-in_err-to_owned-clause-memory
-returns-in_err-to_owned-clause-memory c =
-    whichever c.from_residual-in_err-to_owned.result (λ (fault : TableFault). fault ≡ Memory) (wants_memory (goal.at.returns-in_err-to_owned-clause-memory c).In_ok-class)
-
-pub returns-in_err-to_owned-2-clause-memory : goal.returns-in_err-to_owned-2-clause-memory
-returns-in_err-to_owned-2-clause-memory c =
-    whichever c.from_residual-in_err-to_owned-2.result (λ (fault : TableFault). fault ≡ Memory) (wants_memory (goal.at.returns-in_err-to_owned-2-clause-memory c).In_ok-class)
-
-pub returns-in_err-to_owned-3-clause-memory : goal.returns-in_err-to_owned-3-clause-memory
-returns-in_err-to_owned-3-clause-memory c =
-    whichever c.from_residual-in_err-to_owned-3.result (λ (fault : TableFault). fault ≡ Memory) (wants_memory (goal.at.returns-in_err-to_owned-3-clause-memory c).In_ok-class)
-
--- ---- by its row
 
 texts : (c : In_ok-class) → (c.in_ok-accession.accession ≡ c.args.row.now.accession) × (c.in_ok-collection.collection ≡ c.args.row.now.collection) × (c.in_ok-class.class ≡ c.args.row.now.class)
 texts c = (search rules, search rules, search rules)
@@ -125,6 +82,13 @@ returns-in_err-class-clause-store c =
     let same : c.deref-3.result.now ≡ row.class = search rules in
     c.in_err-class.ensures.none (subst (λ text. is_name text ≡ true) (sym same) is)) in
     search (rules, none)
+
+pub returns-in_err-to_owned-clause-store : goal.returns-in_err-to_owned-clause-store
+returns-in_err-to_owned-clause-store c =
+    let result = c.from_residual-in_err-to_owned.result in
+    let memory : IfErr result (λ (fault : TableFault). fault ≡ Memory) = search rules in
+    let at = (goal.at.returns-in_err-to_owned-clause-store c).In_ok-class in
+    IfErr-weaker result _ _ (by_row.wants_memory (record_by c.args.row.now c.args.kept.now) (told at) (is_read at)) memory
 
 pub returns-in_err-to_owned-2-clause-store : goal.returns-in_err-to_owned-2-clause-store
 returns-in_err-to_owned-2-clause-store c =

@@ -3,9 +3,8 @@ use Rattle.std.specs.Int.{FitsUnsignedBits}
 use Rattle.std.proofs.lemmas.Int.{to_z-of_z}
 use Rattle.std.proofs.Common.{rules, ◌≡◌, pos, ◌+◌, ◌<◌, length, get_or, subst, w64, [], Some, map, sum, take, ◌≤◌, sym, ap, refl, ◌∙◌, arith}
 use Rattle.office_tables.specs.declared.kept.ContentSize.{ContentSize}
-use Rattle.office_serving.proofs.StockTold.{one_more}
 use Rattle.std.proofs.lemmas.List.{take-map, take_all}
-use Rattle.office_serving.proofs.Totals.{none_above, none_below, total_is}
+use Rattle.office_serving.proofs.Totals.{none_above, none_below, one_more, total_is}
 use Rattle.office_serving.proofs.stocks.total_of.Goals as goal
 
 pub loop-size-preserved : goal.loop-size-preserved

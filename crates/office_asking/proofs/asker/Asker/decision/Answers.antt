@@ -2,9 +2,7 @@ use Rattle.std.proofs.Common.{option_copied, rules, w32, w64, option_map, ap, sy
 use mir.Val.{SFits}
 use Rattle.std.proofs.lemmas.Int.{to_z-of_z}
 use Rattle.sqlite.specs.Held.{state}
-use Rattle.office_asking.proofs.Readings.{pictured_still, none_found, rule_found}
 use Rattle.office_tables.specs.Tables.{tables_of}
-use Rattle.office_asking.proofs.RowsTold.{decided_by_row, none_by_row}
 use Rattle.jiff.specs.Words.{epoch_day}
 use Rattle.office_core.specs.Actions.{action_text}
 use Rattle.office_rows.specs.Matching.{matching_rule}
@@ -14,44 +12,6 @@ use Rattle.office_by_rows.specs.Asking.{decision_by, or_empty}
 use Rattle.office_asking.specs.Asking.{role_name}
 use Rattle.office_asking.proofs.RowsRead.{some_read}
 use Rattle.office_asking.proofs.asker.Asker.decision.Goals as goal
-
-pub returns-in_ok-decision_in-in-Some-clause-decided : goal.returns-in_ok-decision_in-in-Some-clause-decided
-returns-in_ok-decision_in-in-Some-clause-decided g c clean h legal pictured =
-    let a = c.args in
-    let small : SFits w32 c.number.result = search rules in
-    let fits : SFits w64 c.number.result = search rules in
-    let found = rw (to_z-of_z w32 c.number.result small, to_z-of_z w64 c.number.result fits, c.number.ensures.value) at (c.in_ok-found.ensures.found clean pictured.office) in (
-      pictured_still pictured (c.in_ok-found.ensures.same clean pictured.office),
-      λ visit is. rule_found legal pictured visit a.self.now is a.action (option_copied a.collection) (option_copied a.class) c.in-Some.row (search (rules, found)) c.in_ok-decision_in-in-Some.field-0 (search rules),
-    )
-
-pub returns-in-None-clause-decided : goal.returns-in-None-clause-decided
-returns-in-None-clause-decided g c clean h legal pictured =
-    let a = c.args in
-    let small : SFits w32 c.number.result = search rules in
-    let fits : SFits w64 c.number.result = search rules in
-    let found = rw (to_z-of_z w32 c.number.result small, to_z-of_z w64 c.number.result fits, c.number.ensures.value) at (c.in_ok-found.ensures.found clean pictured.office) in (
-      pictured_still pictured (c.in_ok-found.ensures.same clean pictured.office),
-      λ visit is. none_found legal pictured visit a.self.now is a.action (option_copied a.collection) (option_copied a.class) (search (rules, found)),
-    )
-
-pub returns-in_ok-decision_in-in-Some-clause-rows : goal.returns-in_ok-decision_in-in-Some-clause-rows
-returns-in_ok-decision_in-in-Some-clause-rows g c clean office visit is =
-    let a = c.args in
-    let old = state g.S.Store a.tx.now.conn.now in
-    let small : SFits w32 c.number.result = search rules in
-    let fits : SFits w64 c.number.result = search rules in
-    let found = rw (to_z-of_z w32 c.number.result small, to_z-of_z w64 c.number.result fits, c.number.ensures.value) at (c.in_ok-found.ensures.found clean office) in
-    decided_by_row (tables_of old.now) visit a.self.now is a.action (option_copied a.collection) (option_copied a.class) c.in-Some.row (search (rules, found)) c.in_ok-decision_in-in-Some.field-0 (search rules)
-
-pub returns-in-None-clause-rows : goal.returns-in-None-clause-rows
-returns-in-None-clause-rows g c clean office visit is =
-    let a = c.args in
-    let old = state g.S.Store a.tx.now.conn.now in
-    let small : SFits w32 c.number.result = search rules in
-    let fits : SFits w64 c.number.result = search rules in
-    let found = rw (to_z-of_z w32 c.number.result small, to_z-of_z w64 c.number.result fits, c.number.ensures.value) at (c.in_ok-found.ensures.found clean office) in
-    none_by_row (tables_of old.now) visit a.self.now is a.action (option_copied a.collection) (option_copied a.class) (search (rules, found))
 
 pub returns-in_ok-decision_in-in-Some-clause-reads : goal.returns-in_ok-decision_in-in-Some-clause-reads
 returns-in_ok-decision_in-in-Some-clause-reads g c clean office =

@@ -1,74 +1,16 @@
-use Rattle.std.proofs.Common.{rules, ◌≡◌, Bool, List, ℕ, Some, is_none, ap, subst, ◌∙◌, refl, sym}
+use Rattle.std.proofs.Common.{rules, ◌≡◌, Bool, List, ℕ, Some, is_none, ◌∙◌, refl, sym}
 use Rattle.std.specs.HashMap.{get}
 use Rattle.sqlite.specs.Held.{state}
 use Rattle.office_core.specs.declared.action.Action.{Action}
 use Rattle.office_rows.specs.Rows.{Tables}
 use Rattle.office_tables.specs.Tables.{tables_of}
-use Rattle.office_history.specs.Histories.{History}
-use Rattle.office_asking.specs.Asking.{Visit}
-use Rattle.office_asking.specs.ByRows.{IsDenialBy, deciding_row}
-use Rattle.office_serving.specs.Allowances.{same_pair, is_allowed}
-use Rattle.office_serving.specs.ListsByRows.{IsAllowanceBy}
+use Rattle.office_serving.specs.Allowances.{same_pair}
 use Rattle.office_serving.proofs.AllowedTold.{known_right, more_right}
 use Rattle.jiff.specs.Types.{Date}
 use Rattle.office_by_rows.specs.Answers.{is_allowed_for}
 use Rattle.office_by_rows.specs.Asking.{denial_for}
 use Rattle.office_serving.proofs.ListedByRow.{allowed_is}
 use Rattle.office_serving.proofs.allowances.Allowances.allows.Goals as goal
-
--- by the history
-abbrev IsRight : History → Visit → Action → List ℕ → List ℕ → Bool → Type 0
-IsRight h visit action collection class is = is ≡ is_allowed h visit action collection class
-
--- by the rows
-abbrev IsTold : Tables → Visit → Action → List ℕ → List ℕ → Bool → Type 0
-IsTold t visit action collection class = IsAllowanceBy (deciding_row t visit action (Some collection) (Some class))
-
-pub returns-in-Some-clause-allowed : goal.returns-in-Some-clause-allowed
-returns-in-Some-clause-allowed g c clean h legal pictured =
-    let known = c.args.self.now.known in
-    let found : Some c.in-Some.is' ≡ get same_pair known (c.args.collection, c.args.class) = search rules in
-    (pictured, λ visit action these. (these, known_right (IsRight h visit action) known these.right (c.args.collection, c.args.class) c.in-Some.is' found))
-
-pub returns-in-Some-clause-rows : goal.returns-in-Some-clause-rows
-returns-in-Some-clause-rows g c clean office visit action these =
-    let t = tables_of (state g.S.Store c.args.tx.now.conn.now).now in
-    let known = c.args.self.now.known in
-    let found : Some c.in-Some.is' ≡ get same_pair known (c.args.collection, c.args.class) = search rules in
-    (these, known_right (IsTold t visit action) known these.right (c.args.collection, c.args.class) c.in-Some.is' found)
-
-pub returns-clause-allowed : goal.returns-clause-allowed
-returns-clause-allowed g c clean h legal pictured =
-    let a = c.args in
-    let asked = c.in_ok-denied.ensures.denied clean h legal pictured in
-    let none : c.is_none-is.result ≡ is_none c.in_ok-denied.denied = search rules in (
-      asked.0,
-      λ visit action these.
-          let answer : c.is_none-is.result ≡ is_allowed h visit action a.collection.now a.class.now = none ∙ ap is_none (asked.1 visit these.asker) ∙ ap (λ x. is_allowed h visit x a.collection.now a.class.now) these.action_is in (
-            record {
-              asker = these.asker;
-              action_is = these.action_is;
-              right = more_right (IsRight h visit action) a.self.now.known c.insert.new.self these.right (a.collection, a.class) c.is_none-is.result c.in_ok-insert.ensures.updates answer;
-            },
-            answer,
-          ),
-    )
-
-pub returns-clause-rows : goal.returns-clause-rows
-returns-clause-rows g c clean office visit action these =
-    let a = c.args in
-    let t = tables_of (state g.S.Store a.tx.now.conn.now).now in
-    let none : c.is_none-is.result ≡ is_none c.in_ok-denied.denied = search rules in
-    let denial =
-    subst (λ (x : Action). IsDenialBy (deciding_row t visit x (Some a.collection.now) (Some a.class.now)) c.in_ok-denied.denied) these.action_is (c.in_ok-denied.ensures.rows clean office visit these.asker) in
-    let answer : IsTold t visit action a.collection.now a.class.now c.is_none-is.result = record { why = c.in_ok-denied.denied; denial = denial; free = none } in (
-      record {
-        asker = these.asker;
-        action_is = these.action_is;
-        right = more_right (IsTold t visit action) a.self.now.known c.insert.new.self these.right (a.collection, a.class) c.is_none-is.result c.in_ok-insert.ensures.updates answer;
-      },
-      answer,
-    )
 
 -- as the rules say by the rows
 abbrev IsAllowedFor : Tables → List ℕ → Date → Action → List ℕ → List ℕ → Bool → Type 0

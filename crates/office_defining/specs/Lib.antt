@@ -1,2 +1,0 @@
-pub mod Revising
-pub mod ByRows

@@ -1,0 +1,119 @@
+-- The contents that are held, and how many they are with how many bytes, by the contents of the files.
+use Rattle.std.proofs.Common.{◌≡◌, nat_le, ℕ, ℤ, pos, ◌+◌, List, [], ◌∷◌, ◌++◌, map, length, bytes_eq, sum, Some, refl, sym, ap, ap₂, subst, ◌∙◌, inl, inr}
+use Rattle.std.specs.List.{IsDistinct, flat_map}
+use Rattle.std.proofs.lemmas.List.{map-append, length-map}
+use Rattle.office_rows.proofs.Order.{map_back}
+use Rattle.office_rows.specs.Rows.{FileRow, ContentRow, Tables}
+use Rattle.sqlite.specs.Effect.{Database}
+use Rattle.bag_text.specs.TransferForm.{File}
+use Rattle.office_tables.specs.Tables.{tables_of, contents_of}
+use Rattle.office_tables.specs.Contents.{AreContents}
+use Rattle.office_history.specs.Histories.{History, kept_numbers}
+use Rattle.office_history.specs.Pictures.{file_row}
+use Rattle.office_history.specs.Stocks.{files_of, contents, Stock, stock}
+use Rattle.office_core.specs.FirstOf.{◌>>=◌, answer_if}
+use Rattle.office_core.proofs.OptionLemmas.{some_and_then, some_if}
+use Rattle.office_by_rows.specs.Stock.{max_total, stock_by, stock_in, total_by}
+use Rattle.office_by_rows.specs.Values.{all_told, count_of}
+use Rattle.std.proofs.lemmas.Option.{same_Some}
+use Rattle.office_asking.specs.Pictures.{Pictures}
+use Rattle.sqlite_keyed.proofs.ListLemmas.{map-map}
+use Rattle.std.specs.List.Sorted.{IsPermutation}
+use Rattle.std.proofs.lemmas.List.Sums.{sum-map}
+use Rattle.std.proofs.lemmas.List.Sorted.{length_permutation, sum_by-IsPermutation}
+use Rattle.sqlite_rules.specs.Lists.{Has}
+use Rattle.bag_text.proofs.ElementLemmas as texts
+use Rattle.office_history.specs.Lists.{in_first_places}
+use Rattle.office_history.proofs.MemberLemmas.{first_places_once, first_places_have, has_in_places}
+use Rattle.office_serving.proofs.Totals.{counts_are}
+use Rattle.office_engine.proofs.SameOnce.{same_once}
+
+to_texts : {X : Type 0} (xs : List X) (x : X) → Has xs x → texts.Has xs x
+to_texts [] x there = absurd there
+to_texts (y ∷ xs) x (inl same) = inl (sym same)
+to_texts (y ∷ xs) x (inr more) = inr (to_texts xs x more)
+
+from_texts : {X : Type 0} (xs : List X) (x : X) → texts.Has xs x → Has xs x
+from_texts [] x there = absurd there
+from_texts (y ∷ xs) x (inl same) = inl (sym same)
+from_texts (y ∷ xs) x (inr more) = inr (from_texts xs x more)
+
+-- texts that stand once and are those of the files are the files' contents, each where it stands first, in another order
+held_once : (files held : List (List ℕ)) → IsDistinct bytes_eq held → ((x : List ℕ) → Has files x → Has held x) → ((x : List ℕ) → Has held x → Has files x) → IsPermutation (in_first_places files) held
+held_once files held once to back =
+    same_once (in_first_places files) held (first_places_once files) once
+    (λ x there. to x (from_texts files x (has_in_places x files (to_texts (in_first_places files) x there))))
+    (λ x there. from_texts (in_first_places files) x (first_places_have x files (to_texts files x (back x there))))
+
+same_stock : (files held : List (List ℕ)) → IsPermutation (in_first_places files) held → (length held ≡ length (in_first_places files)) × (sum (map length held) ≡ sum (map length (in_first_places files)))
+same_stock files held h = (length_permutation (in_first_places files) held h, sum-map length held ∙ sum_by-IsPermutation length (in_first_places files) held h ∙ sym (sum-map length (in_first_places files)))
+
+-- what the files of the pictured rows have is what those of the bags have
+module _ {A F : Type 0} where
+  gathered : (row : ℕ → A → F) (of : F → List ℕ) (own : A → List ℕ) → ((n : ℕ) (a : A) → of (row n a) ≡ own a) → (files : ℕ → List A) (ns : List ℕ)
+      → map of (flat_map (λ n. map (row n) (files n)) ns) ≡ map own (flat_map files ns)
+  gathered row of own same files [] = refl
+  gathered row of own same files (n ∷ ns) =
+      map-append of (map (row n) (files n)) (flat_map (λ n. map (row n) (files n)) ns)
+      ∙ ap₂ ◌++◌ (each (files n)) (gathered row of own same files ns)
+      ∙ sym (map-append own (files n) (flat_map files ns))
+    where
+      each : (xs : List A) → map of (map (row n) xs) ≡ map own xs
+      each [] = refl
+      each (x ∷ xs) = rw (same n x) (ap (λ more. own x ∷ more) (each xs))
+
+-- sizes that are these numbers are the lengths that they are told to be
+same_sizes : (parts lens : List ℕ) → map pos parts ≡ map pos lens → sum parts ≡ sum lens
+same_sizes parts lens e = ap sum (map_back pos (λ m n is. cc) parts lens e)
+
+-- ---- what the sizes of contents come to
+
+total_of_counts : (sizes : List ℤ) (total : ℕ) → total_by sizes ≡ Some total → (parts : List ℕ) × (sizes ≡ map pos parts) × (total ≡ sum parts)
+total_of_counts sizes total e =
+    let told = some_and_then (all_told count_of sizes) (λ parts. answer_if (nat_le (sum parts) max_total) (sum parts)) total e in
+    (told.0, counts_are sizes told.0 told.1, sym (same_Some _ _ (some_if (nat_le (sum told.0) max_total) (Some (sum told.0)) total told.2).1))
+
+-- the stock that contents of these sizes are has their number, and their sum
+stock_parts : (sizes : List ℤ) (found : Stock) → stock_in sizes ≡ Some found → (parts : List ℕ) × (sizes ≡ map pos parts) × (found ≡ record { contents = length sizes; bytes = sum parts })
+stock_parts sizes found e =
+    let told = some_and_then (total_by sizes) (λ bytes. Some (record { contents = length sizes; bytes = bytes })) found e in
+    let parts = total_of_counts sizes told.0 told.1 in
+    (parts.0, parts.1, sym (same_Some _ _ told.2) ∙ (λ i. record { contents = length sizes; bytes = parts.2 i }))
+
+-- ---- what a pictured database holds
+
+abbrev bytes_of : ContentRow → List ℕ
+bytes_of c = c.bytes
+
+abbrev texts_of : History → List (List ℕ)
+texts_of h = map (λ (file : File). file.content) (flat_map (files_of h) (kept_numbers h))
+
+module _ (h : History) (db : Database) (pictured : Pictures h db) (are : AreContents (map (λ (f : FileRow). f.content) (tables_of db).files) (contents_of db)) where
+  -- the texts of the files are those of the kept bags
+  texts_are : map (λ (f : FileRow). f.content) (tables_of db).files ≡ texts_of h
+  texts_are =
+      ap (λ (t : Tables). map (λ (f : FileRow). f.content) t.files) pictured.are
+      ∙ gathered file_row (λ (f : FileRow). f.content) (λ (file : File). file.content) (λ n file. refl) (files_of h) (kept_numbers h)
+
+  held : AreContents (texts_of h) (contents_of db)
+  held = subst (λ texts. AreContents texts (contents_of db)) texts_are are
+
+  -- they are exactly the contents of the kept bags
+  pub contents_held : IsPermutation (contents h) (map bytes_of (contents_of db))
+  contents_held = held_once (texts_of h) (map bytes_of (contents_of db)) held.once held.held held.used
+
+  -- so the stock that they are is the history's
+  pub stock_is : (found : Stock) → stock_by (contents_of db) ≡ Some found → found ≡ stock h
+  stock_is found e = let parts = stock_parts (map (λ (c : ContentRow). c.size) (contents_of db)) found e in parts.2 ∙ (λ i. record { contents = counted i; bytes = totalled parts.0 parts.1 i })
+    where
+      equal : (length (map bytes_of (contents_of db)) ≡ length (contents h)) × (sum (map length (map bytes_of (contents_of db))) ≡ sum (map length (contents h)))
+      equal = same_stock (texts_of h) (map bytes_of (contents_of db)) contents_held
+
+      counted : length (map (λ (c : ContentRow). c.size) (contents_of db)) ≡ length (contents h)
+      counted = length-map (contents_of db) (λ (c : ContentRow). c.size) ∙ sym (length-map (contents_of db) bytes_of) ∙ equal.0
+
+      lengths : map (λ (c : ContentRow). c.size) (contents_of db) ≡ map pos (map length (map bytes_of (contents_of db)))
+      lengths = held.sizes ∙ sym (map-map pos length (map bytes_of (contents_of db)))
+
+      totalled : (parts : List ℕ) → map (λ (c : ContentRow). c.size) (contents_of db) ≡ map pos parts → sum parts ≡ sum (map length (contents h))
+      totalled parts are = same_sizes parts (map length (map bytes_of (contents_of db))) (sym are ∙ lengths) ∙ equal.1
