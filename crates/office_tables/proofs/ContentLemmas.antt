@@ -50,11 +50,11 @@ use Rattle.sql_meaning.proofs.Changing.{drops}
 use Rattle.office_tables.specs.Schema.{office_schema, content_table, file_table, file_tree, content_tree}
 use Rattle.office_rows.specs.Rows.{FileRow, ContentRow, is_content, content_numbered, bytes_under, is_alike, next_id, last_number, with_content, with_file, file_at, Tables}
 use Rattle.office_tables.specs.Tables.{IsOffice, tables_of, contents_of, content_in, file_in}
-use Rattle.office_tables.specs.Contents.{references_of, StandOnce, IsMarked, AreUsed, KeepsOnce, KeepsFiles, content_after, IsContentAdded, IsNewContent, number_alike, content_number, IsContentKept, IsFileAdded, IsMarkedPut, AreFilesDropped, AreUsedOr, IsTidied, is_among, without_unused, references_within, references_without, contents_without}
+use Rattle.office_tables.specs.Contents.{references_of, StandOnce, IsMarked, AreUsed, KeepsOnce, KeepsFiles, content_after, IsContentAdded, IsNewContent, number_alike, content_number, IsContentKept, IsFileAdded, IsMarkedPut, AreFilesDropped, AreUsedOr, IsTidied, is_among, is_intact, without_unused, references_within, references_without, contents_without}
 use Rattle.office_tables.proofs.TablePlaces.{of_files, of_contents}
 use Rattle.office_tables.proofs.Frames.{idle, becomes, with_edit, contents_after, references_after, file_rows_after}
 use Rattle.office_tables.proofs.LastRow.{reads_last}
-use Rattle.office_tables.proofs.ContentTexts.{bytes_text, by_likeness, alike_text, last_text, contents_text, size_columns, by_content, users_text, add_text, add_terms, remove_text, content_meanings}
+use Rattle.office_tables.proofs.ContentTexts.{content_text, content_columns, by_likeness, alike_text, last_text, contents_text, size_columns, by_content, users_text, add_text, add_terms, remove_text, content_meanings}
 use Rattle.office_tables.proofs.Columns.{only}
 use Rattle.office_tables.proofs.RowsRead.{reads_numbered}
 
@@ -152,11 +152,33 @@ same_files cs ds rows alike = map_alike (file_in cs) (file_in ds) rows (λ r the
 
 -- ---- reads
 
-pub finds_bytes : (old new : State) (id : ℤ) (rows : List Row) → IsOffice old.now → Shown bytes_text (Int id ∷ []) old new rows
-    → (new.now ≡ old.now) × (option_map (λ (c : ContentRow). c.bytes) (content_numbered id (contents_of old.now)) ≡ option_map (λ row. bytes_at row 0) (slice_get rows 0))
-finds_bytes old new id rows office h =
-    let read = reads_numbered old new rows office content_meanings.asks_bytes id (of_contents office.whole.shaped) h in
-    (read.0, finds_part (old.now.trees content_tree) rows (has_number id) (shown_of (Int id ∷ []) (only 4)) content_in (is_content id) (λ r. refl) read.1 (λ (c : ContentRow). c.bytes) (λ row. bytes_at row 0) (λ r. refl))
+-- the mark and the bytes of a content
+abbrev pub marked_bytes : ContentRow → List ℕ × List ℕ
+marked_bytes c = (c.mark, c.bytes)
+
+-- those that a row shows
+abbrev pub shown_marked : Row → List ℕ × List ℕ
+shown_marked row = (bytes_at row 0, bytes_at row 1)
+
+pub finds_marked : (old new : State) (id : ℤ) (rows : List Row) → IsOffice old.now → Shown content_text (Int id ∷ []) old new rows
+    → (new.now ≡ old.now) × (option_map marked_bytes (content_numbered id (contents_of old.now)) ≡ option_map shown_marked (slice_get rows 0))
+finds_marked old new id rows office h =
+    let read = reads_numbered old new rows office content_meanings.asks_content id (of_contents office.whole.shaped) h in
+    (read.0, finds_part (old.now.trees content_tree) rows (has_number id) (shown_of (Int id ∷ []) content_columns) content_in (is_content id) (λ r. refl) read.1 marked_bytes shown_marked (λ r. refl))
+
+-- what a row shows of a content is the content's
+pub bytes_shown : (found : Option ContentRow) (row : Option Row) → option_map marked_bytes found ≡ option_map shown_marked row → option_map (λ (c : ContentRow). c.bytes) found ≡ option_map (λ row. bytes_at row 1) row
+bytes_shown None None is = refl
+bytes_shown None (Some row) is = absurd cc
+bytes_shown (Some c) None is = absurd cc
+bytes_shown (Some c) (Some row) is = ap (λ (o : Option (List ℕ × List ℕ)). option_map (λ (p : List ℕ × List ℕ). p.1) o) is
+
+-- and where the SHA-256 of the bytes that it shows is the mark that it shows, the content is intact
+pub intact_shown : (found : Option ContentRow) (row : Row) → option_map marked_bytes found ≡ Some (shown_marked row) → bytes_eq (bytes_at row 0) (sha256 (bytes_at row 1)) ≡ true → is_intact found ≡ true
+intact_shown None row is intact = absurd cc
+intact_shown (Some c) row is intact =
+    let both : marked_bytes c ≡ shown_marked row = same_Some (marked_bytes c) (shown_marked row) is in
+    ap (λ (p : List ℕ × List ℕ). bytes_eq p.0 (sha256 p.1)) both ∙ intact
 
 abbrev is_like : List ℕ → List ℕ → Row → Bool
 is_like mark bytes r = bytes_eq (bytes_at r 2) mark && bytes_eq (bytes_at r 4) bytes

@@ -20,8 +20,11 @@ use Rattle.office_tables.proofs.Columns.{only}
 
 -- ---- reads
 
-abbrev pub bytes_text : List ℕ
-bytes_text = codes "SELECT bytes FROM content WHERE id = ?1"
+abbrev pub content_text : List ℕ
+content_text = codes "SELECT mark, bytes FROM content WHERE id = ?1"
+
+abbrev pub content_columns : List Term
+content_columns = col 1 2 ∷ col 1 4 ∷ []
 
 -- WHERE mark = ?1 AND bytes = ?2
 abbrev pub by_likeness : List Term
@@ -60,7 +63,7 @@ remove_text = codes "DELETE FROM content WHERE id = ?1"
 -- ---- what each means
 
 pub record ContentMeanings : Type 0 where
-  pub asks_bytes : Asks office_schema bytes_text content_tree by_number (only 4) []
+  pub asks_content : Asks office_schema content_text content_tree by_number content_columns []
   pub asks_alike : Asks office_schema alike_text content_tree by_likeness (only 0) rising
   pub asks_last : AsksLast office_schema last_text content_tree
   pub asks_contents : Asks office_schema contents_text content_tree [] size_columns rising
@@ -71,7 +74,7 @@ pub record ContentMeanings : Type 0 where
 pub content_meanings : ContentMeanings
 unfolding understood everything
 content_meanings = record {
-  asks_bytes = record { names = codes "bytes" ∷ []; command = refl; unlisted = refl; plain = (refl, refl) };
+  asks_content = record { names = codes "mark" ∷ codes "bytes" ∷ []; command = refl; unlisted = refl; plain = (refl, refl) };
   asks_alike = record { names = codes "id" ∷ []; command = refl; unlisted = refl; plain = (refl, refl) };
   asks_last = record { names = codes "id" ∷ []; command = refl; unlisted = refl; plain = (refl, refl) };
   asks_contents = record { names = codes "id" ∷ codes "size" ∷ []; command = refl; unlisted = refl; plain = (refl, refl) };

@@ -1,5 +1,5 @@
 -- What the statements on files do to the rows of an office.
-use Rattle.std.proofs.Common.{arith, ◌≡◌, ◌&&◌, ◌⊎◌, ap₂, not, bytes_eq, ℕ, ℤ, List, [], ◌∷◌, ◌++◌, ◌<◌, map, filter, take, length, get_or, slice_get, slice_index_or, ◌+◌, option_map, Bool, true, false, Option, None, Some, Ok, Ordering, Equal, Less, refl, sym, ap, subst, subst₂, ◌∙◌, inl, inr}
+use Rattle.std.proofs.Common.{arith, unwrap_or, ◌≡◌, ◌&&◌, ◌⊎◌, ap₂, not, bytes_eq, ℕ, ℤ, List, [], ◌∷◌, ◌++◌, ◌<◌, map, filter, take, length, get_or, slice_get, slice_index_or, ◌+◌, option_map, Bool, true, false, Option, None, Some, Ok, Ordering, Equal, Less, refl, sym, ap, subst, subst₂, ◌∙◌, inl, inr}
 use Rattle.std.specs.List.{AllByRecursion}
 use Rattle.std.specs.Ordering.{is_lt, is_eq, int_eq}
 use Rattle.std.specs.Cmp.{IsTotalOrder}
@@ -15,6 +15,7 @@ use Rattle.std.proofs.lemmas.Map.Text.{is_eq-slice_cmp}
 use Rattle.std.proofs.lemmas.List.Sorted.{IsPermutation-map, IsPermutation-sym, All-permutation}
 use Rattle.std.proofs.lemmas.Slice.Eq.{bytes_eq-Decides}
 use Rattle.std.proofs.lemmas.List.Elements.{recursion_from_All, All-from_recursion}
+use Rattle.sha2.specs.Sha256.{sha256}
 use Rattle.sqlite.specs.declared.types.Value.TheVariants.{Null, Int, Text}
 use Rattle.sqlite.specs.Order.{Row, column, value_cmp}
 use Rattle.sqlite.specs.Edit.{Edit, edit_of, with_rowid, next_rowid}
@@ -58,9 +59,10 @@ use Rattle.office_tables.specs.Schema.{office_schema, file_table, file_tree}
 use Rattle.office_rows.proofs.Order.{map_back}
 use Rattle.office_rows.specs.Rows.{FileRow, ContentRow, bytes_under, is_file_of, is_file_at, file_at, with_file}
 use Rattle.office_tables.specs.Tables.{IsOffice, Becomes, tables_of, contents_of, file_in}
-use Rattle.office_tables.specs.Contents.{references_of, references_where, references_within, IsFileAdded, AreFilesDropped}
+use Rattle.office_tables.specs.Contents.{references_of, references_where, references_within, content_at, content_referred, is_intact, IsMarked, KeepsOnce, IsFileAdded, AreFilesDropped}
 use Rattle.office_tables.specs.Deposits.{shown_path, path_cmp, files_by_path}
 use Rattle.office_tables.proofs.TablePlaces.{of_files}
+use Rattle.office_tables.proofs.ContentLemmas.{fetched}
 use Rattle.office_tables.proofs.Frames.{idle, becomes, with_edit, file_rows_after, contents_after, references_after}
 use Rattle.office_tables.proofs.FileTexts.{by_deposit, by_place, by_path, content_text, paths_text, ids_text, put_text, drop_text, file_meanings}
 use Rattle.office_tables.proofs.Columns.{only, all_given}
@@ -123,19 +125,6 @@ module _ (db : Database) (office : IsOffice db) (n : ℤ) where
 abbrev content_under : List ContentRow → Row → List ℕ
 content_under contents row = bytes_under contents (int_at row 0)
 
--- the number that the row shows is that of the content
-pub finds_content : (old new : State) (n : ℤ) (path : List ℕ) (rows : List Row) → IsOffice old.now → Shown content_text (Int n ∷ Text path ∷ []) old new rows
-    → (new.now ≡ old.now) × (option_map (λ (f : FileRow). f.content) (file_at n path (tables_of old.now).files) ≡ option_map (content_under (contents_of old.now)) (slice_get rows 0))
-finds_content old new n path rows office h =
-    let params : Row = Int n ∷ Text path ∷ [] in
-    let stored = old.now.trees file_tree in
-    let contents = contents_of old.now in
-    let is = reads_one office_schema content_text file_tree by_place (only 3) [] file_meanings.asks_content params old new office.whole.schema_is rows h (has_place n path)
-    (each_at old.now office n path) (few_files old.now office n path) in (
-      reads_same office_schema content_text file_tree by_place (only 3) [] file_meanings.asks_content params old new office.whole.schema_is rows h,
-      finds_part stored rows (has_place n path) (shown_of params (only 3)) (file_in contents) (is_file_at n path) (λ r. refl) is (λ (f : FileRow). f.content) (content_under contents) (λ r. refl),
-    )
-
 -- the references of the files that pass are those in their rows
 references_are : (those : FileRow → Bool) (test : Row → Bool) (contents : List ContentRow) → ((r : Row) → those (file_in contents r) ≡ test r) → (rows : List Row)
     → references_where those (map (file_in contents) rows) (map (λ row. int_at row 3) rows) ≡ map (λ row. int_at row 3) (filter test rows)
@@ -144,6 +133,39 @@ references_are those test contents tests (r ∷ rows) = elim (cases_Bool (test r
   | inl is ↦ let those_is : those (file_in contents r) ≡ true = tests r ∙ is in rw (those_is, is) (ap (λ more. int_at r 3 ∷ more) (references_are those test contents tests rows))
   | inr isnt ↦ let those_is : those (file_in contents r) ≡ false = tests r ∙ isnt in rw (those_is, isnt) (references_are those test contents tests rows)
 ]
+
+-- the number of the content of the file at that place
+abbrev pub reference_at : Database → ℤ → List ℕ → Option ℤ
+reference_at db n path = slice_get (references_where (is_file_at n path) (tables_of db).files (references_of db)) 0
+
+-- the reference of the file at a place is that in the row of that place
+reference_is : (db : Database) (n : ℤ) (path : List ℕ) → reference_at db n path ≡ option_map (λ r. int_at r 3) (slice_get (filter (has_place n path) (db.trees file_tree)) 0)
+reference_is db n path =
+    let stored = db.trees file_tree in
+    ap (λ (ids : List ℤ). slice_get ids 0) (references_are (is_file_at n path) (has_place n path) (contents_of db) (λ r. refl) stored) ∙ first (filter (has_place n path) stored)
+  where
+    first : (rs : List Row) → slice_get (map (λ r. int_at r 3) rs) 0 ≡ option_map (λ r. int_at r 3) (slice_get rs 0)
+    first [] = refl
+    first (r ∷ rs) = refl
+
+-- the number that the row shows is that of the content
+pub finds_content : (old new : State) (n : ℤ) (path : List ℕ) (rows : List Row) → IsOffice old.now → Shown content_text (Int n ∷ Text path ∷ []) old new rows
+    → (new.now ≡ old.now) × (option_map (λ (f : FileRow). f.content) (file_at n path (tables_of old.now).files) ≡ option_map (content_under (contents_of old.now)) (slice_get rows 0))
+    × (reference_at old.now n path ≡ option_map (λ row. int_at row 0) (slice_get rows 0))
+finds_content old new n path rows office h =
+    let params : Row = Int n ∷ Text path ∷ [] in
+    let stored = old.now.trees file_tree in
+    let contents = contents_of old.now in
+    let is = reads_one office_schema content_text file_tree by_place (only 3) [] file_meanings.asks_content params old new office.whole.schema_is rows h (has_place n path)
+    (each_at old.now office n path) (few_files old.now office n path) in (
+      reads_same office_schema content_text file_tree by_place (only 3) [] file_meanings.asks_content params old new office.whole.schema_is rows h,
+      finds_part stored rows (has_place n path) (shown_of params (only 3)) (file_in contents) (is_file_at n path) (λ r. refl) is (λ (f : FileRow). f.content) (content_under contents) (λ r. refl),
+      reference_is old.now n path ∙ shows_first (filter (has_place n path) stored) ∙ ap (λ rs. option_map (λ row. int_at row 0) (slice_get rs 0)) (sym is),
+    )
+  where
+    shows_first : (rs : List Row) → option_map (λ r. int_at r 3) (slice_get rs 0) ≡ option_map (λ row. int_at row 0) (slice_get (map (shown_of (Int n ∷ Text path ∷ []) (only 3)) rs) 0)
+    shows_first [] = refl
+    shows_first (r ∷ rs) = refl
 
 -- the numbers of the contents of a deposit's files
 pub finds_contents : (old new : State) (n : ℤ) (rows : List Row) → IsOffice old.now → Shown ids_text (Int n ∷ []) old new rows
@@ -384,3 +406,47 @@ module _ (db : Database) (office : IsOffice db) (n : ℤ) where
       let by_rows : map at (map shown_path rows) ≡ map (λ row. at (shown_path row)) rows = map-map at shown_path rows in
       let by_paths : map at (map (λ (f : FileRow). f.path) all) ≡ map (λ f. at f.path) all = map-map at (λ (f : FileRow). f.path) all in
       map_back Some same_Some files all (found ∙ sym by_rows ∙ ap (map at) (sym paths) ∙ by_paths ∙ map_alike (λ f. at f.path) Some all (λ f there. all_has IsFound all f each_found there))
+
+-- ---- which content a file has
+
+module _ (db : Database) (office : IsOffice db) (n : ℤ) (path : List ℕ) where
+  -- the content of the file at that place, where there is one
+  abbrev its_content : Option ContentRow
+  its_content = content_at n path (tables_of db).files (references_of db) (contents_of db)
+
+  at_row : (row : Row) → slice_get (filter (has_place n path) (db.trees file_tree)) 0 ≡ Some row → (c : ContentRow) × (its_content ≡ Some c) × (bytes_under (contents_of db) (int_at row 3) ≡ c.bytes) × Has (contents_of db) c
+  at_row row first =
+      let there = (has_filtered (has_place n path) (db.trees file_tree) row (has_first (filter (has_place n path) (db.trees file_tree)) row first)).0 in
+      let c = fetched db office row there in
+      let reference : reference_at db n path ≡ Some (int_at row 3) = reference_is db n path ∙ ap (option_map (λ r. int_at r 3)) first in (
+        c.0,
+        ap (λ id. content_referred id (contents_of db)) reference ∙ c.1,
+        ap (λ (o : Option ContentRow). unwrap_or (option_map (λ c. c.bytes) o) []) c.1,
+        c.2,
+      )
+    where
+      has_first : (rs : List Row) (r : Row) → slice_get rs 0 ≡ Some r → Has rs r
+      has_first [] r is = absurd cc
+      has_first (q ∷ rs) r is = inl (sym (same_Some q r is))
+
+  -- a file has a content, and its bytes are that content's
+  pub has_content : (f : FileRow) → file_at n path (tables_of db).files ≡ Some f → (c : ContentRow) × (its_content ≡ Some c) × (f.content ≡ c.bytes) × Has (contents_of db) c
+  has_content f is =
+      let stored = db.trees file_tree in
+      let first = found_by (is_file_at n path) (has_place n path) (file_in (contents_of db)) stored (all_from _ stored (λ r there. refl)) in
+      by (slice_get (filter (has_place n path) stored) 0) refl (sym first ∙ is)
+    where
+      by : (o : Option Row) → slice_get (filter (has_place n path) (db.trees file_tree)) 0 ≡ o → option_map (file_in (contents_of db)) o ≡ Some f
+          → (c : ContentRow) × (its_content ≡ Some c) × (f.content ≡ c.bytes) × Has (contents_of db) c
+      by None first found = absurd cc
+      by (Some row) first found =
+          let it = at_row row first in
+          let same : file_in (contents_of db) row ≡ f = same_Some (file_in (contents_of db) row) f found in
+          (it.0, it.1, ap (λ (g : FileRow). g.content) (sym same) ∙ it.2, it.3)
+
+  -- which is intact where contents are kept once
+  pub has_intact : KeepsOnce db → (f : FileRow) → file_at n path (tables_of db).files ≡ Some f → is_intact its_content ≡ true
+  has_intact kept f is =
+      let it = has_content f is in
+      let marked : it.0.mark ≡ sha256 it.0.bytes = (all_has IsMarked (contents_of db) it.0 kept.marked it.3).mark in
+      ap is_intact it.1 ∙ (bytes_eq-Decides it.0.mark (sha256 it.0.bytes)).1 marked

@@ -3,13 +3,11 @@ use Rattle.std.proofs.Common.{◌≡◌, Some, None, List, IsTrue, refl, sym, ap
 use Rattle.sqlite.specs.State.{State, IsLive}
 use Rattle.office_tables.specs.Found.{GoesOnAs}
 use Rattle.sqlite.specs.Tree.{Trees}
-use Rattle.sqlite.specs.Schema.{Schema}
 use Rattle.sqlite.specs.Order.{Row}
 use Rattle.sqlite.specs.Effect.{Database, IsDatabase}
 use Rattle.sqlite_trees.specs.Objects.{catalog_tree}
 use Rattle.sqlite_catalog.specs.Listing.{Lists}
 use Rattle.sqlite_catalog.proofs.ReadLemmas.{lists_once}
-use Rattle.sql_meaning.specs.Whole.{IsWhole}
 use Rattle.office_rows.specs.Rows.{Tables, version_of, this_version}
 use Rattle.office_tables.specs.Tables.{Becomes, IsOffice, tables_of}
 use Rattle.office_tables.specs.Opening.{IsLeft, KeepsTables, IsKnownAsOther}
@@ -28,9 +26,6 @@ same_database a b p q e = let s = same_schema a b p q (ap (λ (t : Trees). t cat
 -- what is so of a database is so of each one with its trees
 pub found_again : (P : Database → Type 0) (a b : Database) → IsDatabase a → IsDatabase b → b.trees ≡ a.trees → P a → P b
 found_again P a b p q e = subst P (same_database a b p q (sym e))
-
-pub whole_again : (schema : Schema) (a b : Database) → IsWhole schema a → IsDatabase b → b.trees ≡ a.trees → IsWhole schema b
-whole_again schema a b whole q e = found_again (IsWhole schema) a b whole.listed q e whole
 
 -- the database that is found where the trees of an office were left
 pub becomes_again : (tables : Tables) (left : Trees) (b : Database) → IsLeft tables left → IsDatabase b → b.trees ≡ left → Becomes b tables

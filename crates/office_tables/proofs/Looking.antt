@@ -1,5 +1,5 @@
 -- What the query on the office's row means under any schema.
-use Rattle.std.proofs.Common.{◌≡◌, ℤ, IsTrue, MatchOption, List, [], ◌∷◌, Bool, true, false, cond, Option, None, Some, Ok, Err, refl, sym, ap, subst, ◌∙◌, inl, inr}
+use Rattle.std.proofs.Common.{◌≡◌, ℤ, MatchOption, List, [], ◌∷◌, Bool, true, false, cond, Option, None, Some, Ok, Err, refl, sym, ap, subst, ◌∙◌, inl, inr}
 use Rattle.std.specs.List.{AllByRecursion}
 use Rattle.std.proofs.lemmas.Bool.{cases_Bool}
 use Rattle.sqlite_rules.specs.Lists.{Has}
@@ -15,12 +15,9 @@ use Rattle.sqlite.specs.Command.{Command}
 use Rattle.sqlite.specs.Order.{Row, column}
 use Rattle.sqlite.specs.declared.types.Value.TheVariants.{Int}
 use Rattle.sqlite.specs.Effect.{Database}
-use Rattle.sqlite.specs.Store.{Ghosts}
-use Rattle.sqlite.specs.Held.{Held, state}
 use Rattle.sqlite.specs.Listing.{understood, reads_listing, if_select, is_select, listing_schema}
-use Rattle.sqlite.specs.State.{State, Shown, IsUnchanged, HasCleanDisk, IsRolledBack}
-use Rattle.sql_meaning.specs.Inside.{Stays}
-use Rattle.office_tables.specs.Opening.{look_text, Looks, ShowsVersion, KeepsTables, shows_office, known_row}
+use Rattle.sqlite.specs.State.{State, Shown, IsUnchanged}
+use Rattle.office_tables.specs.Opening.{look_text, Looks, ShowsVersion, shows_office, known_row}
 
 -- the text is a SELECT without parameters or the time
 look_parsed : (p : Parsed) × (s : _) × (first look_text ≡ Ok p) × (p.statement ≡ written.Select s) × (p.formats ≡ []) × (p.names ≡ [])
@@ -88,13 +85,3 @@ known_there (r ∷ rows) row known = elim (cases_Bool (shows_office r)) [
       (inl same, ap shows_office same ∙ is)
   | inr isnt ↦ let later = known_there rows row (rw isnt at known) in (inr later.0, later.1)
 ]
-
--- what was read and rolled back
-pub kept_back : {S : Type 0} (g : Ghosts S) (first : Held S) (last end : State) → (IsTrue (state g first).is_open → (state g first).now ≡ (state g first).committed)
-    → Stays (state g (record first { in_transaction = true })) last → HasCleanDisk last → IsRolledBack last end → KeepsTables (state g first) end
-kept_back g first last end settled stays clean back is_open =
-    let kept = stays.kept clean refl in
-    let was = back.was_open is_open in
-    let u = back.undone is_open in
-    let opened = kept.was_open was in
-    (opened, u.0 ∙ kept.committed was ∙ sym (settled opened), u.1 ∙ kept.committed was ∙ sym (settled opened))

@@ -9,7 +9,6 @@ use Rattle.sqlite_store.specs.FileStore.{state, view, recovers}
 use Rattle.sqlite.specs.State.{State, HasCleanDisk, Survives, Opens}
 use Rattle.sqlite.specs.Held.{AreDatabases}
 use Rattle.sqlite.specs.Effect.{Database}
-use Rattle.sqlite.specs.Start.{FindsIn}
 use Rattle.sqlite.specs.Files.{HoldsDatabase}
 use Rattle.sqlite.proofs.Theorems.{opens_again}
 use Rattle.office_tables.specs.Opening.{HasVersion, KeepsTables}
@@ -19,10 +18,6 @@ use Rattle.office_tables.specs.Found.{GoesOnAs, HoldsWhere, PicksUp}
 pub holds_left : {D : Type 0} {g : Ghosts D} (it : FileStore D g) → IsTrue (view it).is_numbered → AreDatabases (recovers it) → (P : Trees → Type 0) → ((db : Trees) → recovers it db → P db)
     → (image : Image) → (state it).may_leave image → HoldsWhere P image
 holds_left it numbered sound P all image may = ∥∥₁_map (opens_again it numbered sound image may) (λ found. (found.0, all found.0 found.1, found.2))
-
--- and of what is found there
-pub found_where : (P : Trees → Type 0) (image : Image) (s : State) → FindsIn image s → HoldsWhere P image → ∥ P s.committed.trees ∥₁
-found_where P image s finds holds = ∥∥₁_map holds (λ d. subst P (sym (finds.holds d.0 d.2)) d.1)
 
 -- where the disk is clean after a call it was before
 clean_before : (first last : State) → Survives first last (λ _. ⊥) → HasCleanDisk last → HasCleanDisk first

@@ -1,5 +1,5 @@
 -- The contents that are kept once, and what the calls on them say. `old` is the database before a call and `new` the one after it.
-use Rattle.std.specs.Prelude.{◌≡◌, ℕ, ℤ, pos, List, [], ◌∷◌, ◌++◌, map, filter, length, true, bytes_eq, Bool, not, ◌||◌, if◌then◌else◌, Option, Some, None, find, option_map, unwrap_or, ◌⊎◌, Result, IfOk, OnOk}
+use Rattle.std.specs.Prelude.{◌≡◌, ℕ, ℤ, pos, List, [], ◌∷◌, ◌++◌, map, filter, length, true, false, bytes_eq, Bool, not, ◌||◌, if◌then◌else◌, Option, Some, None, find, option_map, slice_get, unwrap_or, ◌⊎◌, Result, IfOk, OnOk}
 use Rattle.std.specs.List.{AllByRecursion, IsDistinct, list_any}
 use Rattle.sha2.specs.Sha256.{sha256}
 use Rattle.sqlite.specs.Store.{Ghosts}
@@ -10,7 +10,7 @@ use Rattle.sqlite.specs.Order.{Row}
 use Rattle.sqlite.specs.Effect.{Database}
 use Rattle.sqlite_rules.specs.Lists.{Has}
 use Rattle.sql_meaning.specs.Columns.{int_at}
-use Rattle.office_rows.specs.Rows.{ContentRow, FileRow, is_content, bytes_under, next_id, with_content, is_alike, is_file_of, file_at, with_file, without_files}
+use Rattle.office_rows.specs.Rows.{ContentRow, FileRow, is_content, content_numbered, bytes_under, next_id, with_content, is_alike, is_file_at, is_file_of, file_at, with_file, without_files}
 use Rattle.office_tables.specs.Schema.{file_tree}
 use Rattle.office_tables.specs.Tables.{IsOffice, Becomes, tables_of, contents_of}
 
@@ -148,6 +148,22 @@ pub record IsMarkedPut (f : FileRow) (mark : List ℕ) (old new : Database) : Ty
   pub contents : contents_of new ≡ with_content mark f.content (contents_of old)
   pub references : references_of new ≡ references_of old ++ content_number mark f.content (contents_of old) ∷ []
   pub used : AreUsed (references_of old) (contents_of old) → AreUsed (references_of new) (contents_of new)
+
+-- ---- which content a file has
+
+-- the content to which this is the reference
+abbrev pub content_referred : Option ℤ → List ContentRow → Option ContentRow
+content_referred None contents = None
+content_referred (Some id) contents = content_numbered id contents
+
+-- the content that the file of the deposit at that path has
+abbrev pub content_at : ℤ → List ℕ → List FileRow → List ℤ → List ContentRow → Option ContentRow
+content_at n path files references = content_referred (slice_get (references_where (is_file_at n path) files references) 0)
+
+-- it is there, and its mark is the SHA-256 of its bytes
+abbrev pub is_intact : Option ContentRow → Bool
+is_intact None = false
+is_intact (Some c) = bytes_eq c.mark (sha256 c.bytes)
 
 -- ---- contents that nobody keeps
 

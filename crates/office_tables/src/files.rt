@@ -1,13 +1,13 @@
 //! The files of deposits.
 
-ghost use Rattle.std.specs.Prelude.{◌≡◌, ◌++◌, ◌∷◌, [], None, Some, pos, map, option_map, slice_get};
+ghost use Rattle.std.specs.Prelude.{◌≡◌, ◌++◌, ◌∷◌, [], IfSome, None, Some, pos, map, option_map, slice_get, true};
 ghost use Rattle.sha2.specs.Sha256.{sha256};
 ghost use Rattle.sql_meaning.specs.Columns.{int_at};
-ghost use Rattle.office_rows.specs.Rows.{bytes_under, file_at, with_content, with_file, without_files};
+ghost use Rattle.office_rows.specs.Rows.{bytes_under, content_numbered, file_at, is_file_at, with_content, with_file, without_files};
 ghost use Rattle.office_tables.specs.Calls.{GoesOnInTurn, GoesOnInside, Keeps, Shows, Tells, Writes};
 ghost use Rattle.office_tables.specs.Tables.{contents_of, tables_of};
-ghost use Rattle.office_tables.specs.Contents.{AreFilesDropped, AreUsed, Does, IsFileAdded, IsMarkedPut, LeavesOnce, StandOnce, content_number, contents_without, references_of, references_without};
-ghost use Rattle.std.specs.List.{AllByRecursion};
+ghost use Rattle.office_tables.specs.Contents.{AreFilesDropped, AreUsed, Does, IsFileAdded, IsMarkedPut, LeavesOnce, StandOnce, content_at, content_number, contents_without, is_intact, references_of, references_where, references_without};
+ghost use Rattle.std.specs.List.{AllByRecursion, list_all};
 ghost use Rattle.office_tables.specs.Deposits.{shown_path, files_by_path};
 
 use crate::fault::{Result, TableFault};
@@ -145,6 +145,10 @@ fn rows_of_file<S: Alter>(tx: &mut Transaction<'_, S>, number: u32, path: &str) 
         × (option_map (λ f. f.content) (file_at (pos number) path.now (tables_of old).files)
         ≡ option_map (λ row.
         bytes_under (contents_of old) (int_at row 0)) (slice_get rows.items 0))) }
+    ensures reference { Does S.Store tx.old.conn.now tx.new.conn.now result (λ old new rows.
+        slice_get (references_where (is_file_at (pos number) path.now) (tables_of old).files
+        (references_of old)) 0
+        ≡ option_map (λ row. int_at row 0) (slice_get rows.items 0)) }
 {
     ask(
         tx,
@@ -153,16 +157,45 @@ fn rows_of_file<S: Alter>(tx: &mut Transaction<'_, S>, number: u32, path: &str) 
     )
 }
 
-/// The content whose number a row shows.
-fn content_in<S: Alter>(tx: &mut Transaction<'_, S>, row: &Row) -> Result<Vec<u8>>
+/// The content whose number a row shows; where it is checked, its SHA-256 is its mark.
+fn content_in<S: Alter>(tx: &mut Transaction<'_, S>, row: &Row, checked: bool) -> Result<Vec<u8>>
     ensures inside { GoesOnInside S.Store tx.old.conn tx.new.conn result }
     ensures found { Does S.Store tx.old.conn.now tx.new.conn.now result (λ old new content.
         (new ≡ old) × (content.items ≡ bytes_under (contents_of old) (int_at row.now 0))) }
+    ensures intact { Does S.Store tx.old.conn.now tx.new.conn.now result (λ old new _.
+        checked ≡ true
+        → is_intact (content_numbered (int_at row.now 0) (contents_of old)) ≡ true) }
 {
     let id = number_in(row, 0)?;
-    match content_of(tx, id)? {
+    match content_of(tx, id, checked)? {
         Some(content) => Ok(content),
         None => Err(TableFault::Store),
+    }
+}
+
+/// The content of the file of that deposit and path; `None` where there is no such file. Where it is
+/// checked, its SHA-256 is the mark under which it is kept.
+fn content_of_file<S: Alter>(
+    tx: &mut Transaction<'_, S>,
+    number: u32,
+    path: &str,
+    checked: bool,
+) -> Result<Option<Vec<u8>>>
+    ensures inside { GoesOnInside S.Store tx.old.conn tx.new.conn result }
+    ensures same { Keeps S.Store tx.old.conn.now tx.new.conn.now result }
+    ensures found { Tells S.Store tx.old.conn.now tx.new.conn.now result (λ tables found.
+        option_map (λ content. content.items) found
+        ≡ option_map (λ f. f.content) (file_at (pos number) path.now tables.files)) }
+    ensures intact { Does S.Store tx.old.conn.now tx.new.conn.now result (λ old new found.
+        checked ≡ true
+        → IfSome found (λ _.
+        is_intact (content_at (pos number) path.now (tables_of old).files (references_of old)
+        (contents_of old)) ≡ true)) }
+{
+    let rows = rows_of_file(tx, number, path)?;
+    match rows.first() {
+        Some(row) => Ok(Some(content_in(tx, row, checked)?)),
+        None => Ok(None),
     }
 }
 
@@ -180,11 +213,29 @@ pub fn file_of<S: Alter>(
         option_map (λ content. content.items) found
         ≡ option_map (λ f. f.content) (file_at (pos number) path.now tables.files)) }
 {
-    let rows = rows_of_file(tx, number, path)?;
-    match rows.first() {
-        Some(row) => Ok(Some(content_in(tx, row)?)),
-        None => Ok(None),
-    }
+    content_of_file(tx, number, path, false)
+}
+
+/// The content of the file of that deposit and path, where its SHA-256 is the mark under which it is kept;
+/// `None` where there is no such file.
+///
+/// Fails with `Store` where the SHA-256 is another, and with `Memory` or `Store`.
+pub fn intact_file_of<S: Alter>(
+    tx: &mut Transaction<'_, S>,
+    number: u32,
+    path: &str,
+) -> Result<Option<Vec<u8>>>
+    ensures inside { GoesOnInside S.Store tx.old.conn tx.new.conn result }
+    ensures same { Keeps S.Store tx.old.conn.now tx.new.conn.now result }
+    ensures found { Tells S.Store tx.old.conn.now tx.new.conn.now result (λ tables found.
+        option_map (λ content. content.items) found
+        ≡ option_map (λ f. f.content) (file_at (pos number) path.now tables.files)) }
+    ensures intact { Does S.Store tx.old.conn.now tx.new.conn.now result (λ old new found.
+        IfSome found (λ content.
+        is_intact (content_at (pos number) path.now (tables_of old).files (references_of old)
+        (contents_of old)) ≡ true)) }
+{
+    content_of_file(tx, number, path, true)
 }
 
 /// Takes out the files of the deposit, and leaves their contents.
@@ -237,15 +288,25 @@ fn rows_of_paths<S: Alter>(tx: &mut Transaction<'_, S>, number: u32) -> Result<V
     )
 }
 
-/// The file of the deposit at the path that a row shows.
-fn file_at<S: Alter>(tx: &mut Transaction<'_, S>, number: u32, row: &Row) -> Result<FileRow>
+/// The file of the deposit at the path that a row shows; where its content is checked, its SHA-256 is its
+/// mark.
+fn file_at<S: Alter>(
+    tx: &mut Transaction<'_, S>,
+    number: u32,
+    row: &Row,
+    checked: bool,
+) -> Result<FileRow>
     ensures inside { GoesOnInside S.Store tx.old.conn tx.new.conn result }
     ensures same { Keeps S.Store tx.old.conn.now tx.new.conn.now result }
     ensures found { Tells S.Store tx.old.conn.now tx.new.conn.now result (λ tables file.
         Some file ≡ file_at (pos number) (shown_path row.now) tables.files) }
+    ensures intact { Does S.Store tx.old.conn.now tx.new.conn.now result (λ old new file.
+        checked ≡ true
+        → is_intact (content_at (pos number) file.path (tables_of old).files (references_of old)
+        (contents_of old)) ≡ true) }
 {
     let path: String = row.get(0)?;
-    match file_of(tx, number, &path)? {
+    match content_of_file(tx, number, &path, checked)? {
         Some(content) => Ok(FileRow {
             deposit: number,
             path,
@@ -262,17 +323,45 @@ fn files_at<S: Alter>(
     tx: &mut Transaction<'_, S>,
     number: u32,
     rows: &[Row],
+    checked: bool,
 ) -> Result<Vec<FileRow>>
     ensures inside { GoesOnInTurn S.Store tx.old.conn tx.new.conn result }
     ensures found { Shows S.Store tx.old.conn.now tx.new.conn.now result (λ tables files.
         map Some files.items
         ≡ map (λ row. file_at (pos number) (shown_path row) tables.files) rows.now) }
+    ensures intact { Does S.Store tx.old.conn.now tx.new.conn.now result (λ old new files.
+        checked ≡ true
+        → list_all (λ f.
+        is_intact (content_at (pos number) f.path (tables_of old).files (references_of old)
+        (contents_of old))) files.items ≡ true) }
 {
     let mut files = Vec::with_capacity(alloc, rows.len())?;
     for row in rows {
-        files.push(file_at(tx, number, row)?)?;
+        files.push(file_at(tx, number, row, checked)?)?;
     }
     Ok(files)
+}
+
+/// The files of the deposit of that number, ascending by path, byte by byte; where they are checked, the
+/// SHA-256 of each content is its mark.
+fn read_files<S: Alter>(
+    alloc: Global,
+    tx: &mut Transaction<'_, S>,
+    number: u32,
+    checked: bool,
+) -> Result<Vec<FileRow>>
+    ensures inside { GoesOnInside S.Store tx.old.conn tx.new.conn result }
+    ensures same { Keeps S.Store tx.old.conn.now tx.new.conn.now result }
+    ensures found { Tells S.Store tx.old.conn.now tx.new.conn.now result (λ tables all.
+        all.items ≡ files_by_path (pos number) tables) }
+    ensures intact { Does S.Store tx.old.conn.now tx.new.conn.now result (λ old new all.
+        checked ≡ true
+        → list_all (λ f.
+        is_intact (content_at (pos number) f.path (tables_of old).files (references_of old)
+        (contents_of old))) all.items ≡ true) }
+{
+    let rows = rows_of_paths(tx, number)?;
+    files_at(alloc, tx, number, &rows, checked)
 }
 
 /// The files of the deposit of that number, ascending by path, byte by byte.
@@ -288,6 +377,26 @@ pub fn files_of<S: Alter>(
     ensures found { Tells S.Store tx.old.conn.now tx.new.conn.now result (λ tables all.
         all.items ≡ files_by_path (pos number) tables) }
 {
-    let rows = rows_of_paths(tx, number)?;
-    files_at(alloc, tx, number, &rows)
+    read_files(alloc, tx, number, false)
+}
+
+/// The files of the deposit of that number, ascending by path, byte by byte, where the SHA-256 of each
+/// content is the mark under which it is kept.
+///
+/// Fails with `Store` where the SHA-256 of one is another, and with `Memory` or `Store`.
+pub fn intact_files_of<S: Alter>(
+    alloc: Global,
+    tx: &mut Transaction<'_, S>,
+    number: u32,
+) -> Result<Vec<FileRow>>
+    ensures inside { GoesOnInside S.Store tx.old.conn tx.new.conn result }
+    ensures same { Keeps S.Store tx.old.conn.now tx.new.conn.now result }
+    ensures found { Tells S.Store tx.old.conn.now tx.new.conn.now result (λ tables all.
+        all.items ≡ files_by_path (pos number) tables) }
+    ensures intact { Does S.Store tx.old.conn.now tx.new.conn.now result (λ old new all.
+        list_all (λ f.
+        is_intact (content_at (pos number) f.path (tables_of old).files (references_of old)
+        (contents_of old))) all.items ≡ true) }
+{
+    read_files(alloc, tx, number, true)
 }

@@ -1,6 +1,7 @@
 //! The contents of files, each kept once.
 
-ghost use Rattle.std.specs.Prelude.{◌≡◌, ℤ, List, [], ◌∷◌, true, IfErr, IfOk, Some, map, filter, not, slice_get, option_map};
+ghost use Rattle.std.specs.Prelude.{◌≡◌, ℕ, ℤ, List, [], ◌∷◌, true, false, bytes_eq, Err, IfErr, IfOk, IfSome, Some, map, filter, not, slice_get, option_map};
+ghost use Rattle.sha2.specs.Sha256.{sha256};
 ghost use Rattle.std.specs.List.{list_any};
 ghost use Rattle.std.specs.Ordering.{int_eq};
 ghost use Rattle.sql_meaning.specs.Columns.{int_at, bytes_at};
@@ -9,22 +10,30 @@ ghost use Rattle.office_tables.specs.Schema.{file_tree};
 ghost use Rattle.office_tables.specs.Faults.{IsFailure};
 ghost use Rattle.office_tables.specs.Tables.{contents_of};
 ghost use Rattle.office_tables.specs.Calls.{GoesOnInTurn, GoesOnInside};
-ghost use Rattle.office_tables.specs.Contents.{Does, KeepsFiles, IsContentAdded, IsNewContent, IsContentKept, IsTidied, number_alike};
+ghost use Rattle.office_tables.specs.Contents.{Does, KeepsFiles, IsContentAdded, IsNewContent, IsContentKept, IsTidied, is_intact, number_alike};
 
 use crate::fault::{Result, TableFault};
 use crate::run::{ask, change, number_in};
+use sha2::{Digest, Sha256};
+use sqlite::types::ValueRef;
 use sqlite::{Alter, Row, Transaction, params};
 use std::alloc::Global;
 
-/// The row that shows the bytes of the content of that number, if there is one.
+/// The row that shows the mark and the bytes of the content of that number, if there is one.
 fn rows_of_content<S: Alter>(tx: &mut Transaction<'_, S>, id: i64) -> Result<Vec<Row>>
     ensures inside { GoesOnInside S.Store tx.old.conn tx.new.conn result }
     ensures found { Does S.Store tx.old.conn.now tx.new.conn.now result (λ old new rows.
         (new ≡ old)
-        × (option_map (λ c. c.bytes) (content_numbered id (contents_of old))
-        ≡ option_map (λ row. bytes_at row 0) (slice_get rows.items 0))) }
+        × (option_map {U = List ℕ × List ℕ} (λ c. (c.mark, c.bytes))
+        (content_numbered id (contents_of old))
+        ≡ option_map {U = List ℕ × List ℕ} (λ row. (bytes_at row 0, bytes_at row 1))
+        (slice_get rows.items 0))) }
 {
-    ask(tx, "SELECT bytes FROM content WHERE id = ?1", params![id])
+    ask(
+        tx,
+        "SELECT mark, bytes FROM content WHERE id = ?1",
+        params![id],
+    )
 }
 
 /// Rows that show the numbers of the contents with that mark and these bytes, ascending; the store
@@ -106,17 +115,63 @@ fn rows_of_contents<S: Alter>(tx: &mut Transaction<'_, S>) -> Result<Vec<Row>>
     ask(tx, "SELECT id, size FROM content ORDER BY id", &[])
 }
 
-/// The bytes of the content of that number; `None` where there is no such content.
-pub(crate) fn content_of<S: Alter>(tx: &mut Transaction<'_, S>, id: i64) -> Result<Option<Vec<u8>>>
+/// The bytes in that column of a row.
+fn bytes_in(row: &Row, at: usize) -> Result<&[u8]>
+    ensures shown { IfOk result (λ bytes. bytes.now ≡ bytes_at row.now at) }
+    ensures store { IfErr result (λ fault. fault ≡ TableFault.Store) }
+{
+    match row.get_ref(at)? {
+        ValueRef::Blob(bytes) => Ok(bytes),
+        _ => Err(TableFault::Store),
+    }
+}
+
+/// Whether the mark that a row shows is the SHA-256 of the bytes that it shows.
+fn shows_intact(row: &Row) -> Result<bool>
+    ensures shown { IfOk result (λ intact.
+        intact ≡ bytes_eq (bytes_at row.now 0) (sha256 (bytes_at row.now 1))) }
+    ensures store { IfErr result (λ fault. fault ≡ TableFault.Store) }
+{
+    let mark = bytes_in(row, 0)?;
+    let digest = Sha256::digest(bytes_in(row, 1)?);
+    Ok(mark == digest.as_slice())
+}
+
+/// The bytes of the content that a row shows; where they are checked, their SHA-256 is its mark.
+fn content_shown(row: &Row, checked: bool) -> Result<Vec<u8>>
+    ensures shown { IfOk result (λ content. content.items ≡ bytes_at row.now 1) }
+    ensures intact { IfOk result (λ _.
+        checked ≡ true → bytes_eq (bytes_at row.now 0) (sha256 (bytes_at row.now 1)) ≡ true) }
+    ensures altered { checked ≡ true
+        → bytes_eq (bytes_at row.now 0) (sha256 (bytes_at row.now 1)) ≡ false
+        → result ≡ Err TableFault.Store }
+    ensures failure { IfErr result IsFailure }
+{
+    if checked && !shows_intact(row)? {
+        return Err(TableFault::Store);
+    }
+    Ok(row.get(1)?)
+}
+
+/// The bytes of the content of that number; `None` where there is no such content. Where they are checked,
+/// their SHA-256 is its mark.
+pub(crate) fn content_of<S: Alter>(
+    tx: &mut Transaction<'_, S>,
+    id: i64,
+    checked: bool,
+) -> Result<Option<Vec<u8>>>
     ensures inside { GoesOnInside S.Store tx.old.conn tx.new.conn result }
     ensures found { Does S.Store tx.old.conn.now tx.new.conn.now result (λ old new found.
         (new ≡ old)
         × (option_map (λ content. content.items) found
         ≡ option_map (λ c. c.bytes) (content_numbered id (contents_of old)))) }
+    ensures intact { Does S.Store tx.old.conn.now tx.new.conn.now result (λ old new found.
+        checked ≡ true
+        → IfSome found (λ _. is_intact (content_numbered id (contents_of old)) ≡ true)) }
 {
     let rows = rows_of_content(tx, id)?;
     match rows.first() {
-        Some(row) => Ok(Some(row.get(0)?)),
+        Some(row) => Ok(Some(content_shown(row, checked)?)),
         None => Ok(None),
     }
 }

@@ -3,10 +3,10 @@
 ghost use Rattle.std.specs.Prelude.{◌≡◌, ◌≤ℤ◌, ℕ, ℤ, List, None, Some, false, map, true};
 ghost use Rattle.sqlite.specs.Effect.{Database};
 ghost use Rattle.sqlite_rules.specs.Lists.{Has};
-ghost use Rattle.office_rows.specs.Rows.{AreInOrder, NumbersRise, RuleRow, live_holds};
+ghost use Rattle.office_rows.specs.Rows.{AreInOrder, ContentRow, FileRow, NumbersRise, RuleRow, file_at, live_holds};
 ghost use Rattle.office_rows.specs.Matching.{Attempt, fits_attempt, matching_rule};
 ghost use Rattle.office_tables.specs.Tables.{IsOffice, contents_of, tables_of};
-ghost use Rattle.office_tables.specs.Contents.{AreContents, KeepsOnce};
+ghost use Rattle.office_tables.specs.Contents.{AreContents, KeepsOnce, content_at, is_intact, references_of};
 
 /// In an office the numbers of deposits, those of holds and the places of rules rise from row to row, so none comes twice.
 pub fn rows_in_order()
@@ -23,6 +23,18 @@ pub fn live_holds_in_order()
 pub fn contents_are_those_of_files()
     ensures { (db : Database) → IsOffice db → KeepsOnce db
         → AreContents (map (λ f. f.content) (tables_of db).files) (contents_of db) }
+{}
+
+/// In an office each file has a content, whose bytes are the file's; where contents are kept once, it is intact.
+pub fn files_have_their_contents()
+    ensures there { (db : Database) → IsOffice db → (n : ℤ) (path : List ℕ) (f : FileRow)
+        → file_at n path (tables_of db).files ≡ Some f
+        → (c : ContentRow)
+        × (content_at n path (tables_of db).files (references_of db) (contents_of db) ≡ Some c)
+        × (f.content ≡ c.bytes) }
+    ensures intact { (db : Database) → IsOffice db → KeepsOnce db → (n : ℤ) (path : List ℕ) (f : FileRow)
+        → file_at n path (tables_of db).files ≡ Some f
+        → is_intact (content_at n path (tables_of db).files (references_of db) (contents_of db)) ≡ true }
 {}
 
 /// In an office the rule that `match_rule` answers fits and is one of the rules, and no rule of a lower place fits; where it answers none, no rule fits.

@@ -30,7 +30,9 @@ pub use dues::{
     due_row, due_rows, rows_of_class, set_due, set_holds,
 };
 pub use fault::{Result, TableFault};
-pub use files::{FileRow, drop_files, file_of, files_of, put_file, put_marked};
+pub use files::{
+    FileRow, drop_files, file_of, files_of, intact_file_of, intact_files_of, put_file, put_marked,
+};
 pub use holds::{
     HoldRow, HoldTarget, end_hold, has_release_outside, hold_row, last_hold, live_holds, put_hold,
 };

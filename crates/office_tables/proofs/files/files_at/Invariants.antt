@@ -1,7 +1,10 @@
-use Rattle.std.proofs.Common.{Ok, ◌≡◌, map, take, pos, Some}
+use Rattle.std.proofs.Common.{Ok, ◌≡◌, map, take, pos, Some, true}
+use Rattle.std.specs.List.{list_all}
 use Rattle.office_rows.specs.Rows.{file_at}
 use Rattle.office_tables.specs.Deposits.{shown_path}
 use Rattle.office_tables.specs.Calls.{GoesOnInTurn, Shows}
+use Rattle.office_tables.specs.Contents.{Does, content_at, is_intact, references_of}
+use Rattle.office_tables.specs.Tables.{tables_of, contents_of}
 use Rattle.office_tables.specs.declared.fault.TableFault.{TableFault}
 use Rattle.office_tables.proofs.files.files_at.Given as goal
 
@@ -9,4 +12,5 @@ abbrev pub invariant-loop-row : goal.invariant-loop-row
 invariant-loop-row g l = record {
   inside : GoesOnInTurn {T = Unit {0}} g.S.Store l.fn.tx.conn l.tx.conn (Ok tt);
   found : Shows {E = TableFault} g.S.Store l.fn.tx.conn.now l.tx.conn.now (Ok l.files) (λ tables files. map Some files.items ≡ map (λ row. file_at (pos l.number) (shown_path row) tables.files) (take l.row-index l.rows));
+  intact : Does {E = TableFault} g.S.Store l.fn.tx.conn.now l.tx.conn.now (Ok l.files) (λ old _ files. l.checked ≡ true → list_all (λ f. is_intact (content_at (pos l.number) f.path (tables_of old).files (references_of old) (contents_of old))) files.items ≡ true);
 }

@@ -1,0 +1,24 @@
+use Rattle.std.proofs.Common.{◌≡◌, ℤ, true, Option, Some, slice_get, option_map, pos, rules, sym, ap, subst, ◌∙◌}
+use Rattle.sqlite.specs.Order.{Row}
+use Rattle.sqlite.specs.Effect.{Database}
+use Rattle.sqlite.specs.State.{HasCleanDisk}
+use Rattle.sqlite.specs.Held.{state}
+use Rattle.sql_meaning.specs.Columns.{int_at}
+use Rattle.office_rows.specs.Rows.{content_numbered}
+use Rattle.office_tables.specs.Tables.{IsOffice, contents_of}
+use Rattle.office_tables.specs.Contents.{content_referred, is_intact}
+use Rattle.office_tables.proofs.FileLemmas.{reference_at}
+use Rattle.office_tables.proofs.InTurn.{clean_first}
+use Rattle.office_tables.proofs.files.content_of_file.Goals as goal
+
+pub returns-in-Some-clause-intact : goal.returns-in-Some-clause-intact
+returns-in-Some-clause-intact g c clean office checked =
+    let old = (state g.S.Store c.args.tx.now.conn.now).now in
+    let early = clean_first c.in_ok-content_in-in-Some.ensures.inside.stays clean in
+    let same = (c.in_ok-rows.ensures.found early office).0 in
+    let row : Row = c.in-Some.row.now in
+    let first : slice_get c.in_ok-rows.rows.items 0 ≡ Some row = search rules in
+    let reference : reference_at old (pos c.args.number) c.args.path.now ≡ Some (int_at row 0) = c.in_ok-rows.ensures.reference early office ∙ ap (option_map (λ row. int_at row 0)) first in
+    let intact = c.in_ok-content_in-in-Some.ensures.intact clean (subst IsOffice (sym same) office) checked in
+    ap (λ (id : Option ℤ). is_intact (content_referred id (contents_of old))) reference
+    ∙ subst (λ (db : Database). is_intact (content_numbered (int_at row 0) (contents_of db)) ≡ true) same intact
