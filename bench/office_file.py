@@ -48,7 +48,7 @@ PUT_HOLD = (
 )
 END_HOLD = "UPDATE hold_4 SET released = ?2 WHERE number = ?1"
 CONTENT_ID = "SELECT content FROM file WHERE deposit = ?1 AND path = ?2"
-CONTENT_OF = "SELECT bytes FROM content WHERE id = ?1"
+CONTENT_OF = "SELECT mark, bytes FROM content WHERE id = ?1"
 
 
 @functools.cache
@@ -113,7 +113,16 @@ def put_file(conn, number, path, content):
 def file_of(conn, number, path):
     """The content of a file."""
     found = conn.execute(CONTENT_ID, (number, path)).fetchone()
-    return conn.execute(CONTENT_OF, found).fetchone()[0]
+    return conn.execute(CONTENT_OF, found).fetchone()[1]
+
+
+def intact_file_of(conn, number, path):
+    """The content of a file, whose SHA-256 is its mark."""
+    found = conn.execute(CONTENT_ID, (number, path)).fetchone()
+    mark, content = conn.execute(CONTENT_OF, found).fetchone()
+    if hashlib.sha256(content).digest() != mark:
+        raise ValueError(f"{path} of deposit {number} was altered")
+    return content
 
 
 def put_row(conn, number):

@@ -3,7 +3,7 @@ import sys
 import time
 
 from office_file import DUE, FILES, PUT_HOLD, SET_DUE, SET_HOLDS
-from office_file import due_day, file_of, opened, put_files, put_row
+from office_file import due_day, intact_file_of, opened, put_files, put_row
 
 DEPOSIT = "SELECT number, accession, collection, class, closed, deposited, files, bytes, gone FROM deposit"
 BESIDE = DEPOSIT.replace("gone", "gone, due, holds") + " ORDER BY number"
@@ -123,7 +123,7 @@ class Statements:
     def bag(self, number):
         self.kept_row(number, "download")
         for (path,) in self.rows("SELECT path FROM file WHERE deposit = ?1 ORDER BY path", number):
-            file_of(self.conn, number, path)
+            intact_file_of(self.conn, number, path)
 
     def list(self, _number):
         role = self.role()

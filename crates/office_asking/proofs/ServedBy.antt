@@ -1,5 +1,5 @@
 -- Requests that are served by the rows, and what is written one after another.
-use Rattle.std.proofs.Common.{◌≡◌, Option, Some, None, refl, sym, ap, subst, subst₂, ◌∙◌}
+use Rattle.std.proofs.Common.{◌≡◌, true, Option, Some, None, refl, sym, ap, subst, subst₂, ◌∙◌}
 use Rattle.std.specs.Prelude.{Result, Ok, Err, OnOk}
 use Rattle.std.specs.Borrow.{MutBor}
 use Rattle.std.proofs.lemmas.Result.{on_ok_weaker}
@@ -7,7 +7,7 @@ use Rattle.sqlite.specs.Effect.{Database}
 use Rattle.sqlite.specs.Store.{Ghosts}
 use Rattle.sqlite.specs.State.{HasCleanDisk}
 use Rattle.sqlite.specs.Held.{Held, state}
-use Rattle.office_core.specs.FirstOf.{◌>>=◌}
+use Rattle.office_core.specs.FirstOf.{◌>>=◌, answer_if}
 use Rattle.office_core.specs.declared.answer.Answer.{Answer}
 use Rattle.office_core.specs.declared.answer.Answer.TheVariants.{Refused}
 use Rattle.office_core.specs.declared.refusal.Refusal.{Refusal}
@@ -22,9 +22,9 @@ use Rattle.office_by_rows.specs.Asking.{Visit}
 use Rattle.office_by_rows.specs.Refusals.{refusal}
 use Rattle.office_by_rows.specs.Answers.{allowed_answer}
 use Rattle.office_by_rows.specs.Changes.{allowed_rows}
-use Rattle.office_by_rows.specs.Serving.{serve_unless}
-use Rattle.office_asking.specs.Contents.{Contents, contents_after, contents_in}
-use Rattle.office_asking.specs.Serving.{Changes, IsChangedBy, IsRewrittenBy, IsServedBy, Rewrites}
+use Rattle.office_by_rows.specs.Serving.{serve, serve_unless}
+use Rattle.office_asking.specs.Contents.{Contents, Rows, contents_after, contents_in, rows_of, serves_intact}
+use Rattle.office_asking.specs.Serving.{Changes, IsChangedBy, IsRewrittenBy, IsServedBy, Rewrites, rows_after, serve_rows}
 
 -- ---- what is written
 
@@ -108,34 +108,39 @@ module _ {S A B : Type 0} {g : Ghosts S} {old mid new : MutBor (Held S)} {x : A}
 
 -- ---- a request
 
+-- the rows that a request comes to, where its answer serves only what is intact
+served_rows : (r : Rows) (visit : Visit) (request : Request) (given : Answer) (next : Tables) → serve r.tables visit request ≡ Some (given, next) → serves_intact r request given ≡ true
+    → serve_rows r visit request ≡ Some (given, rows_after r request given next)
+served_rows r visit request given next is intact =
+    ap (λ (o : Option (Answer × Tables)). o >>= λ served. answer_if (serves_intact r request served.0) (served.0, rows_after r request served.0 served.1)) is
+    ∙ ap (λ b. answer_if b (given, rows_after r request given next)) intact
+
 module _ (visit : Visit) (request : Request) where
   -- it is refused, and no row changes
   pub refused_by : {old new : Database} (why : Refusal) → IsOffice old → new ≡ old → refusal (tables_of old) visit request ≡ Some (Some why) → IsServedBy visit request old new (Refused why)
   refused_by {old = old} why office same refused = record {
-    rows = tables_of old;
-    is = ap (λ o. o >>= λ refused. serve_unless refused (tables_of old) visit request) refused;
-    becomes = record { office = subst IsOffice (sym same) office; are = ap tables_of same };
-    contents = ap contents_in same;
+    rows = rows_of old;
+    is = served_rows (rows_of old) visit request (Refused why) (tables_of old) (ap (λ o. o >>= λ refused. serve_unless refused (tables_of old) visit request) refused) refl;
+    leaves = record { office = subst IsOffice (sym same) office; are = ap rows_of same };
     once = subst KeepsOnce (sym same);
   }
 
-  -- it is allowed, after what was read rows and contents change, and this is answered
-  pub allowed_by : {old mid new : Database} (given : Answer) → mid ≡ old → refusal (tables_of old) visit request ≡ Some None → allowed_answer (tables_of old) visit request ≡ Some given
+  -- it is allowed, after what was read rows and contents change, and this is answered, which serves only what is intact
+  pub allowed_by : {old mid new : Database} (given : Answer) → serves_intact (rows_of old) request given ≡ true → mid ≡ old → refusal (tables_of old) visit request ≡ Some None → allowed_answer (tables_of old) visit request ≡ Some given
       → IsRewrittenBy (λ t. allowed_rows t visit request) (λ t. contents_after t request given) mid new → IsServedBy visit request old new given
-  allowed_by {old = old} given same refused answered changed =
+  allowed_by {old = old} given intact same refused answered changed =
       let t = tables_of old in
       let it = rewritten_after (λ t. allowed_rows t visit request) (λ t. contents_after t request given) same changed in
       record {
-        rows = it.rows;
-        is = ap (λ o. o >>= λ refused. serve_unless refused t visit request) refused ∙ (λ i. answered i >>= λ given. it.is i >>= λ next. Some (given, next));
-        becomes = it.becomes;
-        contents = it.contents;
+        rows = rows_after (rows_of old) request given it.rows;
+        is = served_rows (rows_of old) visit request given it.rows (ap (λ o. o >>= λ refused. serve_unless refused t visit request) refused ∙ (λ i. answered i >>= λ given. it.is i >>= λ next. Some (given, next))) intact;
+        leaves = record { office = it.becomes.office; are = λ i. record { tables = it.becomes.are i; contents = it.contents i } };
         once = it.once;
       }
 
   -- it is allowed and changes nothing, and this is answered
-  pub read_by : {old new : Database} (given : Answer) → ((k : Contents) → contents_after (tables_of old) request given k ≡ k) → IsOffice old → new ≡ old → refusal (tables_of old) visit request ≡ Some None → allowed_answer (tables_of old) visit request ≡ Some given
+  pub read_by : {old new : Database} (given : Answer) → serves_intact (rows_of old) request given ≡ true → ((k : Contents) → contents_after (tables_of old) request given k ≡ k) → IsOffice old → new ≡ old → refusal (tables_of old) visit request ≡ Some None → allowed_answer (tables_of old) visit request ≡ Some given
       → allowed_rows (tables_of old) visit request ≡ Some (tables_of old) → IsServedBy visit request old new given
-  read_by {old = old} given leaves office same refused answered none =
+  read_by {old = old} given intact leaves office same refused answered none =
       let reads : Tables → Option Tables = λ t. allowed_rows t visit request in
-      allowed_by given refl refused answered (rewritten_as reads reads (λ t k. k) (λ t. contents_after t request given) refl (sym (leaves (contents_in old))) (unchanged_by reads office same none))
+      allowed_by given intact refl refused answered (rewritten_as reads reads (λ t k. k) (λ t. contents_after t request given) refl (sym (leaves (contents_in old))) (unchanged_by reads office same none))

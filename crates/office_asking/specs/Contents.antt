@@ -1,16 +1,18 @@
--- What a request makes of the contents that stand beside the tables, and of which of them each file has.
-use Rattle.std.specs.Prelude.{ℕ, ℤ, pos, List, [], ◌∷◌, ◌++◌, Result, Ok, Err}
+-- The contents that stand beside the tables, and which of them each file has: what a request makes of them, and which of them it serves.
+use Rattle.std.specs.Prelude.{◌≡◌, ℕ, ℤ, pos, Bool, true, List, [], ◌∷◌, ◌++◌, Result, Ok, Err}
+use Rattle.std.specs.List.{list_all}
 use Rattle.sha2.specs.Sha256.{sha256}
 use Rattle.sqlite.specs.Effect.{Database}
 use Rattle.bag_text.specs.TransferForm.{File}
 use Rattle.office_core.specs.declared.answer.Answer.{Answer}
-use Rattle.office_core.specs.declared.answer.Answer.TheVariants.{Deposited, Destroyed}
+use Rattle.office_core.specs.declared.answer.Answer.TheVariants.{Bag, Deposited, Destroyed, File as FileAnswer}
 use Rattle.office_core.specs.declared.request.Request.{Request}
-use Rattle.office_core.specs.declared.request.Request.TheVariants.{Deposit}
+use Rattle.office_core.specs.declared.request.Request.TheVariants.{Deposit, DownloadBag, DownloadFile}
 use Rattle.office_rows.specs.Rows.{ContentRow, FileRow, Tables, with_content}
-use Rattle.office_tables.specs.Contents.{content_number, contents_without, references_of, references_without}
-use Rattle.office_tables.specs.Tables.{contents_of}
+use Rattle.office_tables.specs.Contents.{content_at, content_number, contents_without, is_intact, references_of, references_without}
+use Rattle.office_tables.specs.Tables.{IsOffice, contents_of, tables_of}
 use Rattle.office_history.specs.Bags.{bag_of}
+use Rattle.office_by_rows.specs.Answers.{files_by_path}
 
 -- each content that is kept, and the number of the content of each file, in the order of the files
 pub record Contents : Type 0 where
@@ -19,6 +21,21 @@ pub record Contents : Type 0 where
 
 abbrev pub contents_in : Database → Contents
 contents_in db = record { rows = contents_of db; references = references_of db }
+
+-- the rows of the tables, and beside them the contents
+pub record Rows : Type 0 where
+  pub tables : Tables
+  pub contents : Contents
+
+abbrev pub rows_of : Database → Rows
+rows_of db = record { tables = tables_of db; contents = contents_in db }
+
+-- the database is an office's, and these are its rows
+pub record IsOfficeWith (r : Rows) (db : Database) : Type 0 where
+  pub office : IsOffice db
+  pub are : rows_of db ≡ r
+
+-- ---- what a request makes of them
 
 -- a file comes at the end: its content is the first that has its bytes under their SHA-256, or comes at the end too
 abbrev pub with_content_of : File → Contents → Contents
@@ -53,3 +70,27 @@ abbrev pub contents_after : Tables → Request → Answer → Contents → Conte
 contents_after t request (Deposited n) k = with_contents_of (files_brought request) k
 contents_after t request (Destroyed n day) k = without_contents_of (pos n) t.files k
 contents_after t request given k = k
+
+-- ---- which of them a request serves
+
+-- what the file of the deposit at that path has is intact
+abbrev pub is_intact_at : ℕ → List ℕ → Rows → Bool
+is_intact_at n path r = is_intact (content_at (pos n) path r.tables.files r.contents.references r.contents.rows)
+
+-- so is what each file of the deposit has
+abbrev pub are_intact_of : ℕ → Rows → Bool
+are_intact_of n r = list_all (λ (f : FileRow). is_intact_at n f.path r) (files_by_path (pos n) r.tables)
+
+abbrev pub serves_intact_file : Rows → Request → Bool
+serves_intact_file r (DownloadFile n path) = is_intact_at n path.now r
+serves_intact_file r request = true
+
+abbrev pub serves_intact_bag : Rows → Request → Bool
+serves_intact_bag r (DownloadBag n) = are_intact_of n r
+serves_intact_bag r request = true
+
+-- the contents are intact that are served by this answer to the request
+abbrev pub serves_intact : Rows → Request → Answer → Bool
+serves_intact r request (FileAnswer bytes) = serves_intact_file r request
+serves_intact r request (Bag bytes) = serves_intact_bag r request
+serves_intact r request given = true

@@ -21,13 +21,14 @@ use Rattle.office_history.proofs.Accepted.{grown_by_none}
 use Rattle.office_asking.specs.Pictures.{Pictures}
 use Rattle.office_by_rows.specs.Asking.{Visit}
 use Rattle.office_asking.specs.Asking.{visit_on}
+use Rattle.office_asking.specs.Contents.{IsOfficeWith, Rows}
 use Rattle.office_asking.specs.Serving.{IsServedBy, Serves}
-use Rattle.office_engine.specs.ByRows.{IsOfficeWith, Rows, RowsMake}
+use Rattle.office_engine.specs.ByRows.{RowsMake}
 use Rattle.office_engine.specs.Deciding.{Decides, Finds, IsServed}
 use Rattle.office_engine.specs.Keeping.{CommitsRows, CommitsTo, HasRows, IsKeptBy, IsLeftOf, IsLegalAndKept, IsToldByRows, IsTurn, KeepsTables, LeavesAlso, LeavesEither, LeavesRows, StaysShut, after_item, is_accepted}
 use Rattle.office_engine.proofs.Accepted.{no_change}
 use Rattle.office_engine.proofs.RowsAccepted.{rows_stay}
-use Rattle.office_engine.proofs.ServedByRows.{has_made, rows_made, serves_rows, tables_told}
+use Rattle.office_engine.proofs.ServedByRows.{serves_rows}
 
 -- while the store is open, a crash leaves what is committed
 abbrev pub IsSettled : State → Type 0
@@ -171,7 +172,7 @@ commits_rows g first last item (Ok given) it clean db is =
           let had = (has was_open).0 in
           let visit : Visit = visit_on item.0 item.1.now in
           let served = it.serves clean had.office in
-          (given, rows_made r visit item.2 given had served, serves_rows r visit item.2 given had served, ((state g last).now, has_made r visit item.2 given had served, is)),
+          (given, served.rows, serves_rows r visit item.2 given had served, ((state g last).now, served.leaves, is)),
     )
 commits_rows g first last item (Err e) it clean db none = absurd none
 
@@ -223,18 +224,18 @@ module _ {S : Type 0} {g : Ghosts S} {first last : Held S} {item : Item} {decide
       served_by = in_transaction had.office
 
       abbrev made_rows : Rows
-      made_rows = rows_made r (visit_on item.0 item.1.now) item.2 given had served_by
+      made_rows = served_by.rows
 
       makes_rows : RowsMake r item given made_rows
       makes_rows = serves_rows r (visit_on item.0 item.1.now) item.2 given had served_by
 
       is_made : IsOfficeWith made_rows (state g last).now
-      is_made = has_made r (visit_on item.0 item.1.now) item.2 given had served_by
+      is_made = served_by.leaves
 
       -- where the answer tells of no change, they are those that were there
       makes_none : is_accepted given ≡ false → RowsMake r item given r
       makes_none none =
-          makes_rows ∙ ap (λ (rows : Rows). Some (given, rows)) (rows_stay given none r served_by.rows (visit_on item.0 item.1.now) item.2 (tables_told r (visit_on item.0 item.1.now) item.2 given had served_by))
+          makes_rows ∙ ap (λ (rows : Rows). Some (given, rows)) (rows_stay given none r served_by.rows (visit_on item.0 item.1.now) item.2 makes_rows)
 
     module _ (h : History) (legal : IsLegal h) (keeps : IsKeptBy h (state g first)) where
       served : IsServed h item given (state g last).now

@@ -9,3 +9,5 @@ pub mod RowsAccepted
 pub mod ServedByRows
 pub mod SameOnce
 pub mod StockTold
+pub mod OtherBytes
+pub mod ServedWhole

@@ -13,15 +13,16 @@ use Rattle.office_by_rows.specs.Asking.{Visit}
 use Rattle.office_by_rows.specs.Changes.{allowed_rows}
 use Rattle.office_by_rows.specs.Refusals.{highest_deposit, highest_hold, number_after, refusal}
 use Rattle.office_by_rows.specs.Serving.{serve, serve_unless}
-use Rattle.office_asking.specs.Contents.{Contents, contents_after}
-use Rattle.office_engine.specs.ByRows.{Rows, rows_after}
+use Rattle.office_asking.specs.Contents.{Contents, Rows, contents_after}
+use Rattle.office_asking.specs.Serving.{serve_rows}
 use Rattle.office_engine.specs.Keeping.{is_accepted}
+use Rattle.office_engine.proofs.ServedByRows.{served_parts}
 
 -- two, where both come to something
-abbrev both : {A B : Type 0} → Option A → Option B → Option (A × B)
+abbrev pub both : {A B : Type 0} → Option A → Option B → Option (A × B)
 both one other = one >>= λ x. other >>= λ y. Some (x, y)
 
-both_told : {A B : Type 0} (one : Option A) (other : Option B) (a : A) (b : B) → both one other ≡ Some (a, b) → (one ≡ Some a) × (other ≡ Some b)
+pub both_told : {A B : Type 0} (one : Option A) (other : Option B) (a : A) (b : B) → both one other ≡ Some (a, b) → (one ≡ Some a) × (other ≡ Some b)
 both_told None other a b e = absurd cc
 both_told (Some x) None a b e = absurd cc
 both_told {A = A} {B = B} (Some x) (Some y) a b e = let same = same_Some _ _ e in (ap (λ (p : A × B). Some p.0) same, ap (λ (p : A × B). Some p.1) same)
@@ -64,5 +65,7 @@ module _ (given : Answer) (none : is_accepted given ≡ false) where
       by (Some (Some why)) e = ap (λ (p : Answer × Tables). p.1) (sym (same_Some _ _ e))
       by (Some None) e = let told = both_told (allowed_answer t visit request) (allowed_rows t visit request) given next e in same_Some _ _ (sym told.1 ∙ none_changed t visit request told.0)
 
-  pub rows_stay : (r : Rows) (next : Tables) (visit : Visit) (request : Request) → serve r.tables visit request ≡ Some (given, next) → rows_after r request given next ≡ r
-  rows_stay r next visit request is = λ i. record { tables = tables_stay r.tables next visit request is i; contents = contents_stay r.tables request given none r.contents i }
+  pub rows_stay : (r next : Rows) (visit : Visit) (request : Request) → serve_rows r visit request ≡ Some (given, next) → next ≡ r
+  rows_stay r next visit request is =
+      let parts = served_parts r visit request given next is in
+      parts.2 ∙ (λ i. record { tables = tables_stay r.tables next.tables visit request parts.0 i; contents = contents_stay r.tables request given none r.contents i })

@@ -1,5 +1,5 @@
 -- What is made and told of the rows is made and told of the legal history that they picture.
-use Rattle.std.proofs.Common.{◌≡◌, true, Option, Some, sym, ap, subst, ◌∙◌}
+use Rattle.std.proofs.Common.{◌≡◌, Bool, true, false, Option, Some, None, refl, sym, ap, subst, ◌∙◌}
 use Rattle.std.specs.Prelude.{Result, OnOk}
 use Rattle.std.proofs.lemmas.Option.{same_Some}
 use Rattle.std.proofs.lemmas.Result.{IfOk-weaker, on_ok_weaker}
@@ -7,7 +7,7 @@ use Rattle.sqlite.specs.Effect.{Database}
 use Rattle.sqlite.specs.Store.{Ghosts}
 use Rattle.sqlite.specs.State.{HasCleanDisk}
 use Rattle.sqlite.specs.Held.{Held, state}
-use Rattle.office_core.specs.FirstOf.{◌>>=◌}
+use Rattle.office_core.specs.FirstOf.{◌>>=◌, answer_if}
 use Rattle.office_core.specs.Policies.{PolicyValue}
 use Rattle.office_core.specs.declared.answer.Answer.{Answer}
 use Rattle.office_core.specs.declared.request.Request.{Request}
@@ -22,10 +22,9 @@ use Rattle.office_by_rows.specs.Asking.{Visit}
 use Rattle.office_by_rows.specs.Changes.{installed}
 use Rattle.office_by_rows.specs.Serving.{serve}
 use Rattle.office_asking.specs.Asking.{visit_on}
-use Rattle.office_asking.specs.Contents.{contents_after, contents_in}
+use Rattle.office_asking.specs.Contents.{IsOfficeWith, Rows, rows_of, serves_intact}
 use Rattle.office_asking.specs.Pictures.{Pictures}
-use Rattle.office_asking.specs.Serving.{Changes, IsServedBy, Serves}
-use Rattle.office_engine.specs.ByRows.{IsOfficeWith, Rows, rows_after, serve_rows}
+use Rattle.office_asking.specs.Serving.{Changes, IsServedBy, Serves, rows_after, serve_rows}
 use Rattle.office_engine.specs.Deciding.{Decides, Finds}
 use Rattle.office_engine.specs.Keeping.{after_policy}
 
@@ -37,33 +36,49 @@ AreExact =
     (h : History) (visit : Visit) (request : Request) → IsLegal h
     → serve (picture this_version h) visit request ≡ Some (answer h visit.day visit.caller request, picture this_version (after h visit.day visit.caller request))
 
+-- what it says that a request comes to this answer
+module _ (r : Rows) (visit : Visit) (request : Request) (given : Answer) (next : Rows) where
+  abbrev Parts : Option (Answer × Tables) → Type 0
+  Parts served = (served ≡ Some (given, next.tables)) × (serves_intact r request given ≡ true) × (next ≡ rows_after r request given next.tables)
+
+  pub served_parts : serve_rows r visit request ≡ Some (given, next) → Parts (serve r.tables visit request)
+  served_parts = by (serve r.tables visit request)
+    where
+      told : (a : Answer) (t : Tables) (b : Bool) → serves_intact r request a ≡ b → answer_if {A = Answer × Rows} b (a, rows_after r request a t) ≡ Some (given, next) → Parts (Some (a, t))
+      told a t false is e = absurd cc
+      told a t true is e =
+          let made : Answer × Rows = (a, rows_after r request a t) in
+          let same : made ≡ (given, next) = same_Some _ _ e in
+          let answer_is : a ≡ given = ap (λ (p : Answer × Rows). p.0) same in
+          let rows_are : rows_after r request a t ≡ next = ap (λ (p : Answer × Rows). p.1) same in (
+            (λ i. Some (answer_is i, (rows_are i).tables)),
+            sym (ap (serves_intact r request) answer_is) ∙ is,
+            sym rows_are ∙ (λ i. rows_after r request (answer_is i) (rows_are i).tables),
+          )
+
+      by : (o : Option (Answer × Tables)) → (o >>= λ served. answer_if {A = Answer × Rows} (serves_intact r request served.0) (served.0, rows_after r request served.0 served.1)) ≡ Some (given, next) → Parts o
+      by None e = absurd cc
+      by (Some served) e = told served.0 served.1 (serves_intact r request served.0) refl e
+
 pub served_decides : {S : Type 0} (g : Ghosts S) (old new : Held S) (result : Result Answer TableFault) → AreExact → (item : Item) → Serves g old new result (visit_on item.0 item.1.now) item.2 → Decides g old new result item
 served_decides g old new result exact item serves clean h legal pictured =
     let visit : Visit = visit_on item.0 item.1.now in
     IfOk-weaker result _ _ (λ given is.
-    let same = same_Some _ _ (sym is.is ∙ ap (λ t. serve t visit item.2) pictured.are ∙ exact h visit item.2 legal) in
+    let told = (served_parts (rows_of (state g old).now) visit item.2 given is.rows is.is).0 in
+    let same = same_Some _ _ (sym told ∙ ap (λ t. serve t visit item.2) pictured.are ∙ exact h visit item.2 legal) in
     record {
       answer = ap (λ (p : Answer × Tables). p.0) same;
-      after = record { office = is.becomes.office; are = is.becomes.are ∙ ap (λ (p : Answer × Tables). p.1) same; once = is.once pictured.once };
+      after = record {
+        office = is.leaves.office;
+        are = ap (λ (r : Rows). r.tables) is.leaves.are ∙ ap (λ (p : Answer × Tables). p.1) same;
+        once = is.once pictured.once;
+      };
     })
     (serves clean pictured.office)
 
--- the rows with the contents that it makes of these
-module _ {old new : Database} (r : Rows) (visit : Visit) (request : Request) (given : Answer) (had : IsOfficeWith r old) (served : IsServedBy visit request old new given) where
-  pub tables_told : serve r.tables visit request ≡ Some (given, served.rows)
-  tables_told = ap (λ (x : Rows). serve x.tables visit request) (sym had.are) ∙ served.is
-
-  abbrev pub rows_made : Rows
-  rows_made = rows_after r request given served.rows
-
-  pub serves_rows : serve_rows r visit request ≡ Some (given, rows_made)
-  serves_rows = ap (λ (o : Option (Answer × Tables)). o >>= λ told. Some (told.0, rows_after r request told.0 told.1)) tables_told
-
-  contents_made : contents_in new ≡ contents_after r.tables request given r.contents
-  contents_made = served.contents ∙ ap (λ (x : Rows). contents_after x.tables request given x.contents) had.are
-
-  pub has_made : IsOfficeWith rows_made new
-  has_made = record { office = served.becomes.office; are = λ i. record { tables = served.becomes.are i; contents = contents_made i } }
+-- by whichever rows it had
+pub serves_rows : {old new : Database} (r : Rows) (visit : Visit) (request : Request) (given : Answer) → IsOfficeWith r old → (served : IsServedBy visit request old new given) → serve_rows r visit request ≡ Some (given, served.rows)
+serves_rows r visit request given had served = ap (λ r. serve_rows r visit request) (sym had.are) ∙ served.is
 
 -- ---- an install
 

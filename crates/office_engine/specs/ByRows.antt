@@ -1,45 +1,16 @@
--- What a request does to the rows of an office and to the contents that stand beside them, whichever they are.
-use Rattle.std.specs.Prelude.{◌≡◌, ◌⊎◌, List, [], ◌∷◌, Option, Some}
-use Rattle.sqlite.specs.Effect.{Database}
-use Rattle.office_core.specs.FirstOf.{◌>>=◌}
+-- What requests do to the rows of an office, and to the contents that stand beside them, whichever they are.
+use Rattle.std.specs.Prelude.{◌≡◌, ◌⊎◌, List, [], ◌∷◌, Some}
 use Rattle.office_core.specs.declared.answer.Answer.{Answer}
 use Rattle.office_core.specs.declared.request.Request.{Request}
-use Rattle.office_rows.specs.Rows.{Tables}
-use Rattle.office_tables.specs.Tables.{IsOffice, tables_of}
 use Rattle.office_history.specs.Runs.{IsFailure, Item}
 use Rattle.office_by_rows.specs.Asking.{Visit}
-use Rattle.office_by_rows.specs.Serving.{serve}
 use Rattle.office_asking.specs.Asking.{visit_on}
-use Rattle.office_asking.specs.Contents.{Contents, contents_after, contents_in}
+use Rattle.office_asking.specs.Contents.{Rows}
+use Rattle.office_asking.specs.Serving.{serve_rows}
 
 -- the rows tell this answer to the request of that caller on that day
-abbrev pub RowsTell : Tables → Visit → Request → Answer → Type 0
-RowsTell t visit request given = (next : Tables) × (serve t visit request ≡ Some (given, next))
-
--- ---- with the contents
-
--- the rows of the tables, and the contents of the files with which of them each file has
-pub record Rows : Type 0 where
-  pub tables : Tables
-  pub contents : Contents
-
-abbrev pub rows_of : Database → Rows
-rows_of db = record { tables = tables_of db; contents = contents_in db }
-
--- the database is an office's, and these are its rows
-pub record IsOfficeWith (r : Rows) (db : Database) : Type 0 where
-  pub office : IsOffice db
-  pub are : rows_of db ≡ r
-
--- after a request that was answered so and left these tables
-abbrev pub rows_after : Rows → Request → Answer → Tables → Rows
-rows_after r request given next = record { tables = next; contents = contents_after r.tables request given r.contents }
-
--- what a request comes to: what is answered, and which rows are left
-abbrev pub serve_rows : Rows → Visit → Request → Option (Answer × Rows)
-serve_rows r visit request = do
-  served ← serve r.tables visit request
-  Some (served.0, rows_after r request served.0 served.1)
+abbrev pub RowsTell : Rows → Visit → Request → Answer → Type 0
+RowsTell r visit request given = (next : Rows) × (serve_rows r visit request ≡ Some (given, next))
 
 -- after this answer the item leaves these rows
 abbrev pub RowsMake : Rows → Item → Answer → Rows → Type 0

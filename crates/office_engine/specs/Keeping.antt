@@ -22,7 +22,8 @@ use Rattle.office_by_rows.specs.Answers as by_rows
 use Rattle.office_by_rows.specs.Stock.{stock_by}
 use Rattle.office_asking.specs.Asking.{visit_on}
 use Rattle.office_asking.specs.Pictures.{PicturesAt}
-use Rattle.office_engine.specs.ByRows.{IsOfficeWith, Rows, RowsMake, RowsRun, RowsStep, RowsTell}
+use Rattle.office_asking.specs.Contents.{IsOfficeWith, Rows, rows_of}
+use Rattle.office_engine.specs.ByRows.{RowsMake, RowsRun, RowsStep, RowsTell}
 
 -- ---- a call
 
@@ -112,9 +113,9 @@ abbrev pub LeavesInstalled : {T E : Type 0} → State → State → Result T E �
 LeavesInstalled old new result = (made : Trees) × LeavesAlso old new made × OnOk result (made ≡ new.now.trees)
 
 -- whatever rows the tables of an office held, an answer that is no failure is the one that they told: an audit is the report on the
--- files that stood there, and no answer rests on a row that tells nothing
+-- files that stood there, no answer rests on a row that tells nothing, and no bytes are served but under their SHA-256
 abbrev pub IsToldByRows : State → Item → Answer → Type 0
-IsToldByRows old item given = (IsFailure given → ⊥) → IsOffice old.now → RowsTell (tables_of old.now) (visit_on item.0 item.1.now) item.2 given
+IsToldByRows old item given = (IsFailure given → ⊥) → IsOffice old.now → RowsTell (rows_of old.now) (visit_on item.0 item.1.now) item.2 given
 
 -- once a fault has shut the store, the answer is E11 or E12, and the store stays shut
 abbrev pub StaysShut : State → State → Answer → Type 0

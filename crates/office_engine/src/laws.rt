@@ -4,13 +4,16 @@ ghost use Rattle.std.specs.Prelude.{◌≡◌, ◌↔◌, ◌++◌, ℕ, IsTrue,
 ghost use Rattle.std.specs.List.{AllByRecursion};
 ghost use Rattle.std.specs.List.Sorted.{IsPermutation};
 ghost use Rattle.jiff.specs.Types.{Date};
+ghost use denote.Ref.{Bor};
 ghost use Rattle.sqlite.specs.Effect.{Database};
 ghost use Rattle.sqlite.specs.Held.{Held, state};
 ghost use Rattle.sqlite.specs.Tree.{Trees};
 ghost use Rattle.office_core.specs.declared.answer.Answer.{Answer};
+ghost use Rattle.office_core.specs.declared.answer.Answer.TheVariants as answers;
 ghost use Rattle.office_core.specs.declared.request.Request.{Request};
+ghost use Rattle.office_core.specs.declared.request.Request.TheVariants.{DownloadBag, DownloadFile};
 ghost use Rattle.office_rows.specs.Rows.{Tables, empty_office, this_version};
-ghost use Rattle.office_tables.specs.Tables.{Becomes, contents_of, tables_of};
+ghost use Rattle.office_tables.specs.Tables.{Becomes, IsOffice, contents_of, tables_of};
 ghost use Rattle.office_tables.specs.Contents.{IsMarked, KeepsOnce};
 ghost use Rattle.office_tables.specs.declared.version.TableVersion.{TableVersion};
 ghost use Rattle.office_history.specs.Histories.{History};
@@ -22,9 +25,11 @@ ghost use Rattle.office_history.specs.Runs.{IsFailure, IsLater, IsLegal, Item, R
 ghost use Rattle.office_by_rows.specs.Answers.{due_list};
 ghost use Rattle.office_by_rows.specs.Asking.{Visit};
 ghost use Rattle.office_by_rows.specs.Stock.{stock_by};
+ghost use Rattle.office_asking.specs.Contents.{Rows, rows_of};
 ghost use Rattle.office_asking.specs.Pictures.{Pictures};
 ghost use Rattle.office_engine.specs.ByRows.{RowsTell};
 ghost use Rattle.office_engine.specs.Keeping.{IsFoundAfter, IsKeptAt, IsKeptBy, IsLeftAt};
+ghost use Rattle.office_engine.specs.OtherBytes.{AreUnderDigests, DiffersInBytes, HasDigestAt, HasDigestsOf, IsUnderDigest};
 ghost use Rattle.office_engine.specs.Upgrading.{IsLeftOfUpgrade, LeavesAt, StoppedInTurn, TakesUp};
 
 pub use office_history::laws::{
@@ -40,9 +45,11 @@ pub use office_history::laws::{
     what_may_be_destroyed_is_on_the_due_list,
 };
 pub use office_refines::laws::{
-    alike_rows_are_served_alike, no_legal_office_is_taken_for_an_altered_one, requests_are_exact,
+    alike_rows_are_served_alike, due_lists_are_exact, installs_are_exact,
+    no_legal_office_is_taken_for_an_altered_one, requests_are_exact,
 };
-use office_tables::laws::contents_are_those_of_files;
+use office_refines::laws::{files_are_exact, refusals_are_exact};
+use office_tables::laws::{contents_are_those_of_files, files_have_their_contents};
 use sqlite::Alter;
 
 /// What `create` of the tables leaves pictures the history of a new office with those limits, and
@@ -81,13 +88,57 @@ pub fn tables_tell_the_answer()
 /// Whatever rows an office has, they tell at most one answer to a request, one list of what has
 /// fallen due, and one stock: what is promised of the rows leaves a call no choice but to fail.
 pub fn the_rows_tell_one_answer()
-    ensures answer { (t : Tables) (visit : Visit) (request : Request) (a b : Answer)
-        → RowsTell t visit request a → RowsTell t visit request b → a ≡ b }
+    ensures answer { (r : Rows) (visit : Visit) (request : Request) (a b : Answer)
+        → RowsTell r visit request a → RowsTell r visit request b → a ≡ b }
     ensures due { (t : Tables) (visit : Visit) (a b : List ℕ)
         → due_list t visit ≡ Some a → due_list t visit ≡ Some b → a ≡ b }
     ensures stock { (db : Database) (a b : Stock)
         → stock_by (contents_of db) ≡ Some a → stock_by (contents_of db) ≡ Some b → a ≡ b }
 {}
+
+/// A legal office takes none of its own contents for an altered one: its rows and contents tell the answer of the
+/// history to each request.
+pub fn no_legal_content_is_taken_for_an_altered_one()
+    ensures { (db : Database) (h : History) (visit : Visit) (request : Request)
+        → IsLegal h → Pictures h db
+        → RowsTell (rows_of db) visit request (answer h visit.day visit.caller request) }
+{
+    requests_are_exact();
+    files_have_their_contents();
+}
+
+/// Whatever rows and contents an office has, the bytes of each file that it serves are those of the file's content row,
+/// whose mark is their SHA-256.
+pub fn bytes_are_served_under_their_digest()
+    ensures file { (db : Database) (visit : Visit) (n : ℕ) (path : Bor (List ℕ)) (bytes : List ℕ)
+        → IsOffice db
+        → RowsTell (rows_of db) visit (DownloadFile n path) (answers.File bytes)
+        → IsUnderDigest db n path.now bytes }
+    ensures bag { (db : Database) (visit : Visit) (n : ℕ) (bytes : List ℕ)
+        → IsOffice db
+        → RowsTell (rows_of db) visit (DownloadBag n) (answers.Bag bytes)
+        → AreUnderDigests db n bytes }
+{
+    files_have_their_contents();
+}
+
+/// Where bytes of contents are not those that were deposited, and all else is as it was, an office serves none of
+/// them: what it serves of a file, or of each file of a bag, has the SHA-256 of what was deposited there. So it is
+/// that, or these two byte strings share a SHA-256.
+pub fn altered_bytes_are_never_served()
+    ensures file { (db altered : Database) (h : History) (visit : Visit) (n : ℕ)
+        (path : Bor (List ℕ)) (bytes : List ℕ)
+        → IsLegal h → Pictures h db → DiffersInBytes db altered
+        → RowsTell (rows_of altered) visit (DownloadFile n path) (answers.File bytes)
+        → HasDigestAt h n path.now bytes }
+    ensures bag { (db altered : Database) (h : History) (visit : Visit) (n : ℕ) (bytes : List ℕ)
+        → IsLegal h → Pictures h db → DiffersInBytes db altered
+        → RowsTell (rows_of altered) visit (DownloadBag n) (answers.Bag bytes)
+        → HasDigestsOf h n bytes }
+{
+    refusals_are_exact();
+    files_are_exact();
+}
 
 /// Tables that picture a legal history have only rows in range: a row out of its range is one that
 /// no accepted change wrote.

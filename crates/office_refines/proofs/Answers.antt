@@ -45,7 +45,7 @@ use Rattle.office_by_rows.specs.Asking.{Visit, hold_by, told_hold, told_holds}
 use Rattle.office_by_rows.specs.Refusals.{highest_deposit, highest_hold, number_after}
 use Rattle.office_by_rows.specs.Answers.{allowed_answer, audit_of, audit_unless, bag_in, content_stored, due_list, file_in, has_names, holds_in, is_allowed_for, is_shown_unless, listed_record, listed_records, path_cmp, place_told, record_by, record_in, stored_files, told_if}
 use Rattle.office_by_rows.proofs.Days.{day_back}
-use Rattle.office_refines.specs.Refining.{refusal_before}
+use Rattle.office_refines.specs.Refining.{HasBagOf, refusal_before}
 use Rattle.office_by_rows.proofs.ComesTo.{between}
 use Rattle.office_refines.proofs.DepositsTold.{both, rows_beside}
 use Rattle.office_refines.proofs.FilesTold.{files_at, in_path_order, no_file_there}
@@ -339,6 +339,11 @@ module _ (h : History) (legal : IsLegal h) (ranged : AreInRange this_version (pi
             ap (option_map (λ (f : FileRow). f.content)) (first_of_both (is_file_of (pos n)) (λ f. bytes_eq f.path path) (file_rows h) ∙ ap (find (λ f. bytes_eq f.path path)) (files_at h n it.found it.there it.kept))
             ∙ content_of_row n path it.found.1.bag
         by false bad = no_file_there it.found.1.bag (bag_of it).each path bad
+
+    pub files_exact : (visit : Visit) (n : ℕ) → refusal_before h visit.day visit.caller (DownloadBag n) ≡ None → HasBagOf h n t
+    files_exact visit n free =
+        let it = kept_of visit.day visit.caller acts.Download n free in
+        record { found = it.found; there = it.there; files = stored_of it; contents = content_told n it }
 
     -- ---- any request
 

@@ -1,11 +1,12 @@
 //! Laws: what the rows of a legal history come to is what the history says.
 
-ghost use Rattle.std.specs.Prelude.{◌≡◌, [], ◌∷◌, None, Some, is_some, option_map, true};
+ghost use Rattle.std.specs.Prelude.{◌≡◌, ℕ, [], ◌∷◌, None, Some, is_some, option_map, true};
 ghost use Rattle.jiff.specs.Words.{epoch_day};
 ghost use Rattle.office_core.specs.Actions.{action_text};
 ghost use Rattle.office_core.specs.Policies.{IsPolicy, PolicyValue};
 ghost use Rattle.office_core.specs.Rules.{Question, decision_of};
 ghost use Rattle.office_core.specs.declared.request.Request.{Request};
+ghost use Rattle.office_core.specs.declared.request.Request.TheVariants.{DownloadBag};
 ghost use Rattle.office_rows.specs.Matching.{matching_rule};
 ghost use Rattle.office_rows.specs.Rows.{this_version};
 ghost use Rattle.office_history.specs.Answers as histories;
@@ -18,7 +19,7 @@ ghost use Rattle.office_by_rows.specs.Answers.{allowed_answer, due_list};
 ghost use Rattle.office_by_rows.specs.Changes.{allowed_rows, installed};
 ghost use Rattle.office_by_rows.specs.Refusals.{refusal};
 ghost use Rattle.office_by_rows.specs.Serving.{serve};
-ghost use Rattle.office_refines.specs.Refining.{place_and_effect, refusal_before, rule_and_effect};
+ghost use Rattle.office_refines.specs.Refining.{HasBagOf, place_and_effect, refusal_before, rule_and_effect};
 
 use bag_text::laws::one_list_fault;
 use office_history::laws::{pictures_are_in_range, sound_bags};
@@ -38,6 +39,17 @@ pub fn answers_are_exact()
         → refusal_before h visit.day visit.caller request ≡ None
         → allowed_answer (picture this_version h) visit request
         ≡ Some (answer h visit.day visit.caller request) }
+{
+    pictures_are_in_range();
+    sound_bags();
+    one_list_fault();
+}
+
+/// Where nothing stands against the download of a bag, the rows have its files, and its content at each path.
+pub fn files_are_exact()
+    ensures { (h : History) (visit : Visit) (n : ℕ) → IsLegal h
+        → refusal_before h visit.day visit.caller (DownloadBag n) ≡ None
+        → HasBagOf h n (picture this_version h) }
 {
     pictures_are_in_range();
     sound_bags();

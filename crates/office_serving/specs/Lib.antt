@@ -1,4 +1,3 @@
-pub mod Files
 pub mod Allowances
 pub mod Listing
 pub mod Reading

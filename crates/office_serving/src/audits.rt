@@ -2,18 +2,18 @@
 
 ghost use Rattle.std.specs.Prelude.{◌≡◌, IfErr, IfOk, map};
 ghost use Rattle.office_core.specs.declared.request.Request.TheVariants as requests;
-ghost use Rattle.office_tables.specs.Faults.{IsFailure};
 ghost use Rattle.office_tables.specs.Calls.{GoesOnInside};
 ghost use Rattle.office_by_rows.specs.Answers.{audit_of, file_in};
 ghost use Rattle.office_asking.specs.Asking.{visit_on};
 ghost use Rattle.office_serving.specs.Reading.{ServesReading};
 
-use crate::bags::{kept_files, pairs_of};
+use crate::bags::pairs_of;
 use bag_text::laws::one_list_fault;
 use bag_text::{BagSet, SetFault};
+use office_asking::kept_deposit;
 use office_core::{Action, Answer, AuditReport, Day};
 use office_history::judging;
-use office_tables::{FileRow, TableFault};
+use office_tables::{FileRow, TableFault, files_of};
 use sqlite::{Alter, Transaction};
 use std::alloc::Global;
 
@@ -22,7 +22,6 @@ use std::alloc::Global;
 /// Fails with `Memory`.
 fn audit_of(alloc: Global, rows: &[FileRow]) -> Result<AuditReport, TableFault>
     ensures report { IfOk result (λ report. report ≡ audit_of (map file_in rows.now)) }
-    ensures failure { IfErr result IsFailure }
     ensures memory { IfErr result (λ fault. fault ≡ TableFault.Memory) }
 {
     one_list_fault();
@@ -34,7 +33,8 @@ fn audit_of(alloc: Global, rows: &[FileRow]) -> Result<AuditReport, TableFault>
     }
 }
 
-/// Answers the audit of a deposit's bag, as its files are stored, whoever wrote them.
+/// Answers the audit of a deposit's bag, as its files are stored, whoever wrote them. It reports on whatever
+/// stands there, also where the SHA-256 of a content is no longer its mark.
 ///
 /// Fails with `Memory` or `Store`.
 pub fn audit<S: Alter>(
@@ -49,11 +49,14 @@ pub fn audit<S: Alter>(
     ensures serves { ServesReading S.Store tx.old.conn.now tx.new.conn.now result
         (visit_on day caller.now) (requests.Audit number) }
 {
-    match kept_files(alloc, tx, day, caller, Action::Audit, number)? {
-        Ok(rows) => Ok(Answer::Audit {
-            deposit: number,
-            report: audit_of(alloc, &rows)?,
-        }),
+    match kept_deposit(tx, day, caller, Action::Audit, number)? {
+        Ok(_) => {
+            let rows = files_of(alloc, tx, number)?;
+            Ok(Answer::Audit {
+                deposit: number,
+                report: audit_of(alloc, &rows)?,
+            })
+        }
         Err(why) => Ok(Answer::Refused(why)),
     }
 }

@@ -1,9 +1,8 @@
 //! What the counts of a deposit's row stand for. What stands for nothing is of a row that no accepted
 //! change writes, which is a fault of the store.
 
-ghost use Rattle.std.specs.Prelude.{◌≡◌, IfErr};
+ghost use Rattle.std.specs.Prelude.{◌≡◌};
 ghost use Rattle.std.specs.Option.{ok_or};
-ghost use Rattle.office_tables.specs.Faults.{IsFailure};
 ghost use Rattle.office_tables.specs.declared.fault.TableFault.TheVariants.{Store};
 ghost use Rattle.office_by_rows.specs.Values.{count_up_to};
 
@@ -13,9 +12,7 @@ use office_tables::TableFault;
 ///
 /// Fails with `Store`.
 pub fn count_in(number: i64, most: usize) -> Result<usize, TableFault>
-    ensures reads { result ≡ ok_or (count_up_to most number) TableFault.Store }
-    ensures failure { IfErr result IsFailure }
-    ensures store { IfErr result (λ fault. fault ≡ TableFault.Store) }
+    ensures { result ≡ ok_or (count_up_to most number) TableFault.Store }
 {
     match usize::try_from(number) {
         Ok(count) if count <= most => Ok(count),

@@ -3,9 +3,8 @@
 ghost use Rattle.std.specs.Prelude.{◌≡◌, None, Some, if◌then◌else◌, option_copied, option_map};
 ghost use Rattle.bag_text.specs.Paths.{is_good};
 ghost use Rattle.office_core.specs.declared.request.Request.TheVariants as requests;
-ghost use Rattle.office_tables.specs.Calls.{GoesOnInTurn, GoesOnInside, Shows};
+ghost use Rattle.office_tables.specs.Calls.{GoesOnInside};
 ghost use Rattle.office_history.specs.Answers.{file_answer};
-ghost use Rattle.office_by_rows.specs.Answers.{content_stored};
 ghost use Rattle.office_asking.specs.Asking.{visit_on};
 ghost use Rattle.office_serving.specs.Reading.{ServesReading};
 
@@ -13,7 +12,7 @@ use bag_text::laws::good_paths;
 use bag_text::{BagPath, as_text};
 use office_asking::kept_deposit;
 use office_core::{Action, Answer, Day, Refusal, Sequence};
-use office_tables::{TableFault, file_of};
+use office_tables::{TableFault, intact_file_of};
 use sqlite::{Alter, Transaction};
 
 /// The path that the bytes are, where it is one that a bag may have.
@@ -24,23 +23,6 @@ fn bag_path(bytes: &[u8]) -> Option<&str>
     match BagPath::read(as_text(bytes)?) {
         Ok(path) => Some(path.as_str()),
         Err(_) => None,
-    }
-}
-
-/// The content of the file at a path of the bag of the deposit of that number, which is kept: a path that
-/// no bag may have is that of no file.
-fn content_of<S: Alter>(
-    tx: &mut Transaction<'_, S>,
-    number: u32,
-    path: &[u8],
-) -> Result<Option<Vec<u8>>, TableFault>
-    ensures inside { GoesOnInTurn S.Store tx.old.conn tx.new.conn result }
-    ensures reads { Shows S.Store tx.old.conn.now tx.new.conn.now result (λ tables content.
-        content_stored number path.now tables ≡ option_map (λ bytes. bytes.items) content) }
-{
-    match bag_path(path) {
-        Some(text) => file_of(tx, number, text),
-        None => Ok(None),
     }
 }
 
@@ -56,9 +38,10 @@ fn file_answer(content: Option<Vec<u8>>) -> Answer
     }
 }
 
-/// Answers the file at that path of a deposit's bag, for a path that is any bytes.
+/// Answers the file at that path of a deposit's bag, where the SHA-256 of its content is still its mark. The
+/// path is any bytes: one that no bag may have is that of no file.
 ///
-/// Fails with `Memory` or `Store`.
+/// Fails with `Memory` or `Store`, as where it is not.
 pub fn download_file<S: Alter>(
     tx: &mut Transaction<'_, S>,
     day: Day,
@@ -71,7 +54,10 @@ pub fn download_file<S: Alter>(
         (visit_on day caller.now) (requests.DownloadFile number path.entry) }
 {
     match kept_deposit(tx, day, caller, Action::Download, number)? {
-        Ok(_) => Ok(file_answer(content_of(tx, number, path)?)),
+        Ok(_) => match bag_path(path) {
+            Some(text) => Ok(file_answer(intact_file_of(tx, number, text)?)),
+            None => Ok(file_answer(None)),
+        },
         Err(why) => Ok(Answer::Refused(why)),
     }
 }

@@ -52,25 +52,86 @@ pub static AS_BEFORE: [Part; 2] = [
     ),
 ];
 
-/// The bytes of a content are others, which the files `data/a` of all deposits have; the file of
-/// deposit 1 has another content; it is missing; there is one more, whose path is none, or lies below
-/// another. The store takes out no content that a file has, and puts no file that has none. Content 2
-/// is `abc`.
-pub static FILES: [Part; 9] = [
+/// The bytes of a content are others, which the files `data/a` of all deposits have, or none; two have exchanged
+/// their bytes; its mark is another; the bytes of a declaration are others, which a bag has beside its payload; the
+/// file of deposit 1 has another content, under no mark of its own or under its own; it is missing; there is one
+/// more, whose path is none, or lies below another. No bytes are served that aren't under their SHA-256, and an
+/// audit reports on whatever stands there. The store takes out no content that a file has, and puts no file that
+/// has none. Content 1 is the declaration, content 2 is `abc`.
+pub static FILES: [Part; 14] = [
     (
         "",
         "UPDATE content SET bytes = x'616264' WHERE id = 2\n\
          UPDATE content SET bytes = x'616263' WHERE id = 2\n\
+         file 1 data/a > Store\n\
+         bag 1 > Store\n\
          audit 1 > audit 1 invalid B17 manifest-sha256.txt data/a\n\
+         file 2 data/a > Store\n\
+         bag 2 > Store\n\
          audit 2 > audit 2 invalid B17 manifest-sha256.txt data/a\n\
-         file 2 data/a > file abd\n\
-         bag 3 > other bytes\n\
+         bag 3 > Store\n\
+         file 1 data/b > NoFile\n\
          record 1 > record 1 A-1 maps y1 closed 2024-02-29 deposited 2024-03-01 due 2025-02-28 \
-         files 1 bytes 3",
+         files 1 bytes 3\n\
+         file 4 data/a > Gone 2025-02-28\n\
+         2030-01-01 carl\n\
+         file 1 data/a > Denied default",
+    ),
+    (
+        "",
+        "UPDATE content SET bytes = x'' WHERE id = 2\n\
+         UPDATE content SET bytes = x'616263' WHERE id = 2\n\
+         file 1 data/a > Store\n\
+         bag 1 > Store\n\
+         audit 1 > audit 1 invalid B17 manifest-sha256.txt data/a\n\
+         file 2 data/a > Store\n\
+         bag 2 > Store\n\
+         audit 2 > audit 2 invalid B17 manifest-sha256.txt data/a",
+    ),
+    // Each has the bytes of the other, and so is under another's mark.
+    (
+        "",
+        "UPDATE content SET bytes = x'616263' WHERE id = 1; UPDATE content SET bytes = x'42616749742d56657273696f6e3a20312e300a5461672d46696c652d4368617261637465722d456e636f64696e673a205554462d380a' WHERE id = 2\n\
+         UPDATE content SET bytes = x'42616749742d56657273696f6e3a20312e300a5461672d46696c652d4368617261637465722d456e636f64696e673a205554462d380a' WHERE id = 1; UPDATE content SET bytes = x'616263' WHERE id = 2\n\
+         file 1 data/a > Store\n\
+         file 1 bagit.txt > Store\n\
+         bag 1 > Store\n\
+         audit 1 > audit 1 invalid B2 V3",
+    ),
+    (
+        "",
+        "UPDATE content SET mark = x'00' WHERE id = 2\n\
+         UPDATE content SET mark = x'ba7816bf8f01cfea414140de5dae2223b00361a396177a9cb410ff61f20015ad' WHERE id = 2\n\
+         file 1 data/a > Store\n\
+         bag 1 > Store\n\
+         audit 1 > audit 1 valid 1.0 files 1 bytes 3 manifests 1\n\
+         bag 2 > Store",
+    ),
+    (
+        "",
+        "UPDATE content SET bytes = x'42616749742d56657273696f6e3a20312e300a5461672d46696c652d4368617261637465722d456e636f64696e673a205554462d390a' WHERE id = 1\n\
+         UPDATE content SET bytes = x'42616749742d56657273696f6e3a20312e300a5461672d46696c652d4368617261637465722d456e636f64696e673a205554462d380a' WHERE id = 1\n\
+         file 1 data/a > file abc\n\
+         file 1 bagit.txt > Store\n\
+         bag 1 > Store\n\
+         audit 1 > audit 1 invalid B2 V7",
     ),
     (
         "",
         "INSERT INTO content (id, mark, size, bytes) VALUES (9, x'', 3, x'616264'); UPDATE file \
+         SET content = 9 WHERE deposit = 1 AND path = 'data/a'\n\
+         UPDATE file SET content = 2 WHERE deposit = 1 AND path = 'data/a'; DELETE FROM content \
+         WHERE id = 9\n\
+         file 1 data/a > Store\n\
+         bag 1 > Store\n\
+         audit 1 > audit 1 invalid B17 manifest-sha256.txt data/a\n\
+         audit 2 > audit 2 valid 1.0 files 1 bytes 3 manifests 1\n\
+         bag 2 > whole",
+    ),
+    (
+        "",
+        "INSERT INTO content (id, mark, size, bytes) VALUES (9, \
+         x'a52d159f262b2c6ddb724a61840befc36eb30c88877a4030b65cbe86298449c9', 3, x'616264'); UPDATE file \
          SET content = 9 WHERE deposit = 1 AND path = 'data/a'\n\
          UPDATE file SET content = 2 WHERE deposit = 1 AND path = 'data/a'; DELETE FROM content \
          WHERE id = 9\n\
@@ -800,6 +861,8 @@ pub static BESIDE: [&[Part]; 5] = [
             "2024-03-01 anna\n\
              deposit maps y10 A-3 > deposit 2\n\
              bag 2 > whole\n\
+             file 1 data/a > Store\n\
+             bag 1 > Store\n\
              audit 1 > audit 1 invalid B17 manifest-sha256.txt data/a",
         ),
     ],
@@ -819,7 +882,8 @@ pub static BESIDE: [&[Part]; 5] = [
              deposit maps y10 A-3 > deposit 2\n\
              bag 2 > whole\n\
              audit 2 > audit 2 valid 1.0 files 1 bytes 3 manifests 1\n\
-             bag 1 > whole\n\
+             file 1 data/a > Store\n\
+             bag 1 > Store\n\
              audit 1 > audit 1 valid 1.0 files 1 bytes 3 manifests 1",
         ),
         (
@@ -853,7 +917,8 @@ pub static BESIDE: [&[Part]; 5] = [
             "2024-03-01 anna\n\
              deposit maps y10 A-3 2024-02-29 0.97 > deposit 2\n\
              bag 2 > whole 0.97\n\
-             bag 1 > whole",
+             file 1 data/a > file abc\n\
+             bag 1 > Store",
         ),
         (
             "steps",

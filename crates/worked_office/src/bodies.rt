@@ -159,6 +159,7 @@ pub static BODIES: [&[Part]; 8] = [
         (
             "bodies altered",
             "2024-03-01 anna\n\
+             bag 1 > {\"error\":\"Store\"}\n\
              audit 1 > {\"deposit\":1,\"fault\":\"B17 manifest-sha256.txt data/a\",\"valid\":false}\n\
              deposit maps y1 A-2 > {\"deposit\":2}\n\
              bag 2 > whole",

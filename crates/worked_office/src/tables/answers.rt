@@ -4,7 +4,8 @@ use crate::words::{number, word};
 use office_tables::{
     TableFault, by_accession, class_of, contents, deposit_row, deposit_rows, deposits_and_dues,
     due_row, due_rows, file_of, files_of, has_collection, has_release_outside, hold_row,
-    last_deposit, last_hold, limits, live_holds, match_rule, role_of, rows_of_class, rules,
+    intact_file_of, intact_files_of, last_deposit, last_hold, limits, live_holds, match_rule,
+    role_of, rows_of_class, rules,
 };
 use sqlite::{Alter, Transaction};
 use std::alloc::Global;
@@ -63,6 +64,8 @@ fn answer_of_files_and_holds<S: Alter>(
     match read {
         "files" => answer_text(alloc, files_of(alloc, tx, of)),
         "content" => answer_text(alloc, file_of(tx, of, name)),
+        "intact files" => answer_text(alloc, intact_files_of(alloc, tx, of)),
+        "intact content" => answer_text(alloc, intact_file_of(tx, of, name)),
         "hold" => answer_text(alloc, hold_row(tx, of)),
         "live holds" => answer_text(alloc, live_holds(alloc, tx, of, name, class)),
         "last hold" => answer_text(alloc, last_hold(tx)),

@@ -104,6 +104,10 @@ pub static CALLS: [&[Part]; 10] = [
         (
             "steps",
             "read|content|2|data/b > Some([98, 98])\n\
+             read|intact content|2|data/b > Some([98, 98])\n\
+             read|intact content|2|data/c > None\n\
+             read|intact files|1 > [FileRow { deposit: 1, path: \"data/b\", content: [111, 110, 101] }]\n\
+             read|intact files|3 > []\n\
              read|files|2 > [FileRow { deposit: 2, path: \"bagit.txt\", content: [116, 101, 120, \
              116] }, FileRow { deposit: 2, path: \"data/b\", content: [98, 98] }]\n\
              held > 1|5|10|20;--;--;--;--;--;--;1|data/b|3|one;2|bagit.txt|2|text;2|data/b|1|bb;--;--;\
@@ -165,6 +169,8 @@ pub static CALLS: [&[Part]; 10] = [
              read|content|1|data/a > Some([97, 98, 99])\n\
              read|content|1|data/b > Some([97, 98, 100])\n\
              read|content|2|data/c > Some([97, 98, 99])\n\
+             read|intact content|1|data/a > Q4\n\
+             read|intact files|2 > Q4\n\
              do|drop files|1\n\
              read|contents > [ContentSize { id: 1, size: 3 }]\n\
              read|content|1|data/a > None\n\

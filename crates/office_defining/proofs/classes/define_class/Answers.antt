@@ -1,4 +1,4 @@
-use Rattle.std.proofs.Common.{rules, ◌≡◌, ap, sym, Some, None, ◌∷◌, []}
+use Rattle.std.proofs.Common.{rules, ◌≡◌, ap, sym, Some, None, ◌∷◌, [], refl}
 use Rattle.sqlite.specs.Held.{state}
 use Rattle.office_core.specs.declared.action.Action.TheVariants as acts
 use Rattle.office_core.specs.declared.request.Request.TheVariants as requests
@@ -31,4 +31,4 @@ returns-clause-serves g c clean office =
     let asked = c.in_ok-why.ensures.reads (clean_first c.put_years.ensures.inside.stays clean) office in
     let none : denial_in t visit acts.Class None (Some a.name.now) ≡ Some None = search (rules, asked.1) in
     let changed : IsChangedBy (with_years a.name.now a.years) _ _ = rw c.as_str-2.ensures.text at (c.in_ok-put_years.ensures.changes clean (office_still asked.0 office)) in
-    allowed_by visit (requests.DefineClass a.name.now a.years) (answers.Class c.in_ok-defined.defined a.years) asked.0 (ap (λ o. first_told (o ∷ [])) none) (ap (λ n. Some (answers.Class n a.years)) (sym c.in_ok-defined.ensures)) changed
+    allowed_by visit (requests.DefineClass a.name.now a.years) (answers.Class c.in_ok-defined.defined a.years) refl asked.0 (ap (λ o. first_told (o ∷ [])) none) (ap (λ n. Some (answers.Class n a.years)) (sym c.in_ok-defined.ensures)) changed

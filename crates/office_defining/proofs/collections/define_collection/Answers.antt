@@ -1,4 +1,4 @@
-use Rattle.std.proofs.Common.{rules, ◌≡◌, ap, sym, Some, None, ◌∷◌, []}
+use Rattle.std.proofs.Common.{rules, ◌≡◌, ap, sym, Some, None, ◌∷◌, [], refl}
 use Rattle.sqlite.specs.Held.{state}
 use Rattle.office_core.specs.declared.action.Action.TheVariants as acts
 use Rattle.office_core.specs.declared.request.Request.TheVariants as requests
@@ -31,4 +31,4 @@ returns-clause-serves g c clean office =
     let none : denial_in t visit acts.Collection (Some a.name.now) None ≡ Some None = search (rules, asked.1) in
     let put = c.in_ok-put_collection.ensures in
     let changed = changes_by put.inside (with_collection a.name.now) (rw c.as_str-2.ensures.text at put.becomes) put.contents clean (office_still asked.0 office) in
-    allowed_by visit (requests.DefineCollection a.name.now) (answers.Collection c.in_ok-defined.defined) asked.0 (ap (λ o. first_told (o ∷ [])) none) (ap (λ n. Some (answers.Collection n)) (sym c.in_ok-defined.ensures)) changed
+    allowed_by visit (requests.DefineCollection a.name.now) (answers.Collection c.in_ok-defined.defined) refl asked.0 (ap (λ o. first_told (o ∷ [])) none) (ap (λ n. Some (answers.Collection n)) (sym c.in_ok-defined.ensures)) changed

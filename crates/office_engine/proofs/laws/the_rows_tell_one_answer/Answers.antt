@@ -1,12 +1,12 @@
 use Rattle.std.proofs.Common.{sym, ap, ◌∙◌}
 use Rattle.std.proofs.lemmas.Option.{same_Some}
 use Rattle.office_core.specs.declared.answer.Answer.{Answer}
-use Rattle.office_rows.specs.Rows.{Tables}
+use Rattle.office_asking.specs.Contents.{Rows}
 use Rattle.office_engine.proofs.laws.the_rows_tell_one_answer.Goals as goal
 
 pub returns : goal.returns
 returns c = record {
-  answer = λ t visit request a b p q. ap (λ (told : Answer × Tables). told.0) (same_Some _ _ (sym p.1 ∙ q.1));
+  answer = λ r visit request a b p q. ap (λ (told : Answer × Rows). told.0) (same_Some _ _ (sym p.1 ∙ q.1));
   due = λ t visit a b p q. same_Some _ _ (sym p ∙ q);
   stock = λ db a b p q. same_Some _ _ (sym p ∙ q);
 }

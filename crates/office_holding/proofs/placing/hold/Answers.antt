@@ -27,7 +27,7 @@ returns-in_ok-place-in-Ok-clause-serves g c clean office =
     let next = subst (λ r. IfOk r (λ number. number_after (highest_hold t) ≡ Some number)) c.in-Ok.is (c.in_ok-hold.ensures.number early office).1 in
     let write = λ (t : Tables). counted_over target (pos 1) (with_hold (new_hold c.in-Ok.hold target a.matter.now a.day) t) in
     let placed = changed_after write asked.0 (c.in_ok-place-in-Ok.ensures.changes clean (office_still asked.0 office)) in
-    allowed_by visit request (answers.HoldPlaced c.in-Ok.hold) refl (asked.1 a.matter.now ∙ ap (λ r. Some (result_err r)) c.in-Ok.is) (hold_answered t visit target a.matter.now c.in-Ok.hold next)
+    allowed_by visit request (answers.HoldPlaced c.in-Ok.hold) refl refl (asked.1 a.matter.now ∙ ap (λ r. Some (result_err r)) c.in-Ok.is) (hold_answered t visit target a.matter.now c.in-Ok.hold next)
     (changed_as write (λ t. allowed_rows t visit request) (hold_rows t visit target a.matter.now c.in-Ok.hold next) placed)
 
 pub returns-in-Err-clause-serves : goal.returns-in-Err-clause-serves

@@ -32,5 +32,5 @@ returns-in_ok-end-in-Ok-clause-serves g c clean office =
     let target = held_target c.in_ok-target-in-Ok.target in
     let write = λ (t : Tables). counted_over target (negsuc 0) (with_released (pos a.hold) (epoch_day a.day) t) in
     let ended = changed_after write asked.0 (c.in_ok-end-in-Ok.ensures.changes clean (office_still asked.0 office)) in
-    allowed_by visit (requests.Release a.hold) (answers.HoldReleased a.hold a.day) refl (asked.1 ∙ ap (λ r. Some (result_err r)) c.in-Ok.is) refl
+    allowed_by visit (requests.Release a.hold) (answers.HoldReleased a.hold a.day) refl refl (asked.1 ∙ ap (λ r. Some (result_err r)) c.in-Ok.is) refl
     (changed_as write (λ t. allowed_rows t visit (requests.Release a.hold)) (released_rows t visit a.hold c.in-Ok.row target there c.in_ok-target-in-Ok.ensures.reads) ended)

@@ -1,4 +1,4 @@
-use Rattle.std.proofs.Common.{◌≡◌, Some, Ok, sym, ap, subst, ◌∙◌, rules}
+use Rattle.std.proofs.Common.{◌≡◌, Some, Ok, refl, sym, ap, subst, ◌∙◌, rules}
 use Rattle.sqlite.specs.Held.{state}
 use Rattle.office_core.specs.declared.answer.Answer.TheVariants as answers
 use Rattle.office_tables.specs.Tables.{tables_of}
@@ -38,6 +38,6 @@ returns-clause-serves g c clean office =
     let bag : bag_of text.now ≡ Ok c.in-Ok.new.bag = subst (λ new. IfOk new (λ new. bag_of text.now ≡ Ok new.bag)) c.in-Ok.is c.in_ok-new.ensures.bag in
     let mid = tables_of (state g.S.Store c.new_bag.new.tx.conn.now).now in
     let next : number_after (highest_deposit mid) ≡ Some n = subst (λ db. number_after (highest_deposit (tables_of db)) ≡ Some n) (sym asked.0) number in
-    allowed_by (visit_of q) (request_of q text) (answers.Deposited n) asked.0 (asked.1 ∙ ap (λ new. Some (result_err new)) c.in-Ok.is) (ap (option_map answers.Deposited) number)
+    allowed_by (visit_of q) (request_of q text) (answers.Deposited n) refl asked.0 (asked.1 ∙ ap (λ new. Some (result_err new)) c.in-Ok.is) (ap (option_map answers.Deposited) number)
     (rewritten_as (kept_as n (row_of q n c.in-Ok.new.bag) q.closed c.in-Ok.new.bag) (λ t. allowed_rows t (visit_of q) (request_of q text)) (λ t k. with_contents_of c.in-Ok.new.bag k) (λ t. contents_after t (request_of q text) (answers.Deposited n))
     (next_kept q text n c.in-Ok.new.bag mid next bag) (ap (λ files. with_contents_of (files_if_bag files) (contents_in (state g.S.Store c.new_bag.new.tx.conn.now).now)) (sym bag)) (c.in_ok-keep.ensures.changes clean (office_still asked.0 office)))

@@ -24,4 +24,4 @@ returns-clause-serves g c clean office =
     let a = c.args in
     let asked = c.in_ok-why.ensures.reads (clean_first c.destroy.ensures.inside.stays clean) office in
     let none : c.in_ok-why.field-0 ≡ None = search rules in
-    allowed_by (visit_on a.day a.caller.now) (requests.Dispose a.number) (answers.Destroyed a.number a.day) asked.0 (asked.1 ∙ ap Some none) refl (c.in_ok-destroy.ensures.changes clean (office_still asked.0 office))
+    allowed_by (visit_on a.day a.caller.now) (requests.Dispose a.number) (answers.Destroyed a.number a.day) refl asked.0 (asked.1 ∙ ap Some none) refl (c.in_ok-destroy.ensures.changes clean (office_still asked.0 office))

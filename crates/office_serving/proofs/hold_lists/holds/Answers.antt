@@ -33,7 +33,7 @@ returns-in_ok-told_holds-in-Ok-clause-serves g c clean office =
     let says = c.in_ok-told_holds-in-Ok.ensures.reads clean (office_still asked.0 office) in
     let holds = told_before asked.0 (λ t. told_holds t a.number c.deref.result.now c.deref-in-Ok.result.now ≡ Some told) says.1 in (
       says.0 ∙ asked.0,
-      read_by (visit_on a.day a.caller.now) (requests.Holds a.number) (answers.Holds c.of.result) (λ k. refl) office (says.0 ∙ asked.0) asked.1
+      read_by (visit_on a.day a.caller.now) (requests.Holds a.number) (answers.Holds c.of.result) refl (λ k. refl) office (says.0 ∙ asked.0) asked.1
           (ap (λ o. o >>= holds_in t a.number) there.1
           ∙ (λ i. told_holds t a.number (sym collection i) (sym class i) >>= λ told. Some (answers.Holds told))
           ∙ ap (λ o. o >>= λ told. Some (answers.Holds told)) holds

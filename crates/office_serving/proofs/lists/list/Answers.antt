@@ -41,4 +41,4 @@ returns-clause-serves g c clean office =
     let given : c.of.result ≡ c.in_ok-told.told.items = search rules in
     let listed : listed_records t visit wanted ≡ Some c.of.result =
     (λ i. asked.1.role i >>= λ role. things_told (listed_record t role (sym asked.1.on i) wanted) (sym rows_are i)) ∙ told ∙ ap Some (sym given) in
-    (found.0 ∙ same, read_by visit (requests.List (option_copied a.collection) (option_copied a.class)) (answers.List c.of.result) (λ k. refl) office (found.0 ∙ same) refl (ap (option_map answers.List) listed) refl)
+    (found.0 ∙ same, read_by visit (requests.List (option_copied a.collection) (option_copied a.class)) (answers.List c.of.result) refl (λ k. refl) office (found.0 ∙ same) refl (ap (option_map answers.List) listed) refl)

@@ -26,7 +26,7 @@ returns-in_ok-record_of-in-Ok-clause-serves g c clean office =
     let told = c.in_ok-record_of-in-Ok.ensures.reads clean (office_still asked.0 office) in
     let record_is = told_before asked.0 (λ t. record_in t c.in-Ok.row ≡ Some (answers.Record c.in_ok-record_of-in-Ok.field-0)) told.1 in (
       told.0 ∙ asked.0,
-      read_by (visit_on a.day a.caller.now) (requests.Record a.number) (answers.Record c.in_ok-record_of-in-Ok.field-0) (λ k. refl) office (told.0 ∙ asked.0) asked.1
+      read_by (visit_on a.day a.caller.now) (requests.Record a.number) (answers.Record c.in_ok-record_of-in-Ok.field-0) refl (λ k. refl) office (told.0 ∙ asked.0) asked.1
           (ap (λ o. o >>= record_in (tables_of (state g.S.Store a.tx.now.conn.now).now)) there.1 ∙ record_is) refl,
     )
 
