@@ -141,9 +141,19 @@ kept_refusals t visit action row = denial_at t visit action row ∷ gone_refusal
 abbrev pub kept_refusal : Tables → Visit → Action → ℕ → Option (Option Refusal)
 kept_refusal t visit action n = first_told (of_deposit (deposit_numbered (pos n) t.deposits) (kept_refusals t visit action))
 
--- a hold of it: E2, E3 and E10
-abbrev pub hold_refusals : Tables → Visit → DepositRow → List (Option (Option Refusal))
-hold_refusals t visit row = denial_at t visit acts.Hold row ∷ gone_refusal row ∷ full_of_holds t ∷ []
+-- ---- a hold
+
+-- a hold of what is named, while the office takes one more: E1 and E2, and of a deposit E3
+abbrev pub hold_denials : Tables → Visit → Target → List (Option (Option Refusal))
+hold_denials t visit (OnDeposit n) = of_deposit (deposit_numbered (pos n) t.deposits) (kept_refusals t visit acts.Hold)
+hold_denials t visit (OnCollection name) = Some (no_such_collection t name) ∷ denial_in t visit acts.Hold (Some name) None ∷ []
+hold_denials t visit (OnClass name) = Some (no_such_class t name) ∷ denial_in t visit acts.Hold None (Some name) ∷ []
+
+-- and E10
+abbrev pub hold_refusals : Tables → Visit → Target → List (Option (Option Refusal))
+hold_refusals t visit target = hold_denials t visit target ++ full_of_holds t ∷ []
+
+-- ---- a deposit
 
 -- where a bag is deposited: E1 and E2
 abbrev pub place_refusals : Tables → Visit → List ℕ → List ℕ → List (Option (Option Refusal))
@@ -153,25 +163,32 @@ place_refusals t visit collection class =
     ∷ denial_in t visit acts.Deposit (Some collection) (Some class)
     ∷ []
 
--- and what is deposited: E4, E5, E6 and E10
-abbrev pub bag_refusals : Tables → Date → List ℕ → Date → List ℕ → List (Option (Option Refusal))
-bag_refusals t day accession closed bag =
-    taken_refusal t accession ∷ Some (closed_ahead_refusal day closed) ∷ Some (bad_bag bag) ∷ full_of_deposits t ∷ []
+-- and E4 and E5: what is asked before the bag is looked at
+abbrev pub refusals_before_the_bag : Tables → Visit → List ℕ → List ℕ → List ℕ → Date → List (Option (Option Refusal))
+refusals_before_the_bag t visit collection class accession closed =
+    place_refusals t visit collection class ++ taken_refusal t accession ∷ Some (closed_ahead_refusal visit.day closed) ∷ []
+
+-- E6 and E10
+abbrev pub refusals_of_the_bag : Tables → List ℕ → List (Option (Option Refusal))
+refusals_of_the_bag t bag = Some (bad_bag bag) ∷ full_of_deposits t ∷ []
+
+-- ---- all of them
 
 -- all refusals of a request
 abbrev pub refusals : Tables → Visit → Request → List (Option (Option Refusal))
 refusals t visit (DefineClass name years) = denial_in t visit acts.Class None (Some name) ∷ []
 refusals t visit (DefineCollection name) = denial_in t visit acts.Collection (Some name) None ∷ []
-refusals t visit (Deposit collection class accession closed bag) = place_refusals t visit collection class ++ bag_refusals t visit.day accession closed bag.now
+refusals t visit (Deposit collection class accession closed bag) =
+    refusals_before_the_bag t visit collection class accession closed ++ refusals_of_the_bag t bag.now
 refusals t visit (ListDeposits collection class) = []
 refusals t visit (Record n) = of_deposit (deposit_numbered (pos n) t.deposits) (kept_refusals t visit acts.Record)
 refusals t visit (Holds n) = of_deposit (deposit_numbered (pos n) t.deposits) (kept_refusals t visit acts.Holds)
 refusals t visit (DownloadBag n) = of_deposit (deposit_numbered (pos n) t.deposits) (kept_refusals t visit acts.Download)
 refusals t visit (DownloadFile n path) = of_deposit (deposit_numbered (pos n) t.deposits) (kept_refusals t visit acts.Download)
 refusals t visit (Audit n) = of_deposit (deposit_numbered (pos n) t.deposits) (kept_refusals t visit acts.Audit)
-refusals t visit (HoldDeposit n matter) = of_deposit (deposit_numbered (pos n) t.deposits) (hold_refusals t visit)
-refusals t visit (HoldCollection name matter) = Some (no_such_collection t name) ∷ denial_in t visit acts.Hold (Some name) None ∷ full_of_holds t ∷ []
-refusals t visit (HoldClass name matter) = Some (no_such_class t name) ∷ denial_in t visit acts.Hold None (Some name) ∷ full_of_holds t ∷ []
+refusals t visit (HoldDeposit n matter) = hold_refusals t visit (OnDeposit n)
+refusals t visit (HoldCollection name matter) = hold_refusals t visit (OnCollection name)
+refusals t visit (HoldClass name matter) = hold_refusals t visit (OnClass name)
 refusals t visit (Release k) = of_hold (hold_numbered (pos k) t.holds) (λ row. release_denial t visit row ∷ released_refusal row ∷ [])
 refusals t visit (Dispose n) = of_deposit (deposit_numbered (pos n) t.deposits) (λ row. disposal_refusal t visit n row ∷ [])
 refusals t visit DueList = []

@@ -1,5 +1,5 @@
 -- What stands first against a hold or a release, and what is answered and written where nothing does, by the rows that were read.
-use Rattle.std.proofs.Common.{◌≡◌, ℕ, pos, negsuc, not, Bool, true, false, List, [], ◌∷◌, ◌++◌, Option, Some, None, option_map, unwrap_or, refl, sym, ap, ◌∙◌, if◌then◌else◌}
+use Rattle.std.proofs.Common.{◌≡◌, ℕ, pos, negsuc, not, Bool, true, false, List, [], ◌∷◌, Option, Some, None, option_map, unwrap_or, refl, sym, ap, ◌∙◌, if◌then◌else◌}
 use Rattle.std.proofs.lemmas.Option.{same_Some}
 use Rattle.jiff.specs.Words.{epoch_day}
 use Rattle.office_core.specs.FirstOf.{◌>>=◌, answer_if}
@@ -10,16 +10,15 @@ use Rattle.office_core.specs.declared.refusal.Refusal.{Refusal}
 use Rattle.office_core.specs.declared.refusal.Refusal.TheVariants.{NoSuch}
 use Rattle.office_core.specs.declared.refusal.Subject.TheVariants as subjects
 use Rattle.office_core.specs.declared.request.Request.TheVariants as requests
-use Rattle.office_rows.specs.Rows.{DepositRow, HoldRow, Tables, deposit_numbered, has_collection, hold_numbered, with_hold, with_released}
+use Rattle.office_rows.specs.Rows.{HoldRow, Tables, has_collection, hold_numbered, with_hold, with_released}
 use Rattle.office_history.specs.Histories.{Target, OnDeposit, OnCollection, OnClass}
 use Rattle.office_history.specs.Pictures.{held_deposit}
 use Rattle.office_by_rows.specs.Asking.{Visit, denial_in, target_of}
 use Rattle.office_by_rows.specs.Answers.{allowed_answer}
 use Rattle.office_by_rows.specs.Changes.{allowed_rows, counted_over, new_hold}
-use Rattle.office_by_rows.specs.Refusals.{first_told, full_of_holds, highest_hold, hold_refusals, kept_refusals, number_after, of_deposit, of_hold, refusal, release_denial, release_denial_on, released_refusal}
-use Rattle.office_asking.proofs.FirstTold.{none_first, one_first}
-use Rattle.office_holding.specs.Denials.{denial_of_name, hold_denials_in, name_denial}
-use Rattle.office_holding.specs.Targets.{hold_request, is_there_in, subject_of}
+use Rattle.office_by_rows.specs.Refusals.{first_told, full_of_holds, highest_hold, hold_denials, hold_refusals, number_after, of_hold, refusal, release_denial, release_denial_on, released_refusal}
+use Rattle.office_asking.proofs.FirstTold.{none_first}
+use Rattle.office_holding.specs.Targets.{denial_of_name, hold_request, is_there_in, name_denial, subject_of}
 
 -- one that is told stands alone
 pub alone : (why : Option Refusal) → first_told (Some why ∷ []) ≡ Some why
@@ -50,26 +49,20 @@ module _ (t : Tables) (visit : Visit) where
   -- ---- a hold
 
   -- on a collection or a class
-  pub name_denied : (target : Target) (said : Option (Option Refusal)) → held_deposit target ≡ None → name_denial t visit acts.Hold target ≡ Some said → first_told (hold_denials_in t visit target) ≡ Some (unwrap_or said (Some (NoSuch (subject_of target))))
+  pub name_denied : (target : Target) (said : Option (Option Refusal)) → held_deposit target ≡ None → name_denial t visit acts.Hold target ≡ Some said → first_told (hold_denials t visit target) ≡ Some (unwrap_or said (Some (NoSuch (subject_of target))))
   name_denied (OnDeposit n) said named e = absurd cc
   name_denied (OnCollection name) said named e = missing_or (has_collection name t) (denial_in t visit acts.Hold (Some name) None) (NoSuch subjects.Collection) said e
   name_denied (OnClass name) said named e = missing_or (is_there_in t (OnClass name)) (denial_in t visit acts.Hold None (Some name)) (NoSuch subjects.Class) said e
 
-  asked_as : (target : Target) (matter : List ℕ) → first_told (hold_denials_in t visit target ++ full_of_holds t ∷ []) ≡ refusal t visit (hold_request target matter)
-  asked_as (OnDeposit n) matter = by (deposit_numbered (pos n) t.deposits)
-    where
-      by : (o : Option DepositRow) → first_told (of_deposit o (kept_refusals t visit acts.Hold) ++ full_of_holds t ∷ []) ≡ first_told (of_deposit o (hold_refusals t visit))
-      by None = refl
-      by (Some row) = refl
-  asked_as (OnCollection name) matter = refl
-  asked_as (OnClass name) matter = refl
+  -- where nothing stands before that the office is full
+  pub full_first : (target : Target) (full : Option Refusal) → first_told (hold_denials t visit target) ≡ Some None → full_of_holds t ≡ Some full → first_told (hold_refusals t visit target) ≡ Some full
+  full_first target full none is = none_first (hold_denials t visit target) (full_of_holds t ∷ []) none ∙ ap (λ o. first_told (o ∷ [])) is ∙ alone full
 
-  -- what stands against a hold, before that the office is full
-  pub refused_first : (target : Target) (matter : List ℕ) (why : Refusal) → first_told (hold_denials_in t visit target) ≡ Some (Some why) → refusal t visit (hold_request target matter) ≡ Some (Some why)
-  refused_first target matter why denied = sym (asked_as target matter) ∙ one_first (hold_denials_in t visit target) (full_of_holds t ∷ []) why denied
-
-  pub full_first : (target : Target) (matter : List ℕ) (full : Option Refusal) → first_told (hold_denials_in t visit target) ≡ Some None → full_of_holds t ≡ Some full → refusal t visit (hold_request target matter) ≡ Some full
-  full_first target matter full none is = sym (asked_as target matter) ∙ none_first (hold_denials_in t visit target) (full_of_holds t ∷ []) none ∙ ap (λ o. first_told (o ∷ [])) is ∙ alone full
+  -- the request for a hold meets what stands against a hold of its target
+  pub hold_refused : (target : Target) (matter : List ℕ) → refusal t visit (hold_request target matter) ≡ first_told (hold_refusals t visit target)
+  hold_refused (OnDeposit n) matter = refl
+  hold_refused (OnCollection name) matter = refl
+  hold_refused (OnClass name) matter = refl
 
   -- where the next number is known
   pub hold_answered : (target : Target) (matter : List ℕ) (k : ℕ) → number_after (highest_hold t) ≡ Some k → allowed_answer t visit (hold_request target matter) ≡ Some (answers.HoldPlaced k)

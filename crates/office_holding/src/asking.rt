@@ -1,12 +1,11 @@
 //! What the rules say of a collection or a class by its name, where there is one.
 
 ghost use Rattle.std.specs.Prelude.{◌≡◌, Some, option_copied};
-ghost use Rattle.office_tables.specs.Calls.{GoesOnInside, Keeps, Shows, Tells};
+ghost use Rattle.office_tables.specs.Calls.{GoesOnInside, Shows};
 ghost use Rattle.office_history.specs.Pictures.{held_class, held_collection};
 ghost use Rattle.office_asking.specs.Asking.{visit_on};
 ghost use Rattle.office_asking.specs.Told.{held_target};
-ghost use Rattle.office_holding.specs.Denials.{name_denial};
-ghost use Rattle.office_holding.specs.Targets.{is_there_in};
+ghost use Rattle.office_holding.specs.Targets.{is_there_in, name_denial};
 
 use office_asking::denial;
 use office_core::{Action, Day, Refusal};
@@ -19,8 +18,7 @@ fn is_there<S: Alter>(
     target: HoldTarget<'_>,
 ) -> Result<bool, TableFault>
     ensures inside { GoesOnInside S.Store tx.old.conn tx.new.conn result }
-    ensures same { Keeps S.Store tx.old.conn.now tx.new.conn.now result }
-    ensures found { Tells S.Store tx.old.conn.now tx.new.conn.now result (λ tables found.
+    ensures reads { Shows S.Store tx.old.conn.now tx.new.conn.now result (λ tables found.
         found ≡ is_there_in tables (held_target target.entry)) }
 {
     match target {

@@ -1,16 +1,15 @@
 //! Holds that are placed on deposits, collections and classes.
 
-ghost use Rattle.std.specs.Prelude.{◌≡◌, IfOk, List, Some, pos, ℕ};
+ghost use Rattle.std.specs.Prelude.{◌≡◌, IfOk, Some, pos};
 ghost use Rattle.std.specs.Result.{result_err};
 ghost use Rattle.office_core.specs.declared.request.Request.TheVariants as requests;
 ghost use Rattle.office_rows.specs.Rows.{with_hold};
 ghost use Rattle.office_tables.specs.Calls.{GoesOnInside, Shows};
 ghost use Rattle.office_by_rows.specs.Changes.{counted_over, new_hold};
-ghost use Rattle.office_by_rows.specs.Refusals.{first_told, full_of_holds, highest_hold, number_after, refusal};
+ghost use Rattle.office_by_rows.specs.Refusals.{first_told, full_of_holds, highest_hold, hold_denials, hold_refusals, number_after};
 ghost use Rattle.office_asking.specs.Asking.{visit_on};
 ghost use Rattle.office_asking.specs.Serving.{Changes, Serves};
 ghost use Rattle.office_asking.specs.Told.{held_target};
-ghost use Rattle.office_holding.specs.Denials.{hold_denials_in};
 ghost use Rattle.office_holding.specs.Targets.{hold_request, subject_of};
 
 use crate::asking::name_denial;
@@ -24,10 +23,9 @@ use sqlite::{Alter, Transaction};
 /// The number of the next hold, where the office takes one more.
 fn next_hold<S: Alter>(tx: &mut Transaction<'_, S>) -> Result<Result<u32, Refusal>, TableFault>
     ensures inside { GoesOnInside S.Store tx.old.conn tx.new.conn result }
-    ensures full { Shows S.Store tx.old.conn.now tx.new.conn.now result (λ tables place.
-        full_of_holds tables ≡ Some (result_err place)) }
-    ensures number { Shows S.Store tx.old.conn.now tx.new.conn.now result (λ tables place.
-        IfOk place (λ number. number_after (highest_hold tables) ≡ Some number)) }
+    ensures reads { Shows S.Store tx.old.conn.now tx.new.conn.now result (λ tables place.
+        (full_of_holds tables ≡ Some (result_err place))
+        × IfOk place (λ number. number_after (highest_hold tables) ≡ Some number)) }
 {
     let limits = limits(tx)?;
     let last = last_hold(tx)?;
@@ -73,7 +71,7 @@ fn hold_denial<S: Alter>(
 ) -> Result<Option<Refusal>, TableFault>
     ensures inside { GoesOnInside S.Store tx.old.conn tx.new.conn result }
     ensures reads { Shows S.Store tx.old.conn.now tx.new.conn.now result (λ tables why.
-        first_told (hold_denials_in tables (visit_on day caller.now) (held_target target.entry))
+        first_told (hold_denials tables (visit_on day caller.now) (held_target target.entry))
         ≡ Some why) }
 {
     match target {
@@ -96,12 +94,9 @@ fn place_for<S: Alter>(
 ) -> Result<Result<u32, Refusal>, TableFault>
     ensures inside { GoesOnInside S.Store tx.old.conn tx.new.conn result }
     ensures reads { Shows S.Store tx.old.conn.now tx.new.conn.now result (λ tables place.
-        (matter : List ℕ)
-        → refusal tables (visit_on day caller.now)
-        (hold_request (held_target target.entry) matter)
-        ≡ Some (result_err place)) }
-    ensures number { Shows S.Store tx.old.conn.now tx.new.conn.now result (λ tables place.
-        IfOk place (λ number. number_after (highest_hold tables) ≡ Some number)) }
+        (first_told (hold_refusals tables (visit_on day caller.now) (held_target target.entry))
+        ≡ Some (result_err place))
+        × IfOk place (λ number. number_after (highest_hold tables) ≡ Some number)) }
 {
     if let Some(why) = hold_denial(tx, day, caller, target)? {
         return Ok(Err(why));

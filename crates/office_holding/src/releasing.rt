@@ -84,8 +84,8 @@ fn unless_refused(
 ) -> Result<Result<HoldRow, Refusal>, TableFault>
     ensures failure { IfErr result IsFailure }
     ensures reads { IfOk result (λ found.
-        first_told (Some denied ∷ released_refusal hold ∷ []) ≡ Some (result_err found)) }
-    ensures row { IfOk result (λ found. IfOk found (λ row. row ≡ hold)) }
+        (first_told (Some denied ∷ released_refusal hold ∷ []) ≡ Some (result_err found))
+        × IfOk found (λ row. row ≡ hold)) }
     // It fails with `Store` exactly where the rows tell nothing.
     ensures none { IfErr result (λ fault.
         (fault ≡ TableFault.Store)
@@ -115,10 +115,9 @@ fn releasable_hold<S: Alter>(
 ) -> Result<Result<HoldRow, Refusal>, TableFault>
     ensures inside { GoesOnInside S.Store tx.old.conn tx.new.conn result }
     ensures reads { Shows S.Store tx.old.conn.now tx.new.conn.now result (λ tables found.
-        refusal tables (visit_on day caller.now) (requests.Release number)
-        ≡ Some (result_err found)) }
-    ensures row { Shows S.Store tx.old.conn.now tx.new.conn.now result (λ tables found.
-        IfOk found (λ row. hold_numbered (pos number) tables.holds ≡ Some row)) }
+        (refusal tables (visit_on day caller.now) (requests.Release number)
+        ≡ Some (result_err found))
+        × IfOk found (λ row. hold_numbered (pos number) tables.holds ≡ Some row)) }
 {
     let Some(hold) = hold_row(tx, number)? else {
         return Ok(Err(Refusal::NoSuch(Subject::Hold)));

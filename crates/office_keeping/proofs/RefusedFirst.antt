@@ -1,5 +1,5 @@
 -- What the refusals of a deposit and of a disposal come to, each as the rows tell it.
-use Rattle.std.proofs.Common.{◌≡◌, ℕ, ℤ, pos, true, false, not, List, [], ◌∷◌, map, Option, Some, None, Result, IfOk, option_map, is_some, is_none, refl, sym, ap, subst, ◌∙◌}
+use Rattle.std.proofs.Common.{◌≡◌, ℕ, ℤ, pos, true, false, not, List, [], ◌∷◌, map, Option, Some, None, Result, Ok, Err, IfOk, option_map, is_some, is_none, refl, sym, ap, subst, ◌∙◌}
 use Rattle.std.proofs.lemmas.Bool.Decides.{Decides-int_eq}
 use Rattle.sqlite.specs.Effect.{Database}
 use Rattle.office_core.specs.FirstOf.{answer_if, first_some}
@@ -16,6 +16,11 @@ use Rattle.office_by_rows.specs.Refusals.{first_told, no_such_class, place_refus
 -- where the calls before changed no row, what is shown after them is shown of the rows before them
 pub shown_first : {B E : Type 0} {old mid : Database} (new : Database) → mid ≡ old → (second : Result B E) (is_so : Tables → B → Type 0) → IfOk second (λ shown. (new ≡ mid) × is_so (tables_of mid) shown) → IfOk second (λ shown. (new ≡ old) × is_so (tables_of old) shown)
 shown_first new same second is_so = subst (λ db. IfOk second (λ shown. (new ≡ db) × is_so (tables_of db) shown)) same
+
+-- what two facts of an Ok come to
+pub both_of_ok : {A E : Type 0} (result : Result A E) (P Q R : A → Type 0) → ((x : A) → P x → Q x → R x) → IfOk result P → IfOk result Q → IfOk result R
+both_of_ok (Ok x) P Q R both p q = both x p q
+both_of_ok (Err fault) P Q R both p q = tt
 
 -- of one refusal, whether it stands or not
 pub one_told : (why : Option Refusal) → first_told (Some why ∷ []) ≡ Some why

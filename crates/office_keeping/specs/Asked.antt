@@ -1,14 +1,11 @@
 -- What is asked with a deposit, as the functions over rows take it.
-use Rattle.std.specs.Prelude.{ℕ, List, [], ◌∷◌, ◌++◌, Option, Some}
+use Rattle.std.specs.Prelude.{ℕ, List}
 use Rattle.std.specs.Borrow.{Bor}
 use Rattle.bag_text.specs.TransferForm.{File}
-use Rattle.office_core.specs.declared.refusal.Refusal.{Refusal}
 use Rattle.office_core.specs.declared.request.Request.{Request}
 use Rattle.office_core.specs.declared.request.Request.TheVariants as requests
-use Rattle.office_rows.specs.Rows.{DepositRow, Tables}
-use Rattle.office_history.specs.Refusals.{closed_ahead_refusal}
+use Rattle.office_rows.specs.Rows.{DepositRow}
 use Rattle.office_by_rows.specs.Changes.{new_deposit}
-use Rattle.office_by_rows.specs.Refusals.{place_refusals, taken_refusal}
 use Rattle.office_asking.specs.Asking.{Visit, visit_on}
 use Rattle.office_keeping.specs.declared.asked.DepositAsked.{DepositAsked}
 
@@ -23,8 +20,3 @@ request_of asked bag = requests.Deposit asked.collection.now asked.class.now ask
 -- the row of the deposit, with the number that it gets
 abbrev pub row_of : DepositAsked → ℕ → List File → DepositRow
 row_of asked n bag = new_deposit n asked.collection.now asked.class.now asked.accession.now asked.closed asked.day bag
-
--- the refusals that need no bag: of the place, of the accession and of the closing day
-abbrev pub first_refusals : Tables → DepositAsked → List (Option (Option Refusal))
-first_refusals t asked =
-    place_refusals t (visit_of asked) asked.collection.now asked.class.now ++ taken_refusal t asked.accession.now ∷ Some (closed_ahead_refusal asked.day asked.closed) ∷ []

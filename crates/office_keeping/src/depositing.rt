@@ -3,14 +3,13 @@
 ghost use Rattle.std.specs.Prelude.{◌≡◌, IfErr, IfOk, [], ◌∷◌, Ok, Some};
 ghost use Rattle.std.specs.Result.{result_err};
 ghost use Rattle.office_core.specs.FirstOf.{first_some};
-ghost use Rattle.office_tables.specs.Faults.{IsFailure};
 ghost use Rattle.office_tables.specs.Calls.{GoesOnInside, Shows};
 ghost use Rattle.office_history.specs.Bags.{bag_of};
 ghost use Rattle.office_history.specs.Refusals.{bad_bag, closed_ahead_refusal};
 ghost use Rattle.office_by_rows.specs.Refusals as by_rows;
-ghost use Rattle.office_by_rows.specs.Refusals.{first_told, highest_deposit, number_after};
+ghost use Rattle.office_by_rows.specs.Refusals.{first_told, full_of_deposits, highest_deposit, number_after, refusals_before_the_bag, refusals_of_the_bag};
 ghost use Rattle.office_asking.specs.Serving.{Serves};
-ghost use Rattle.office_keeping.specs.Asked.{first_refusals, request_of, visit_of};
+ghost use Rattle.office_keeping.specs.Asked.{request_of, visit_of};
 
 use crate::asked::DepositAsked;
 use crate::keeping::keep;
@@ -85,7 +84,10 @@ fn refusal_before_the_bag<S: Alter>(
 ) -> Result<Option<Refusal>, TableFault>
     ensures inside { GoesOnInside S.Store tx.old.conn tx.new.conn result }
     ensures reads { Shows S.Store tx.old.conn.now tx.new.conn.now result (λ tables why.
-        first_told (first_refusals tables asked.now) ≡ Some why) }
+        first_told
+        (refusals_before_the_bag tables (visit_of asked.now) asked.now.collection.now
+        asked.now.class.now asked.now.accession.now asked.now.closed)
+        ≡ Some why) }
 {
     if let Some(why) = place_refusal(tx, asked)? {
         return Ok(Some(why));
@@ -99,10 +101,9 @@ fn refusal_before_the_bag<S: Alter>(
 /// The number of the next deposit, where the office takes one more.
 fn next_number<S: Alter>(tx: &mut Transaction<'_, S>) -> Result<Result<u32, Refusal>, TableFault>
     ensures inside { GoesOnInside S.Store tx.old.conn tx.new.conn result }
-    ensures full { Shows S.Store tx.old.conn.now tx.new.conn.now result (λ tables next.
-        by_rows.full_of_deposits tables ≡ Some (result_err next)) }
-    ensures number { Shows S.Store tx.old.conn.now tx.new.conn.now result (λ tables next.
-        IfOk next (λ number. number_after (highest_deposit tables) ≡ Some number)) }
+    ensures reads { Shows S.Store tx.old.conn.now tx.new.conn.now result (λ tables next.
+        (full_of_deposits tables ≡ Some (result_err next))
+        × IfOk next (λ number. number_after (highest_deposit tables) ≡ Some number)) }
 {
     let limits = limits(tx)?;
     let last = last_deposit(tx)?;
@@ -123,12 +124,11 @@ fn judged_bag<'a>(
     text: &'a [u8],
     number: Result<u32, Refusal>,
 ) -> Result<Result<NewBag<'a>, Refusal>, TableFault>
-    ensures failure { IfErr result IsFailure }
     ensures memory { IfErr result (λ fault. fault ≡ TableFault.Memory) }
     ensures refused { IfOk result (λ asked.
         result_err asked ≡ first_some (bad_bag text.entry.now ∷ result_err number ∷ [])) }
-    ensures given { IfOk result (λ asked. IfOk asked (λ new. number ≡ Ok new.number)) }
-    ensures bag { IfOk result (λ asked. IfOk asked (λ new. bag_of text.entry.now ≡ Ok new.bag)) }
+    ensures given { IfOk result (λ asked. IfOk asked (λ new.
+        (bag_of text.entry.now ≡ Ok new.bag) × (number ≡ Ok new.number))) }
 {
     let bag = match valid_bag(alloc, text)? {
         Ok(bag) => bag,
@@ -148,11 +148,9 @@ fn numbered_bag<'a, S: Alter>(
     text: &'a [u8],
 ) -> Result<Result<NewBag<'a>, Refusal>, TableFault>
     ensures inside { GoesOnInside S.Store tx.old.conn tx.new.conn result }
-    ensures refused { Shows S.Store tx.old.conn.now tx.new.conn.now result (λ tables asked.
-        first_told (Some (bad_bag text.entry.now) ∷ by_rows.full_of_deposits tables ∷ [])
-        ≡ Some (result_err asked)) }
-    ensures number { Shows S.Store tx.old.conn.now tx.new.conn.now result (λ tables asked.
-        IfOk asked (λ new. number_after (highest_deposit tables) ≡ Some new.number)) }
+    ensures reads { Shows S.Store tx.old.conn.now tx.new.conn.now result (λ tables asked.
+        (first_told (refusals_of_the_bag tables text.entry.now) ≡ Some (result_err asked))
+        × IfOk asked (λ new. number_after (highest_deposit tables) ≡ Some new.number)) }
     ensures bag { IfOk result (λ asked. IfOk asked (λ new. bag_of text.entry.now ≡ Ok new.bag)) }
 {
     let number = next_number(tx)?;
@@ -167,11 +165,10 @@ fn new_bag<'a, S: Alter>(
     text: &'a [u8],
 ) -> Result<Result<NewBag<'a>, Refusal>, TableFault>
     ensures inside { GoesOnInside S.Store tx.old.conn tx.new.conn result }
-    ensures refused { Shows S.Store tx.old.conn.now tx.new.conn.now result (λ tables given.
-        by_rows.refusal tables (visit_of asked.now) (request_of asked.now text.entry)
-        ≡ Some (result_err given)) }
-    ensures number { Shows S.Store tx.old.conn.now tx.new.conn.now result (λ tables given.
-        IfOk given (λ new. number_after (highest_deposit tables) ≡ Some new.number)) }
+    ensures reads { Shows S.Store tx.old.conn.now tx.new.conn.now result (λ tables given.
+        (by_rows.refusal tables (visit_of asked.now) (request_of asked.now text.entry)
+        ≡ Some (result_err given))
+        × IfOk given (λ new. number_after (highest_deposit tables) ≡ Some new.number)) }
     ensures bag { IfOk result (λ given. IfOk given (λ new. bag_of text.entry.now ≡ Ok new.bag)) }
 {
     if let Some(why) = refusal_before_the_bag(tx, asked)? {

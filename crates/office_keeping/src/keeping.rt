@@ -1,9 +1,8 @@
 //! A bag that is kept: its deposit's row with what is kept beside it, and its files.
 
-ghost use Rattle.std.specs.Prelude.{◌≡◌, IfErr, IfOk, ◌<◌, ◌^◌, Ok, Some, option_map, pos};
+ghost use Rattle.std.specs.Prelude.{◌≡◌, IfErr, OkIff, ◌<◌, ◌^◌, Some, option_map, pos};
 ghost use Rattle.bag_text.specs.TransferReading.{file_of, files_of};
 ghost use Rattle.office_rows.specs.Rows.{with_file};
-ghost use Rattle.office_tables.specs.Faults.{IsFailure};
 ghost use Rattle.office_tables.specs.Calls.{GoesOnInTurn, GoesOnInside, Shows};
 ghost use Rattle.office_tables.specs.Deposits.{added_row};
 ghost use Rattle.office_core.specs.Retention.{due_number};
@@ -56,9 +55,7 @@ fn add_files<S: Alter>(
 
 /// The number that stands in a row for a count.
 fn row_count(count: usize) -> Result<i64, TableFault>
-    ensures same { IfOk result (λ number. number ≡ pos count) }
-    ensures fits { count < 2 ^ 63 → result ≡ Ok (pos count) }
-    ensures failure { IfErr result IsFailure }
+    ensures fits { OkIff result (count < 2 ^ 63) (pos count) }
     ensures store { IfErr result (λ fault. fault ≡ TableFault.Store) }
 {
     match i64::try_from(count) {
@@ -84,13 +81,11 @@ fn beside_row<S: Alter>(
     number: u32,
 ) -> Result<Beside, TableFault>
     ensures inside { GoesOnInside S.Store tx.old.conn tx.new.conn result }
-    ensures reads_due { Shows S.Store tx.old.conn.now tx.new.conn.now result (λ tables beside.
-        option_map due_number (due_in tables asked.now.class.now asked.now.closed)
-        ≡ Some beside.due) }
-    ensures reads_holds { Shows S.Store tx.old.conn.now tx.new.conn.now result (λ tables beside.
-        option_map pos
-        (count_in tables number asked.now.collection.now asked.now.class.now)
-        ≡ Some beside.holds) }
+    ensures reads { Shows S.Store tx.old.conn.now tx.new.conn.now result (λ tables beside.
+        (option_map due_number (due_in tables asked.now.class.now asked.now.closed)
+        ≡ Some beside.due)
+        × (option_map pos (count_in tables number asked.now.collection.now asked.now.class.now)
+        ≡ Some beside.holds)) }
 {
     let collection = asked.collection.as_str();
     let class = asked.class.as_str();

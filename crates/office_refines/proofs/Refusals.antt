@@ -26,7 +26,7 @@ use Rattle.office_history.specs.Runs.{IsLegal}
 use Rattle.office_by_rows.specs.Values.{count_of, day_numbered, if_any}
 use Rattle.office_by_rows.specs.Asking.{Visit, denial_in, target_named, target_of}
 use Rattle.office_by_rows.proofs.Days.{days_back}
-use Rattle.office_by_rows.specs.Refusals.{bag_refusals, disposal_facts, disposal_refusal, first_told, full_after, full_of_deposits, full_of_holds, gone_refusal, highest_deposit, highest_hold, hold_refusals, kept_refusals, no_such_class, no_such_collection, number_after, of_deposit, of_hold, place_refusals, refusal, refusals, release_denial, release_denial_at, release_denial_on, released_refusal, taken_refusal}
+use Rattle.office_by_rows.specs.Refusals.{disposal_facts, disposal_refusal, first_told, full_after, full_of_deposits, full_of_holds, gone_refusal, highest_deposit, highest_hold, hold_refusals, kept_refusals, no_such_class, no_such_collection, number_after, of_deposit, of_hold, refusal, refusals, refusals_before_the_bag, refusals_of_the_bag, release_denial, release_denial_at, release_denial_on, released_refusal, taken_refusal}
 use Rattle.office_history.proofs.ListLemmas.{all_numbered}
 use Rattle.office_refines.specs.Refining.{refusal_before}
 use Rattle.office_refines.proofs.ClassesTold.{years_of_row}
@@ -117,9 +117,13 @@ module _ (h : History) (legal : IsLegal h) (ranged : AreInRange this_version (pi
   kept_exact visit action n = of_row n (kept_refusals t visit action) (histories.kept_refusals h visit.day visit.caller action n) (λ found there. λ i.
       denial_exact h legal ranged visit action (Some found.1.collection) (Some found.1.class) i ∷ gone_exact n found there i ∷ [])
 
-  hold_exact : (visit : Visit) (n : ℕ) → of_deposit (rows.deposit_numbered (pos n) t.deposits) (hold_refusals t visit) ≡ map Some (histories.of_deposit (deposit_numbered h n) (histories.hold_refusals h visit.day visit.caller n))
-  hold_exact visit n = of_row n (hold_refusals t visit) (histories.hold_refusals h visit.day visit.caller n) (λ found there. λ i.
-      denial_exact h legal ranged visit acts.Hold (Some found.1.collection) (Some found.1.class) i ∷ gone_exact n found there i ∷ holds_full i ∷ [])
+  -- where there is no such deposit, the rows list after that refusal that the office is full, and the history lists no more
+  hold_exact : (visit : Visit) (n : ℕ) → first_told (hold_refusals t visit (OnDeposit n)) ≡ Some (first_some (histories.of_deposit (deposit_numbered h n) (histories.hold_refusals h visit.day visit.caller n)))
+  hold_exact visit n = ap (λ these. first_told (these ++ full_of_holds t ∷ [])) (kept_exact visit acts.Hold n) ∙ by (deposit_numbered h n)
+    where
+      by : (o : Option (Date × Deposit)) → first_told (map Some (histories.of_deposit o (histories.kept_refusals h visit.day visit.caller acts.Hold n)) ++ full_of_holds t ∷ []) ≡ Some (first_some (histories.of_deposit o (histories.hold_refusals h visit.day visit.caller n)))
+      by None = refl
+      by (Some found) = ap (λ full. first_told (map Some (histories.kept_refusals h visit.day visit.caller acts.Hold n found.1) ++ full ∷ [])) holds_full ∙ first_exact (histories.hold_refusals h visit.day visit.caller n found.1)
 
   -- ---- a release
 
@@ -180,7 +184,7 @@ module _ (h : History) (legal : IsLegal h) (ranged : AreInRange this_version (pi
 
   -- ---- any request
 
-  bag_exact : (visit : Visit) (collection class accession : List ℕ) (closed : Date) (bag : List ℕ) → place_refusals t visit collection class ++ bag_refusals t visit.day accession closed bag ≡ map Some (histories.place_refusals h visit.day visit.caller collection class ++ histories.bag_refusals h visit.day accession closed bag)
+  bag_exact : (visit : Visit) (collection class accession : List ℕ) (closed : Date) (bag : List ℕ) → refusals_before_the_bag t visit collection class accession closed ++ refusals_of_the_bag t bag ≡ map Some (histories.place_refusals h visit.day visit.caller collection class ++ histories.bag_refusals h visit.day accession closed bag)
   bag_exact visit collection class accession closed bag = λ i.
       Some (no_collection collection i) ∷ Some (no_class class i) ∷ denial_exact h legal ranged visit acts.Deposit (Some collection) (Some class) i
       ∷ taken_exact accession i ∷ Some (histories.closed_ahead_refusal visit.day closed) ∷ Some (histories.bad_bag bag) ∷ deposits_full i ∷ []
@@ -199,7 +203,7 @@ module _ (h : History) (legal : IsLegal h) (ranged : AreInRange this_version (pi
   refusal_exact visit (DownloadBag n) = list_exact visit (DownloadBag n) (histories.refusals h visit.day visit.caller (DownloadBag n)) (kept_exact visit acts.Download n)
   refusal_exact visit (DownloadFile n path) = list_exact visit (DownloadFile n path) (histories.refusals h visit.day visit.caller (DownloadBag n)) (kept_exact visit acts.Download n)
   refusal_exact visit (Audit n) = list_exact visit (Audit n) (histories.refusals h visit.day visit.caller (Audit n)) (kept_exact visit acts.Audit n)
-  refusal_exact visit (HoldDeposit n matter) = list_exact visit (HoldDeposit n matter) (histories.refusals h visit.day visit.caller (HoldDeposit n matter)) (hold_exact visit n)
+  refusal_exact visit (HoldDeposit n matter) = hold_exact visit n
   refusal_exact visit (HoldCollection name matter) = list_exact visit (HoldCollection name matter) (histories.refusals h visit.day visit.caller (HoldCollection name matter)) (λ i. Some (no_collection name i) ∷ denial_exact h legal ranged visit acts.Hold (Some name) None i ∷ holds_full i ∷ [])
   refusal_exact visit (HoldClass name matter) = list_exact visit (HoldClass name matter) (histories.refusals h visit.day visit.caller (HoldClass name matter)) (λ i. Some (no_class name i) ∷ denial_exact h legal ranged visit acts.Hold None (Some name) i ∷ holds_full i ∷ [])
   refusal_exact visit (Release k) = list_exact visit (Release k) (histories.refusals h visit.day visit.caller (Release k)) (release_exact visit k)

@@ -5,7 +5,7 @@ use Rattle.office_tables.proofs.InTurn.{clean_first}
 use Rattle.office_asking.specs.Asking.{visit_on}
 use Rattle.office_asking.specs.Told.{held_target}
 use Rattle.office_asking.proofs.RowsTold.{office_still, told_before}
-use Rattle.office_holding.specs.Denials.{denial_of_name}
+use Rattle.office_holding.specs.Targets.{denial_of_name}
 use Rattle.office_holding.proofs.Denied.{no_name, of_name}
 use Rattle.office_holding.proofs.asking.name_denial.Goals as goal
 
@@ -14,7 +14,8 @@ returns-then-not-branch-clause-reads g c clean office =
     let a = c.args in
     let t = tables_of (state g.S.Store a.tx.now.conn.now).now in
     let none : false ≡ c.in_ok-is_there.field-0 = search rules in
-    (c.in_ok-is_there.ensures.same clean office, no_name t (visit_on a.day a.caller.now) a.action (held_target a.target) (none ∙ c.in_ok-is_there.ensures.found clean office))
+    let there = c.in_ok-is_there.ensures.reads clean office in
+    (there.0, no_name t (visit_on a.day a.caller.now) a.action (held_target a.target) (none ∙ there.1))
 
 pub returns-clause-reads : goal.returns-clause-reads
 returns-clause-reads g c clean office =
@@ -22,8 +23,8 @@ returns-clause-reads g c clean office =
     let t = tables_of (state g.S.Store a.tx.now.conn.now).now in
     let visit = visit_on a.day a.caller.now in
     let early = clean_first c.denial.ensures.inside.stays clean in
-    let same = c.in_ok-is_there.ensures.same early office in
+    let there = c.in_ok-is_there.ensures.reads early office in
     let some : true ≡ c.in_ok-is_there.field-0 = search rules in
-    let asked = c.in_ok-why.ensures.reads clean (office_still same office) in
-    let said = told_before same (λ t. denial_of_name t visit a.action (held_target a.target) ≡ Some c.in_ok-why.why) (rw (c.names_of.ensures.collection, c.names_of.ensures.class) at asked.1) in
-    (asked.0 ∙ same, of_name t visit a.action (held_target a.target) c.in_ok-why.why (some ∙ c.in_ok-is_there.ensures.found early office) said)
+    let asked = c.in_ok-why.ensures.reads clean (office_still there.0 office) in
+    let said = told_before there.0 (λ t. denial_of_name t visit a.action (held_target a.target) ≡ Some c.in_ok-why.why) (rw (c.names_of.ensures.collection, c.names_of.ensures.class) at asked.1) in
+    (asked.0 ∙ there.0, of_name t visit a.action (held_target a.target) c.in_ok-why.why (some ∙ there.1) said)

@@ -12,7 +12,7 @@ use Rattle.office_asking.specs.Told.{held_target}
 use Rattle.office_asking.proofs.RowsTold.{office_still}
 use Rattle.office_asking.proofs.ServedBy.{allowed_by, changed_after, changed_as, refused_by}
 use Rattle.office_holding.specs.Targets.{hold_request}
-use Rattle.office_holding.proofs.Denied.{hold_answered, hold_rows}
+use Rattle.office_holding.proofs.Denied.{hold_answered, hold_refused, hold_rows}
 use Rattle.office_holding.proofs.placing.hold.Goals as goal
 
 pub returns-in_ok-place-in-Ok-clause-serves : goal.returns-in_ok-place-in-Ok-clause-serves
@@ -24,14 +24,17 @@ returns-in_ok-place-in-Ok-clause-serves g c clean office =
     let request = hold_request target a.matter.now in
     let early = clean_first c.place.ensures.inside.stays clean in
     let asked = c.in_ok-hold.ensures.reads early office in
-    let next = subst (λ r. IfOk r (λ number. number_after (highest_hold t) ≡ Some number)) c.in-Ok.is (c.in_ok-hold.ensures.number early office).1 in
+    let next = subst (λ r. IfOk r (λ number. number_after (highest_hold t) ≡ Some number)) c.in-Ok.is asked.1.1 in
     let write = λ (t : Tables). counted_over target (pos 1) (with_hold (new_hold c.in-Ok.hold target a.matter.now a.day) t) in
     let placed = changed_after write asked.0 (c.in_ok-place-in-Ok.ensures.changes clean (office_still asked.0 office)) in
-    allowed_by visit request (answers.HoldPlaced c.in-Ok.hold) refl refl (asked.1 a.matter.now ∙ ap (λ r. Some (result_err r)) c.in-Ok.is) (hold_answered t visit target a.matter.now c.in-Ok.hold next)
+    allowed_by visit request (answers.HoldPlaced c.in-Ok.hold) refl refl (hold_refused t visit target a.matter.now ∙ asked.1.0 ∙ ap (λ r. Some (result_err r)) c.in-Ok.is) (hold_answered t visit target a.matter.now c.in-Ok.hold next)
     (changed_as write (λ t. allowed_rows t visit request) (hold_rows t visit target a.matter.now c.in-Ok.hold next) placed)
 
 pub returns-in-Err-clause-serves : goal.returns-in-Err-clause-serves
 returns-in-Err-clause-serves g c clean office =
     let a = c.args in
+    let t = tables_of (state g.S.Store a.tx.now.conn.now).now in
+    let visit = visit_on a.day a.caller.now in
+    let target = held_target a.target in
     let asked = c.in_ok-hold.ensures.reads clean office in
-    refused_by (visit_on a.day a.caller.now) (hold_request (held_target a.target) a.matter.now) c.in-Err.why office asked.0 (asked.1 a.matter.now ∙ ap (λ r. Some (result_err r)) c.in-Err.is)
+    refused_by visit (hold_request target a.matter.now) c.in-Err.why office asked.0 (hold_refused t visit target a.matter.now ∙ asked.1.0 ∙ ap (λ r. Some (result_err r)) c.in-Err.is)

@@ -16,10 +16,7 @@ returns-in_default-clause-reads g c clean office =
     let a = c.args in
     let t = tables_of (state g.S.Store a.tx.now.conn.now).now in
     let none : None ≡ c.in_ok-hold.field-0 = search rules in
-    (c.in_ok-hold.ensures.same clean office, no_hold t (visit_on a.day a.caller.now) a.number (sym (none ∙ c.in_ok-hold.ensures.found clean office)))
-
-pub returns-in_default-clause-row : goal.returns-in_default-clause-row
-returns-in_default-clause-row g c clean office = (c.in_ok-hold.ensures.same clean office, tt)
+    (c.in_ok-hold.ensures.same clean office, (no_hold t (visit_on a.day a.caller.now) a.number (sym (none ∙ c.in_ok-hold.ensures.found clean office)), tt))
 
 pub returns-clause-reads : goal.returns-clause-reads
 returns-clause-reads g c clean office =
@@ -32,15 +29,11 @@ returns-clause-reads g c clean office =
     let target = held_target c.in_ok-target.target in
     let denied = c.in_ok-denied.ensures.reads clean (office_still same office) in
     let denial = told_before same (λ t. release_denial_on t visit target ≡ Some c.in_ok-denied.denied) denied.1 in
-    IfOk-weaker c.unless_refused.result _ _ (λ found first. (denied.0 ∙ same, release_refused t visit a.number c.in-Some.hold target there c.in_ok-target.ensures.reads c.in_ok-denied.denied (result_err found) denial first)) c.unless_refused.ensures.reads
-
-pub returns-clause-row : goal.returns-clause-row
-returns-clause-row g c clean office =
-    let early = clean_first c.release_denial.ensures.inside.stays clean in
-    let same = c.in_ok-hold.ensures.same early office in
-    let there = sym (c.in_ok-hold.ensures.found early office) ∙ c.in-Some.is in
-    let denied = c.in_ok-denied.ensures.reads clean (office_still same office) in
-    IfOk-weaker c.unless_refused.result _ _ (λ found is. (denied.0 ∙ same, IfOk-weaker found _ _ (λ row e. there ∙ ap Some (sym e)) is)) c.unless_refused.ensures.row
+    IfOk-weaker c.unless_refused.result _ _
+    (λ found first.
+    let refused = release_refused t visit a.number c.in-Some.hold target there c.in_ok-target.ensures.reads c.in_ok-denied.denied (result_err found) denial first.0 in
+    (denied.0 ∙ same, (refused, IfOk-weaker found _ _ (λ row is. there ∙ ap Some (sym is)) first.1)))
+    c.unless_refused.ensures.reads
 
 pub returns-clause-inside : goal.returns-clause-inside
 returns-clause-inside g c = inside_after c.in_ok-hold.ensures.inside c.in_ok-denied.ensures.inside _ c.unless_refused.ensures.failure

@@ -23,8 +23,8 @@ returns-clause-inside g c = inside_after c.in_ok-new.ensures.inside c.in_ok-keep
 
 pub returns-in-Err-clause-serves : goal.returns-in-Err-clause-serves
 returns-in-Err-clause-serves g c clean office =
-    let asked = c.in_ok-new.ensures.refused clean office in
-    refused_by (visit_of c.args.asked.now) (request_of c.args.asked.now c.args.bag) c.in-Err.why office asked.0 (asked.1 ∙ ap (λ new. Some (result_err new)) c.in-Err.is)
+    let asked = c.in_ok-new.ensures.reads clean office in
+    refused_by (visit_of c.args.asked.now) (request_of c.args.asked.now c.args.bag) c.in-Err.why office asked.0 (asked.1.0 ∙ ap (λ new. Some (result_err new)) c.in-Err.is)
 
 pub returns-clause-serves : goal.returns-clause-serves
 returns-clause-serves g c clean office =
@@ -33,11 +33,11 @@ returns-clause-serves g c clean office =
     let t = tables_of (state g.S.Store c.args.tx.now.conn.now).now in
     let n = c.in-Ok.new.number in
     let early = clean_first c.keep.ensures.inside.stays clean in
-    let asked = c.in_ok-new.ensures.refused early office in
-    let number : number_after (highest_deposit t) ≡ Some n = subst (λ new. IfOk new (λ new. number_after (highest_deposit t) ≡ Some new.number)) c.in-Ok.is (c.in_ok-new.ensures.number early office).1 in
+    let asked = c.in_ok-new.ensures.reads early office in
+    let number : number_after (highest_deposit t) ≡ Some n = subst (λ new. IfOk new (λ new. number_after (highest_deposit t) ≡ Some new.number)) c.in-Ok.is asked.1.1 in
     let bag : bag_of text.now ≡ Ok c.in-Ok.new.bag = subst (λ new. IfOk new (λ new. bag_of text.now ≡ Ok new.bag)) c.in-Ok.is c.in_ok-new.ensures.bag in
     let mid = tables_of (state g.S.Store c.new_bag.new.tx.conn.now).now in
     let next : number_after (highest_deposit mid) ≡ Some n = subst (λ db. number_after (highest_deposit (tables_of db)) ≡ Some n) (sym asked.0) number in
-    allowed_by (visit_of q) (request_of q text) (answers.Deposited n) refl asked.0 (asked.1 ∙ ap (λ new. Some (result_err new)) c.in-Ok.is) (ap (option_map answers.Deposited) number)
+    allowed_by (visit_of q) (request_of q text) (answers.Deposited n) refl asked.0 (asked.1.0 ∙ ap (λ new. Some (result_err new)) c.in-Ok.is) (ap (option_map answers.Deposited) number)
     (rewritten_as (kept_as n (row_of q n c.in-Ok.new.bag) q.closed c.in-Ok.new.bag) (λ t. allowed_rows t (visit_of q) (request_of q text)) (λ t k. with_contents_of c.in-Ok.new.bag k) (λ t. contents_after t (request_of q text) (answers.Deposited n))
     (next_kept q text n c.in-Ok.new.bag mid next bag) (ap (λ files. with_contents_of (files_if_bag files) (contents_in (state g.S.Store c.new_bag.new.tx.conn.now).now)) (sym bag)) (c.in_ok-keep.ensures.changes clean (office_still asked.0 office)))

@@ -13,19 +13,13 @@ returns-in_err-last-clause-inside g c = inside_failed c.in_ok-limits.ensures.ins
 pub returns-clause-inside : goal.returns-clause-inside
 returns-clause-inside g c = inside_after c.in_ok-limits.ensures.inside c.in_ok-last.ensures.inside _ (search rules)
 
-pub returns-clause-full : goal.returns-clause-full
-returns-clause-full g c clean office =
+pub returns-clause-reads : goal.returns-clause-reads
+returns-clause-reads g c clean office =
     let limits = c.in_ok-limits.ensures in
     let last = c.in_ok-last.ensures in
     let early = clean_first last.inside.stays clean in
     let same = limits.same early office in
     let highest = told_before same (λ t. option_map pos c.in_ok-last.last ≡ last_number (λ (d : DepositRow). d.number) t.deposits) (last.found clean (office_still same office)) in
-    (last.same clean (office_still same office) ∙ same, (λ i. limits.found early office i >>= λ limits. full_after limits.max_deposits (sym highest i)) ∙ c.number_after.ensures.full)
-
-pub returns-clause-number : goal.returns-clause-number
-returns-clause-number g c clean office =
-    let limits = c.in_ok-limits.ensures in
-    let last = c.in_ok-last.ensures in
-    let same = limits.same (clean_first last.inside.stays clean) office in
-    let highest = told_before same (λ t. option_map pos c.in_ok-last.last ≡ last_number (λ (d : DepositRow). d.number) t.deposits) (last.found clean (office_still same office)) in
-    (last.same clean (office_still same office) ∙ same, IfOk-weaker c.number_after.result _ _ (λ number is. ap number_after (sym highest) ∙ is) c.number_after.ensures.number)
+    let full = (λ i. limits.found early office i >>= λ limits. full_after limits.max_deposits (sym highest i)) ∙ c.number_after.ensures.full in
+    let number = IfOk-weaker c.number_after.result _ _ (λ number is. ap number_after (sym highest) ∙ is) c.number_after.ensures.number in
+    (last.same clean (office_still same office) ∙ same, (full, number))

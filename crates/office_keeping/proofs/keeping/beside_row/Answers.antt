@@ -14,18 +14,13 @@ returns-in_err-holds-clause-inside g c = inside_failed c.in_ok-due.ensures.insid
 pub returns-clause-inside : goal.returns-clause-inside
 returns-clause-inside g c = inside_after c.in_ok-due.ensures.inside c.in_ok-holds.ensures.inside _ (search rules)
 
-pub returns-clause-reads_due : goal.returns-clause-reads_due
-returns-clause-reads_due g c clean office =
-    let first = (rw c.as_str-class.ensures.text at c.in_ok-due.ensures.reads) (clean_first c.live_count.ensures.inside.stays clean) office in
-    let second = c.in_ok-holds.ensures.reads clean (office_still first.0 office) in
-    (second.0 ∙ first.0, ap (option_map due_number) first.1 ∙ ap Some (sym c.number.ensures))
-
-pub returns-clause-reads_holds : goal.returns-clause-reads_holds
-returns-clause-reads_holds g c clean office =
+pub returns-clause-reads : goal.returns-clause-reads
+returns-clause-reads g c clean office =
     let a = c.args in
     let q = a.asked.now in
     let fits : SFits w64 c.in_ok-holds.holds = search rules in
-    let first = c.in_ok-due.ensures.reads (clean_first c.live_count.ensures.inside.stays clean) office in
+    let first = (rw c.as_str-class.ensures.text at c.in_ok-due.ensures.reads) (clean_first c.live_count.ensures.inside.stays clean) office in
     let second = (rw (c.as_str-collection.ensures.text, c.as_str-class.ensures.text) at c.in_ok-holds.ensures.reads) clean (office_still first.0 office) in
+    let due = ap (option_map due_number) first.1 ∙ ap Some (sym c.number.ensures) in
     let count = told_before first.0 (λ t. Some c.in_ok-holds.holds ≡ option_map pos (count_in t a.number q.collection.now q.class.now)) second.1 in
-    (second.0 ∙ first.0, sym count ∙ ap Some (sym (to_z-of_z w64 c.in_ok-holds.holds fits)))
+    (second.0 ∙ first.0, (due, sym count ∙ ap Some (sym (to_z-of_z w64 c.in_ok-holds.holds fits))))

@@ -36,15 +36,14 @@ returns-clause-changes g c clean office =
     let put = c.in_ok-put_row.ensures in
     let add = c.add_files.ensures in
     let early = clean_first put.inside.stays (clean_first add.inside.stays clean) in
-    let due = c.in_ok-beside.ensures.reads_due early office in
-    let holds = c.in_ok-beside.ensures.reads_holds early office in
+    let read = c.in_ok-beside.ensures.reads early office in
     let first = state g.S.Store c.beside_row.new.tx.conn.now in
     let wrote : Changes {T = Unit {0}} {E = TableFault} g.S.Store c.beside_row.new.tx.conn.now c.put_row.new.tx.conn.now (Ok tt) (λ t. Some (with_kept row beside.due beside.holds t)) = λ clean office.
     let it = rw (c.as_str.ensures.text, c.as_str-2.ensures.text, c.as_str-3.ensures.text) at (put.changes clean office) in
     let is : Some (with_kept row beside.due beside.holds (tables_of first.now)) ≡ Some it.rows = search (rules, it.is) in
     record { rows = it.rows; is = is; becomes = it.becomes; contents = it.contents; once = it.once } in
     let both = rewrites_then_in_turn put.inside add.inside (λ t. Some (with_kept row beside.due beside.holds t)) (λ t. Some (with_files (pos a.number) bag t)) (λ t k. k) (λ t k. with_contents_of bag k) (λ t k. with_contents_of bag k) (λ t mid is k. refl)
-    wrote (rw c.files.ensures.whole at add.changes) clean (office_still due.0 office) in
-    let kept = kept_beside a.number row q.closed bag t beside.due beside.holds due.1 holds.1 in
+    wrote (rw c.files.ensures.whole at add.changes) clean (office_still read.0 office) in
+    let kept = kept_beside a.number row q.closed bag t beside.due beside.holds read.1.0 read.1.1 in
     on_ok_weaker c.add_files.result (λ it. rewritten_as (λ t. Some (with_files (pos a.number) bag (with_kept row beside.due beside.holds t))) (kept_as a.number row q.closed bag) (λ t k. with_contents_of bag k) (λ t k. with_contents_of bag k) (sym kept) refl
-    (rewritten_after (λ t. Some (with_files (pos a.number) bag (with_kept row beside.due beside.holds t))) (λ t k. with_contents_of bag k) due.0 it)) both
+    (rewritten_after (λ t. Some (with_files (pos a.number) bag (with_kept row beside.due beside.holds t))) (λ t k. with_contents_of bag k) read.0 it)) both
