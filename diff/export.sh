@@ -85,6 +85,7 @@ version = 1
 anna = "archivist"
 ex = "exporter"
 half = "half"
+blind = "fetcher"
 END
 rule() {
     printf '[[rule]]\neffect = "%s"\nrole = "%s"\naction = "%s"\ncollection = "%s"\nclass = "%s"\n' "$@"
@@ -95,6 +96,7 @@ rule() {
     rule deny half download '*' good
     rule deny half holds maps '*'
     for role in exporter half; do for action in list download holds; do rule allow "$role" "$action" '*' '*'; done; done
+    rule allow fetcher download '*' '*'
 } >>policy.toml
 
 # An office of all kinds of bags, some held and some destroyed.
@@ -305,8 +307,15 @@ out ex rotten
 compare "what is here is kept, whatever rots" "0; " "$status; $(cat rotten.told)"
 rm -r rotten
 out ex rotten
-compare "a bag that rotted" "1; 3 of $listed: SHA512.1 is forms/3.bagset: not what its record says: invalid B17 manifest-sha512.txt data/a" \
-    "$status; $(sed "s,data/a .*,data/a," rotten.told)"
+compare "a bag that rotted" "1; 3 of $listed: SHA512.1 is missing: 503 {\"error\":\"Store\"}: what is stored of it was altered" \
+    "$status; $(cat rotten.told)"
+stop_office
+sqlite3 rotten.db "UPDATE content SET bytes = zeroblob(size) WHERE id = (SELECT content FROM file WHERE deposit = 1 AND path = 'bagit.txt')"
+serve rotten.db 2025-02-28
+mkdir -p blind/deposits/1
+out blind blind
+compare "what isn't listed any more, and rotted" "1; no deposit is listed for blind
+deposit 1 isn't listed any more (503), and is aside/1-unlisted now" "$status; $(cat blind.told)"
 stop_office
 rm -f rotten.db*
 ./depot policy rotten.db policy.toml >noise

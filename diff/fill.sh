@@ -3,8 +3,8 @@
 # call is killed, the office is killed and started again, the office is away for good, an answer is lost. Then each bag is
 # in the office once, byte for byte, and those that can't be taken in are named, each with its reason. A bag that is mended
 # goes in by the next call. After a restore the bags that the office lost are deposited again, whatever it has under their
-# numbers, and a call that believes LIST.done is seen to lose them. A bag that was destroyed is told. An office that is closed
-# is waited for, as `shuts.py` plays it.
+# numbers, and a call that believes LIST.done is seen to lose them. A bag that was destroyed is told, and one of which a byte was
+# flipped in the store. An office that is closed is waited for, as `shuts.py` plays it.
 # Needs curl, python3. Takes three minutes. Words: the program, that of the variable DEPOT or `depot` if left out.
 set -eu
 top=$(readlink -f "$(dirname "$(readlink -f "$0")")/..")
@@ -291,6 +291,24 @@ for case in LIST.done accession folder; do
         "$status; $(tail -n 2 filled); $(deposits); $(cat refusals); $(cat eight.list.refused)"
 done
 mv thrown bags/06
+
+# A byte of a payload is flipped in the store, and the answers were lost: that bag is refused at once, and the others are found.
+begin_again
+fill_eight
+kill "$office"
+ended "$office" || true
+./depot ask office.db "$day" </dev/null >/dev/null
+python3 "$top/diff/exported.py" rot office.db A-06 >made
+serve
+for case in lost again; do
+    [ "$case" = again ] || rm -f eight.list.done
+    began=$SECONDS
+    fill_eight
+    compare "a byte was flipped ($case)" \
+        $'1; 7 of 8 bags are in the office, and 1 were refused; 8; 5\tA-06: 409 {"deposit":5,"error":"Taken"}: what is stored of it was altered' \
+        "$status; $(tail -n 1 filled); $(deposits); $(cat eight.list.refused)"
+    [ $((SECONDS - began)) -le 20 ] || { echo "it was to be refused at once" >&2; exit 1; }
+done
 
 # LIST.done is cut before the end of its last line, in a number, and in two lines; it has lines that are none.
 for cut in 1 3 60; do

@@ -6,6 +6,7 @@ import os
 import random
 import re
 import subprocess
+import sys
 import time
 
 import bags
@@ -156,6 +157,8 @@ SAID = {
     "NotDue": "2025-01-01",
     "Gone": "2024-03-01",
     "Taken": "Deposit 4",
+    "Taken altered": "can't be compared",
+    "Store altered": "An audit mostly says which file",
     "ClosedAhead": "2024-03-01",
     "Closed": "in 7 seconds",
     "Other": "doesn't know",
@@ -642,6 +645,53 @@ def damaged(page):
     page.run("window.fetch = real")
 
 
+def altered(page, stand):
+    """A deposit of which a byte was flipped in the store: what can't be shown is said, and its disposal goes on."""
+    about = "collection=maps&class=y0&accession=ALTERED&closed=2024-01-01"
+    number = stand.json("POST", "/deposits?" + about, form({"one.txt": b"only here", "two.txt": b"and here"}))["deposit"]
+    page.go(f"deposit/{number}", f"Deposit {number}")
+    page.button("Show the files").click()
+    page.wait(lambda: page.all("#files table"))
+    stand.office.stop()
+    quiet = {"check": True, "stdin": subprocess.DEVNULL, "stdout": subprocess.DEVNULL}
+    subprocess.run([stand.program, "ask", stand.office.store, "2024-03-01"], **quiet)
+    subprocess.run([sys.executable, TOP / "diff/exported.py", "rot", stand.office.store, "ALTERED"], **quiet)
+    stand.office.serve("2024-03-01")
+    said = []
+    for name in ("Show the files", "Download as ZIP", "Download the transfer form"):
+        page.run("document.querySelector('#told-files').replaceChildren()")
+        page.button(name).click()
+        page.wait(lambda: page.all("#told-files .refusal"))
+        said.append(page.text("#told-files"))
+    check(
+        all("Its files can't be shown, since what is stored of it was altered." in it and "503 Store" in it for it in said),
+        f"a bag of which a byte was flipped isn't shown, and why {said[0]}",
+    )
+    found = []
+    for name in ("data/one.txt", "data/two.txt"):
+        page.run("document.querySelector('#told-files').replaceChildren()")
+        page.button("Download " + name).click()
+        page.wait(lambda: page.all("#told-files .good, #told-files .refusal"))
+        found.append("was handed to the browser" in page.text("#told-files"))
+    check(sorted(found) == [False, True], f"of its files that are listed by then the intact one is downloaded {found}")
+    page.button("Audit now").click()
+    check(page.says("This deposit is damaged", "#told-audit"), "an audit says that it is damaged")
+    page.shot("altered")
+    page.destroy()
+    check(
+        all(it in page.text("dialog") for it in ("ALTERED", "What is stored was altered, and can't be shown: 2 files")),
+        "before its disposal the record is shown, and why its files aren't",
+    )
+    low = page.run(CONTRAST)[2]
+    check(not low, f"with enough contrast {low}")
+    page.shot("altered-dialog")
+    page.one("dialog input").send_keys("ALTERED" + ENTER)
+    check(
+        page.says("what was stored of them had been altered") and page.text("h1") == "Certificate of destruction",
+        "it is destroyed, and the certificate says that its files were not shown",
+    )
+
+
 def many(page, stand):
     """A list of 100,000 deposits, through the proxy."""
     rows = [
@@ -787,6 +837,7 @@ def all_looks(stand):
     keyboard(page, stand)
     revised_by_keys(page, stand)
     damaged(page)
+    altered(page, stand)
     many(page, stand)
     largest_bag(page, stand)
     page.quit(["a <b> fault"])

@@ -17,9 +17,8 @@ function clash(paths) {
   const all = new Set();
   for (const path of paths) if (all.has(path)) return path; else all.add(path);
   if (all.has("data")) return "data";
-  for (const path of all)
-    for (let i = path.indexOf("/"); i > 0; i = path.indexOf("/", i + 1))
-      if (all.has(path.slice(0, i))) return path.slice(0, i);
+  for (const path of all) for (let i = path.indexOf("/"); i > 0; i = path.indexOf("/", i + 1))
+    if (all.has(path.slice(0, i))) return path.slice(0, i);
   return null;
 }
 

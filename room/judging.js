@@ -97,12 +97,11 @@ export async function bagFault(files, progress = () => {}) {
   }
   const total = manifests.reduce((n, m) => n + m.sums.size, 0);
   let done = 0;
-  for (const m of manifests)
-    for (const path of listed(m)) {
-      if (await digest(m.algorithm[0], all.get(path).content) !== m.sums.get(path))
-        return `B17 ${m.name} ${printed(path)}`;
-      progress(++done, total);
-    }
+  for (const m of manifests) for (const path of listed(m)) {
+    if (await digest(m.algorithm[0], all.get(path).content) !== m.sums.get(path))
+      return `B17 ${m.name} ${printed(path)}`;
+    progress(++done, total);
+  }
   return null;
 }
 // Each file's SHA-256 as the manifests of a bag that the office took have it.

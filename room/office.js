@@ -53,7 +53,12 @@ export const list = async where => (await json("GET", ("deposits?" + query(where
 export const record = n => json("GET", `deposits/${n}`);
 export const holds = async n => (await json("GET", `deposits/${n}/holds`)).holds;
 export const audit = n => json("GET", `deposits/${n}/audit`);
-export const bag = n => send("GET", `deposits/${n}/bag`, null, bytes);
+const formOf = n => send("GET", `deposits/${n}/bag`, null, bytes);
+// If the store fails of a bag alone, and again after another answer, then what is stored of it was altered.
+export const bag = n => formOf(n).catch(async e => {
+  if (e.body.error !== "Store" || (await record(n).catch(why => why)).isUncertain) throw e;
+  return formOf(n).catch(why => { if (why.body.error === "Store") why.body.what = "altered"; throw why; });
+});
 const coded = path => path.split("/").map(encodeURIComponent).join("/");
 export const file = (n, path) => send("GET", `deposits/${n}/files/${coded(path)}`, null, bytes);
 export const hold = (on, name, matter) =>
@@ -90,7 +95,8 @@ export async function depositOf(about, form) {
       if (kept.length === form.length && kept.every((byte, i) => byte === form[i]) &&
         Object.entries(about).every(([key, value]) => r[key] === value)) return n;
     } catch (why) {
-      if (why.status === 403) e.body.what = "unseen"; else if (why.isUncertain) throw why;
+      if (why.status === 403) e.body.what = "unseen"; else if (why.body?.what === "altered") e.body.what = "altered";
+      else if (why.isUncertain) throw why;
     }
     throw e;
   }

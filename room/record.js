@@ -97,16 +97,12 @@ export async function deposit(n) {
     else alarm(outAudit, p(h("strong", {}, t("auditBad")), " ", office.faultWords(a.fault)[0]),
       p(t("auditTodo")), note("help", t("code"), " ", shown(a.fault, "code")));
   });
-  const withBag = then => office.tried(outFiles, async () => {
-    const bytes = await office.bag(n);
-    then(bytes, filesOf(bytes));
-  });
+  const withBag = then => office.tried(outFiles, () => office.bag(n).then(bytes => then(bytes, filesOf(bytes))));
   const saved = (bytes, name, more) => good(outFiles, t("saved", { name: save(bytes, name) }), more);
   const asZip = () => withBag((_, found) => {
     const k = found.filter(isRisky).length, more = k > 0 && " " + t("zipRenamed", { n: k });
     saved(zip(r.accession, found, r.deposited), r.accession + ".zip", more);
   });
-  const asForm = () => withBag(bytes => saved(bytes, r.accession + ".bagset"));
   const download = path => office.tried(outFiles, async () => saved(await office.file(n, path), path.split("/").pop()));
   const showFiles = () => withBag((_, found) => {
     place(files, fileTable(found, f => button("download", () => download(f.path),
@@ -117,20 +113,20 @@ export async function deposit(n) {
   return [status, recordFacts(r), section("h-holds", t("pageHolds"), held, out,
     holdForm(out, on, () => r[on.value], loadHolds)),
     section("h-files", t("files"), note("row", button("showFiles", showFiles), button("zip", asZip),
-      button("bagset", asForm)), outFiles, files),
+      button("bagset", () => withBag(bytes => saved(bytes, r.accession + ".bagset")))), outFiles, files),
     section("h-audit", t("auditHead"), note("help", t("auditHelp")), button("audit", audit), outAudit),
     h("section", { class: "end" }, outEnd,
       button("dispose", () => destroy(n, outEnd), { class: "danger", id: "dispose" }))];
 }
 // Nothing is destroyed but this one deposit, after its record and files were shown and its accession typed.
 async function destroy(n, out) {
-  const unlessDenied = asked => asked.catch(e => { if (e.status === 403) return null; throw e; });
-  let r, live, found;
+  let r, live, found, isAltered;
+  const unseen = e => { isAltered = e.body?.what === "altered"; if (e.status !== 403 && !isAltered) throw e; };
   if (!await office.tried(out, async () => {
     await office.due();                          // (it may be another day by now)
     r = await office.record(n);
-    live = await unlessDenied(office.holds(n));
-    found = await unlessDenied(office.bag(n).then(filesOf));
+    live = await office.holds(n).catch(unseen);
+    found = await office.bag(n).then(filesOf).catch(unseen);
   }) || !out.isConnected) return;
   const ask = async told => {
     try { return { day: (await office.dispose(n)).day }; } catch (e) {
@@ -153,27 +149,26 @@ async function destroy(n, out) {
       cancel.disabled = true;
       await office.change(told, async () => {
         const gone = await ask(told);
-        if (gone) { answer(null); certificate(r, gone, found); }
+        if (gone) { answer(null); certificate(r, gone, found, isAltered); }
       }).finally(() => cancel.disabled = false);
     };
     return [p(t("disposeSays")), recordFacts(r), warn(live?.length > 0, "disposeHeld"),
       warn(!live, "disposeUnseen"), warn(!isDue(r), "disposeNotDue"), h("h3", {}, t("disposeFiles")),
-      scrolled(t("disposeFiles"), found ? fileTable(found) :
-        p(t("disposeHidden", { files: t("file", { n: r.files }), size: size(r.bytes) }))),
+      scrolled(t("disposeFiles"), found ? fileTable(found) : note(isAltered && "warn",
+        t(isAltered ? "disposeAltered" : "disposeHidden", { files: t("file", { n: r.files }), size: size(r.bytes) }))),
       form({ class: "confirm", "aria-labelledby": "dialog-title" }, submit, told,
         field("disposeType", typed, null, { name: shown(r.accession) }),
         note("row", cancel, h("button", { class: "danger" }, t("disposeDo"))))];
   });
 }
-function certificate(r, { day, lost }, found) {
+function certificate(r, { day, lost }, found, isAltered) {
   const lines = [["number", String(r.deposit)], ...recordLines(r).slice(0, -1),
     ["bytes", t("byte", { n: r.bytes })], ["destroyedOn", day], ["destroyedBy", office.caller()]];
-  const sums = found && digests(found);
-  const list = !found ? t("certificateHidden") : [t("certificateFiles") + ":",
+  const sums = found && digests(found), unseen = found ? "" : t(isAltered ? "certificateAltered" : "certificateHidden");
+  const list = !found ? unseen : [t("certificateFiles") + ":",
     ...found.map(f => `${sums.get(f.path) ?? "-"}  ${f.size}  ${plain(f.path)}`)].join("\n");
   page(t("certificate"), h("p", { role: "status" }, t("certificateSays")),
     lost && note("warn", t("certificateLost")), note("noprint", t("certificateOnce")),
-    paper(t("certificate"), lines, t("certificateFile", { name: r.accession }), list + "\n"),
-    note("sign", t("sign")),
-    found ? [h("h2", {}, t("certificateFiles")), fileTable(found)] : p(t("certificateHidden")));
+    paper(t("certificate"), lines, t("certificateFile", { name: r.accession }), list + "\n"), note("sign", t("sign")),
+    found ? [h("h2", {}, t("certificateFiles")), fileTable(found)] : p(unseen));
 }

@@ -10,8 +10,10 @@ const RELIST = "Have the manifests made again from the original files; or choose
 const REWRITE = "Correct bag-info.txt, and have the tag manifests made again; or choose the folder “data” in the bag.";
 const REPACK = "Have the form made again by “depot pack”, or choose the folder itself.";
 const RECOPY = "The form was changed on its way. Copy it again byte for byte, or have it made again by “depot pack”.";
-const PARTS = "Deposit it in parts.";
-const TELL = "Tell the administrator: page, proxy and office don't fit together.";
+const VALUES = ["The office doesn't take one of these values.", "Check their spelling."];
+const BACKUP = "Tell the administrator, who may have a good copy in a backup.";
+const YOURS = "Ask the administrator whether it is yours before you deposit this again.";
+const PARTS = "Deposit it in parts.", TELL = "Tell the administrator: page, proxy and office don't fit together.";
 
 export default {
   language: "en", direction: "ltr", title: "Records room", skip: "Skip to the content", nav: "Pages", day: "Day",
@@ -47,8 +49,7 @@ export default {
     "for :, %5C for \\ and %25 for %.", marks: "Characters without a shape of their own are shown like [U+202E].",
   auditHelp: "The office reads all kept files again, and compares them with the bag's checksums.",
   auditGood: "Valid: {files}, {size} and {manifests} match.", manifest: { one: "{n} manifest", other: "{n} manifests" },
-  auditBad: "This deposit is damaged:",
-  auditTodo: "Tell the administrator, who may have a good copy in a backup. Don't destroy it meanwhile.",
+  auditBad: "This deposit is damaged:", auditTodo: BACKUP + " Don't destroy it meanwhile.",
   // Holds
   place: "Place a hold", placeOn: "Hold on", placedNow: "Hold {n} is placed.", releaseAsk: "Release hold {n}?",
   placedLost: "The answer was lost. The office has hold {n} with this matter, placed on {day}.", release: "Release",
@@ -69,6 +70,7 @@ export default {
   disposeSays: "The office will destroy these files for good. The number, the accession and the day stay.",
   disposeFiles: "What will be destroyed", disposeWrong: "That isn't the accession {name}. Nothing was destroyed.",
   disposeHidden: "The policy doesn't let you see the files; there are {files}, {size}.", disposeDo: "Destroy the files",
+  disposeAltered: "What is stored was altered, and can't be shown: {files}, {size}. A backup may have a good copy.",
   disposeHeld: "It is held. The office will refuse.", disposeNot: "It is still there: nothing was destroyed.",
   disposeUnseen: "The policy doesn't let you see whether it is held.", certificate: "Certificate of destruction",
   disposeNotDue: "It isn't due. The office will refuse.", destroyedOn: "Destroyed on", destroyedBy: "Confirmed by",
@@ -77,25 +79,24 @@ export default {
   certificateLost: "The answer was lost. Asked again, the office says that the deposit is destroyed.",
   sign: "Signature", certificateFiles: "Destroyed files", certificateFile: "destroyed-{name}.txt",
   certificateHidden: "The files were not shown: the policy doesn't let you see them.",
+  certificateAltered: "The files were not shown: what was stored of them had been altered.",
   // Due today
   dueNone: "Nothing that you may destroy is due on {day}.", reviewNo: "Review deposit {n}", approved: "Approved by",
   dueSome: { one: "On {day}, {n} deposit may be destroyed.", other: "On {day}, {n} deposits may be destroyed." },
   dueHelp: "Each is destroyed by itself, after its record was shown, and its files if the policy lets you see them.",
   dueFirst: "The first {n} are shown. The rest follow when these are destroyed and you ask again.", review: "Review",
-  unlisted: "not listed for you",
-  dueGone: "The office has no list of what was destroyed. The administrator finds it in a copy of the store, and who " +
-    "asked in the proxy's log (docs/OPERATING.md).",
+  unlisted: "not listed for you", dueGone: "The office has no list of what was destroyed. The administrator finds it " +
+    "in a copy of the store, and who asked in the proxy's log (docs/OPERATING.md).",
   // Collections and classes
   known: "Names in use", defineClass: "Define a class, or change its years", defineCollection: "Define a collection",
   knownHelp: "The office has no list of names. These are those of the deposits that are listed for you. The " +
     "administrator finds all names, those in no use too, and the policy in a copy of the store (docs/OPERATING.md).",
   define: "Define", nameHelp: "1 to 40 of a to z, 0 to 9, - _ and .", yearsHelp: "0 to 200, from the closing day on",
-  keepForever: "Keep permanently", collectionDefined: "The collection {name} is defined.",
-  classYears: { one: "The class {name} keeps its deposits for {n} year.", other: "The class {name} keeps its " +
-    "deposits for {n} years." }, classForever: "The class {name} keeps its deposits permanently.",
-  classAsk: "Define the class {name} with these years?",
-  classSays: "Deposits listed for you whose due day moves: {n}. Due by today, before: {before}; afterwards: {after}.",
-  classSame: "No due day of the deposits that are listed for you moves.",
+  keepForever: "Keep permanently", collectionDefined: "The collection {name} is defined.", classYears: { one: "The " +
+    "class {name} keeps its deposits for {n} year.", other: "The class {name} keeps its deposits for {n} years." },
+  classForever: "The class {name} keeps its deposits permanently.", classAsk: "Define the class {name} with these " +
+    "years?", classSays: "Deposits listed for you whose due day moves: {n}. Due by today, before: {before}; " +
+    "afterwards: {after}.", classSame: "No due day of the deposits that are listed for you moves.",
   classUnseen: "Deposits that the policy hides from you may fall due by it: the page can't tell how many.",
   // New deposit
   step1: "1. Choose what to deposit", step2: "2. Say what it is", step3: "3. Deposit",
@@ -147,8 +148,8 @@ export default {
       "The certificate of that day has the details."], "Held matter": ["Hold {hold} forbids it: “{matter}”.", HELD],
     Taken: ["Deposit {deposit} already has this accession.", "Look at that deposit. If it is another one, choose " +
       "another accession; a destroyed deposit keeps its own."],
-    "Taken unseen": ["Deposit {deposit} has this accession now, and the policy doesn't let you compare it.", "Ask " +
-      "the administrator whether it is yours before you deposit this again."],
+    "Taken unseen": ["Deposit {deposit} has this accession now, and the policy doesn't let you compare it.", YOURS],
+    "Taken altered": ["Deposit {deposit} has this accession now. It was altered, and can't be compared.", YOURS],
     ClosedAhead: ["The closing day comes after the office's day, {today}.", "Correct it, or wait for that day."],
     BadBag: ["The office looked into the bag, and doesn't take it.", "Nothing was deposited."],
     Held: ["Hold {hold} forbids it. The policy doesn't let you see its matter.", HELD],
@@ -157,16 +158,16 @@ export default {
     Released: ["This hold was released on {day}.", "There is nothing to do."],
     Full: ["The office has taken as many as it can.", "Ask the administrator for a new office."],
     Memory: ["The office's machine ran out of memory. Nothing is lost.", LOOK],
-    Store: ["The office's disk failed or is full.", "Tell the administrator. " + LOOK],
+    Store: ["The office's disk failed or is full, or what is stored was altered.", "Tell the administrator. " + LOOK],
+    "Store altered": ["Its files can't be shown, since what is stored of it was altered.", BACKUP + " An audit " +
+      "mostly says which file. Others can be fetched if they are listed here; the page learns paths from bags alone."],
     NoFile: ["The bag has no such file.", "Show the files again."], Truncated: ["It arrived cut short.", "Ask again."],
     TooLarge: ["It is larger than the 16 MiB that the office takes.", PARTS],
     BadHead: ["The office couldn't read it.", TELL], NoRoute: ["The office knows no such address.", TELL],
     Chunked: ["The office got the request in chunks, which it doesn't take.", TELL],
     BadLength: ["It came without its right length.", TELL], Method: ["The office takes no such request.", TELL],
     TwoCallers: ["The request named two callers, since the proxy let a client's own through.", TELL],
-    BadQuery: ["The office doesn't take one of these values.", "Check their spelling."],
-    BadBody: ["The office doesn't take one of these values.", "Check their spelling."],
-    BadRequest: ["The proxy couldn't read the request.", "Load the page again."],
+    BadQuery: VALUES, BadBody: VALUES, BadRequest: ["The proxy couldn't read the request.", "Load the page again."],
     Unauthorized: ["The proxy doesn't know your name and password.", "Load the page again, and log in."],
     NotACaller: ["Your user name can't be a caller's.", "Ask the administrator for one of a to z, 0 to 9, - _ and ."],
     Foreign: ["The proxy took it for a request of another site.", "Load this page by its own address."],
