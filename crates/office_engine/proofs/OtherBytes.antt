@@ -70,6 +70,17 @@ lone_one : (r s : Row) → Has (s ∷ []) r → r ≡ s
 lone_one r s (inl is) = is
 lone_one r s (inr none) = absurd none
 
+-- a file of a deposit stands alone at its path
+only_row : (db : Database) → IsOffice db → (n : ℤ) (r : Row) → Has (db.trees file_tree) r → int_eq (int_at r 1) n ≡ true → filter (is_placed n (bytes_at r 2)) (db.trees file_tree) ≡ r ∷ []
+only_row db office n r there his =
+    let path = bytes_at r 2 in
+    let placed : is_placed n path r ≡ true = ap₂ ◌&&◌ his (bytes_itself path) in
+    let has : Has (filter (is_placed n path) (db.trees file_tree)) r = has_kept (is_placed n path) (db.trees file_tree) r there placed in
+    elim (few_files db office n path) [
+      | inl none ↦ absurd (subst (λ rs. Has rs r) none has)
+      | inr one ↦ one.3 ∙ ap (λ (s : Row). s ∷ []) (sym (lone_one r one.0 (subst (λ rs. Has rs r) one.3 has)))
+    ]
+
 -- ---- one content
 
 module _ (contents altered : List ContentRow) (same : map without_bytes altered ≡ map without_bytes contents) (marked : AllByRecursion IsMarked contents) where
@@ -138,16 +149,7 @@ module _ (db : Database) (office : IsOffice db) (altered : List ContentRow) (sam
 
   intact_row : (n : ℤ) (r : Row) → Has rows r → int_eq (int_at r 1) n ≡ true → is_intact (content_at n (bytes_at r 2) files_are references altered) ≡ true → is_intact (content_numbered (referred r) altered) ≡ true
   intact_row n r there his intact =
-      let path = bytes_at r 2 in
-      let placed : is_placed n path r ≡ true = ap₂ ◌&&◌ his (bytes_itself path) in
-      let has : Has (filter (is_placed n path) rows) r = has_kept (is_placed n path) rows r there placed in
-      let first : is_intact (content_referred (slice_get (map referred (filter (is_placed n path) rows)) 0) altered) ≡ true = sym (ap is_intact (content_in_place n path)) ∙ intact in
-      elim (few_files db office n path) [
-        | inl none ↦ absurd (subst (λ rs. Has rs r) none has)
-        | inr one ↦
-            let is : r ≡ one.0 = lone_one r one.0 (subst (λ rs. Has rs r) one.3 has) in
-            ap (λ (s : Row). is_intact (content_numbered (referred s) altered)) is ∙ sym (ap (λ (rs : List Row). is_intact (content_referred (slice_get (map referred rs) 0) altered)) one.3) ∙ first
-      ]
+      sym (ap is_intact (content_in_place n (bytes_at r 2) ∙ ap (λ (rs : List Row). content_referred (slice_get (map referred rs) 0) altered) (only_row db office n r there his))) ∙ intact
 
   same_rows : (rs : List Row) → ((r : Row) → Has rs r → is_intact (content_numbered (referred r) altered) ≡ true) → map row_digested (map (file_in altered) rs) ≡ map row_digested (map (file_in (contents_of db)) rs)
   same_rows [] each = refl
@@ -173,7 +175,7 @@ digests_sorted fs = map-map digested told.file_in (sort_by path_cmp fs) ∙ sym 
 
 -- ---- what is served
 
-abbrev is_refused : Answer → Bool
+abbrev pub is_refused : Answer → Bool
 is_refused (answers.Refused why) = true
 is_refused _ = false
 
@@ -183,7 +185,7 @@ bytes_in (answers.Bag bytes) = bytes
 bytes_in _ = []
 
 -- an answer that is no refusal is what is answered where nothing stands
-unrefused : (t : Tables) (visit : Visit) (request : Request) (given : Answer) (next : Tables) → ((why : Refusal) → answers.Refused why ≡ given → ⊥) → serve t visit request ≡ Some (given, next)
+pub unrefused : (t : Tables) (visit : Visit) (request : Request) (given : Answer) (next : Tables) → ((why : Refusal) → answers.Refused why ≡ given → ⊥) → serve t visit request ≡ Some (given, next)
     → (refusal t visit request ≡ Some None) × (allowed_answer t visit request ≡ Some given)
 unrefused t visit request given next not = by (refusal t visit request)
   where
@@ -192,11 +194,11 @@ unrefused t visit request given next not = by (refusal t visit request)
     by (Some (Some why)) e = absurd (not why (ap (λ (q : Answer × Tables). q.0) (same_Some _ _ e)))
     by (Some None) e = (refl, (both_told (allowed_answer t visit request) (allowed_rows t visit request) given next e).0)
 
-content_told : (o : Option (List ℕ)) (bytes : List ℕ) → Some (file_answer o) ≡ Some (answers.File bytes) → o ≡ Some bytes
+pub content_told : (o : Option (List ℕ)) (bytes : List ℕ) → Some (file_answer o) ≡ Some (answers.File bytes) → o ≡ Some bytes
 content_told None bytes e = absurd (true≢false (ap is_refused (same_Some _ _ e)))
 content_told (Some content) bytes e = ap Some (ap bytes_in (same_Some _ _ e))
 
-file_told : (b : Bool) (o : Option FileRow) (bytes : List ℕ) → (if b then option_map (λ (f : FileRow). f.content) o else None) ≡ Some bytes → (f : FileRow) × (o ≡ Some f) × (f.content ≡ bytes)
+pub file_told : (b : Bool) (o : Option FileRow) (bytes : List ℕ) → (if b then option_map (λ (f : FileRow). f.content) o else None) ≡ Some bytes → (f : FileRow) × (o ≡ Some f) × (f.content ≡ bytes)
 file_told false o bytes e = absurd cc
 file_told true None bytes e = absurd cc
 file_told true (Some f) bytes e = (f, refl, same_Some _ _ e)
@@ -312,17 +314,8 @@ module _ (db : Database) (office : IsOffice db) (has_content : HaveContents db) 
   -- each file of the deposit is the one at its path
   found_again : (n : ℤ) (r : Row) → Has (db.trees file_tree) r → int_eq (int_at r 1) n ≡ true → file_at n (bytes_at r 2) stored.files ≡ Some (file_in (contents_of db) r)
   found_again n r there his =
-      let path = bytes_at r 2 in
-      let rows = db.trees file_tree in
-      let placed : is_placed n path r ≡ true = ap₂ ◌&&◌ his (bytes_itself path) in
-      let has : Has (filter (is_placed n path) rows) r = has_kept (is_placed n path) rows r there placed in
-      let found = found_by (is_file_at n path) (is_placed n path) (file_in (contents_of db)) rows (all_from _ rows (λ r there. refl)) in
-      elim (few_files db office n path) [
-        | inl none ↦ absurd (subst (λ rs. Has rs r) none has)
-        | inr one ↦
-            let is : r ≡ one.0 = lone_one r one.0 (subst (λ rs. Has rs r) one.3 has) in
-            found ∙ ap (λ (rs : List Row). option_map (file_in (contents_of db)) (slice_get rs 0)) one.3 ∙ ap (λ (s : Row). Some (file_in (contents_of db) s)) (sym is)
-      ]
+      found_by (is_file_at n (bytes_at r 2)) (is_placed n (bytes_at r 2)) (file_in (contents_of db)) (db.trees file_tree) (all_from _ (db.trees file_tree) (λ r there. refl))
+      ∙ ap (λ (rs : List Row). option_map (file_in (contents_of db)) (slice_get rs 0)) (only_row db office n r there his)
 
   pub bag_under : (n : ℕ) (bytes : List ℕ) (next : Rows) → serve_rows (rows_of db) visit (DownloadBag n) ≡ Some (answers.Bag bytes, next) → AreUnderDigests db n bytes
   bag_under n bytes next is =

@@ -1,10 +1,8 @@
 -- A legal office serves all that it keeps: no content of it is taken for an altered one.
-use Rattle.std.proofs.Common.{◌≡◌, ℕ, ℤ, pos, Bool, true, false, List, [], ◌∷◌, Option, Some, None, option_map, find, refl, sym, ap, ◌∙◌, inl, inr, true≢false, cond, if◌then◌else◌}
+use Rattle.std.proofs.Common.{◌≡◌, ℕ, ℤ, pos, Bool, true, false, List, [], ◌∷◌, Option, Some, find, refl, sym, ap, ◌∙◌, inl, inr, true≢false, cond}
 use Rattle.std.specs.List.{AllByRecursion, list_all}
-use Rattle.std.specs.List.Sorted.{IsPermutation}
 use Rattle.std.specs.Cmp.Lexicographic.{on_texts}
 use Rattle.std.proofs.lemmas.Bool.{and_from}
-use Rattle.std.proofs.lemmas.Option.{same_Some}
 use Rattle.std.proofs.lemmas.List.Sorted.{IsPermutation-sym}
 use Rattle.bag_text.specs.Paths.{is_good}
 use Rattle.sqlite.specs.Effect.{Database}
@@ -17,19 +15,17 @@ use Rattle.sql_meaning.proofs.Keys.{bytes_itself}
 use Rattle.office_core.specs.FirstOf.{◌>>=◌, answer_if}
 use Rattle.office_core.specs.declared.answer.Answer.{Answer}
 use Rattle.office_core.specs.declared.answer.Answer.TheVariants as answers
-use Rattle.office_core.specs.declared.refusal.Refusal.{Refusal}
 use Rattle.office_core.specs.declared.request.Request.{Request}
 use Rattle.office_core.specs.declared.request.Request.TheVariants.{DownloadBag, DownloadFile}
 use Rattle.office_rows.specs.Rows.{FileRow, Tables, file_at, files_of, is_file_at, is_file_of}
 use Rattle.office_tables.specs.Contents.{content_at, is_intact, references_of}
 use Rattle.office_tables.specs.Tables.{contents_of, tables_of}
-use Rattle.office_history.specs.Answers.{file_answer}
 use Rattle.office_by_rows.specs.Answers.{content_stored, path_cmp}
 use Rattle.office_by_rows.specs.Asking.{Visit}
-use Rattle.office_by_rows.specs.Refusals.{refusal}
-use Rattle.office_by_rows.specs.Serving.{serve, serve_unless}
+use Rattle.office_by_rows.specs.Serving.{serve}
 use Rattle.office_asking.specs.Contents.{Rows, are_intact_of, is_intact_at, rows_of, serves_intact, serves_intact_bag, serves_intact_file}
 use Rattle.office_asking.specs.Serving.{rows_after, serve_rows}
+use Rattle.office_engine.proofs.OtherBytes.{content_told, file_told, is_refused, unrefused}
 
 all_passing : {X : Type 0} (p : X → Bool) (xs : List X) → AllByRecursion (λ x. p x ≡ true) xs → list_all p xs ≡ true
 all_passing p [] all = refl
@@ -47,11 +43,6 @@ found_one {X = X} p (y ∷ xs) x there passes = by (p y) refl there (λ more. fo
     by true is there rest = (y, refl)
     by false is there rest = later is there rest
 
--- an answer with a file's bytes is no refusal
-abbrev has_file : Answer → Bool
-has_file (answers.File bytes) = true
-has_file _ = false
-
 module _ (db : Database) (sound : (n : ℤ) (path : List ℕ) (f : FileRow) → file_at n path (tables_of db).files ≡ Some f → is_intact (content_at n path (tables_of db).files (references_of db) (contents_of db)) ≡ true) (visit : Visit) where
   abbrev t : Tables
   t = tables_of db
@@ -68,24 +59,11 @@ module _ (db : Database) (sound : (n : ℤ) (path : List ℕ) (f : FileRow) → 
       let sorted = sort_by path_cmp files in
       all_passing is_sound sorted (all-permutation (λ f. is_sound f ≡ true) files sorted (IsPermutation-sym sorted files (IsPermutation-sort_by path_cmp (on_texts (λ (f : FileRow). f.path)) files)) each)
 
-  file_intact : (n : ℕ) (path : List ℕ) (bytes : List ℕ) → Some (file_answer (content_stored n path t)) ≡ Some (answers.File bytes) → is_intact_at n path (rows_of db) ≡ true
-  file_intact n path bytes e = by (file_at (pos n) path t.files) refl e
-    where
-      none : (b : Bool) → Some (file_answer (if b then None else None)) ≡ Some (answers.File bytes) → is_intact_at n path (rows_of db) ≡ true
-      none true e = absurd (true≢false (sym (ap has_file (same_Some _ _ e))))
-      none false e = absurd (true≢false (sym (ap has_file (same_Some _ _ e))))
-
-      by : (o : Option FileRow) → file_at (pos n) path t.files ≡ o → Some (file_answer (if is_good path then option_map (λ (file : FileRow). file.content) o else None)) ≡ Some (answers.File bytes) → is_intact_at n path (rows_of db) ≡ true
-      by None is e = none (is_good path) e
-      by (Some f) is e = sound (pos n) path f is
-
   file_served : (request : Request) (bytes : List ℕ) (next : Tables) → serve t visit request ≡ Some (answers.File bytes, next) → serves_intact_file (rows_of db) request ≡ true
-  file_served (DownloadFile n path) bytes next is = by (refusal t visit (DownloadFile n path)) is
-    where
-      by : (stands : Option (Option Refusal)) → (stands >>= λ why. serve_unless why t visit (DownloadFile n path)) ≡ Some (answers.File bytes, next) → is_intact_at n path.now (rows_of db) ≡ true
-      by None e = absurd cc
-      by (Some (Some why)) e = absurd (true≢false (sym (ap (λ (p : Answer × Tables). has_file p.0) (same_Some _ _ e))))
-      by (Some None) e = file_intact n path.now bytes (ap (option_map (λ (p : Answer × Tables). p.0)) e)
+  file_served (DownloadFile n path) bytes next is =
+      let free = unrefused t visit (DownloadFile n path) (answers.File bytes) next (λ why e. true≢false (ap is_refused e)) is in
+      let f = file_told (is_good path.now) (file_at (pos n) path.now t.files) bytes (content_told (content_stored n path.now t) bytes free.1) in
+      sound (pos n) path.now f.0 f.1
   file_served _ bytes next is = refl
 
   bag_served : (request : Request) → serves_intact_bag (rows_of db) request ≡ true
