@@ -20,21 +20,29 @@ done
 echo 'kit one' >"$room/kit/KIT-ID"
 cat >"$room/kit/bin/rt" <<'STUB'
 #!/usr/bin/env bash
-# Stands for `rt lib` and `rt run -- check FILE`, called in the folder of a crate.
+# Stands for `rt all check --jobs N` and `rt run -- check FILE`, called in the folder of the program's crate.
 set -eu
 echo "$(basename "$PWD") $*" >>"$ROOM/calls"
-sleep 0.5
 if [ -e "$ROOM/slow" ]; then
     echo $$ >"$ROOM/slow"
     exec sleep 60
 fi
-[ ! -e "$ROOM/fails-$(basename "$PWD")" ] || { echo "a goal is open" >&2; exit 1; }
 case "$*" in
-lib) exit ;;
-'run -- check '*) ;;
+'all check --jobs '[1-9]*)
+    for crate in below depot; do
+        sleep 0.5
+        echo "== $crate"
+        [ ! -e "$ROOM/fails-$crate" ] || { printf 'a goal is open\n== summary\n%s: failed (1)\n' "$crate"; exit 1; }
+        echo "crate $crate: proved"
+    done
+    printf '== summary\nbelow: ok\ndepot: ok\n'
+    exit
+    ;;
+'run -- check '*) sleep 0.5 ;;
 *) exit 2 ;;
 esac
-printf '#!/bin/sh\necho "%s: $*"\n' "$(grep -c run "$ROOM/calls")" >out/depot
+[ ! -e "$ROOM/fails-run" ] || { echo "clang failed" >&2; exit 1; }
+printf '#!/bin/sh\necho "%s: $*"\n' "$(grep -c 'all check' "$ROOM/calls")" >out/depot
 chmod +x out/depot
 STUB
 chmod +x "$room/kit/bin/rt"
@@ -55,7 +63,7 @@ compare() {
 
 # How many builds of the program were begun.
 builds() {
-    grep -c run "$room/calls" || true
+    grep -c 'all check' "$room/calls" || true
 }
 
 # Calls the script in a tree, with the commands on this script's `path`. A call that takes over a minute is ended.
@@ -70,9 +78,14 @@ expect() {
     compare "$1" "$3: check a b, of $2 builds" "$said, of $(builds) builds"
 }
 
+# Whether a build goes on that was to end.
+goes_on() {
+    if [ -s "$room/slow" ] && kill -0 "$(cat "$room/slow")" 2>/dev/null; then echo yes; else echo no; fi
+}
+
 depot=$tree/crates/depot below=$tree/crates/below apart=$tree/crates/apart
 expect "nothing is built" 1 1
-compare "the crates are proved from below" "below lib, depot run" "$(cut -d' ' -f-2 "$room/calls" | paste -sd, | sed 's/,/, /')"
+compare "the crates are proved, and the program is built" "depot all, depot run" "$(cut -d' ' -f-2 "$room/calls" | paste -sd, | sed 's/,/, /')"
 expect "nothing has changed" 1 1
 
 # Times, folders and what the program isn't made of don't count.
@@ -120,37 +133,39 @@ grep -q 'the command rt' "$room/err" || { echo "standard error is to say 'the co
 expect "there is a kit again" 9 9
 
 # A build that fails names the crate, and the old program stays.
-for crate in below depot; do
-    touch "$room/fails-$crate"
+for fails in 'below a goal is open' 'depot a goal is open' 'run clang failed'; do
+    what=${fails%% *}
+    crate=${what/run/depot}
+    touch "$room/fails-$what"
     echo "// again" >>"$tree/crates/$crate/src/lib.rt"
     status=0
     said=$(call "$tree" check 2>"$room/err") || status=$?
-    compare "the build of $crate failed" "; 3" "$said; $status"
+    compare "$what failed" "; 3" "$said; $status"
     compare "the old program stays" "9: old" "$("$depot/out/depot-program" old)"
-    for word in 'a goal is open' "could not be built, for its crate $crate"; do
+    for word in "${fails#* }" "could not be built, for its crate $crate"; do
         grep -q "$word" "$room/err" || { echo "standard error is to say '$word', and said: $(cat "$room/err")" >&2; exit 1; }
     done
-    rm "$room/fails-$crate"
+    rm "$room/fails-$what"
 done
-expect "a build fails no more" 11 11
+expect "a build fails no more" 13 13
 
 echo "// once" >>"$depot/src/lib.rt"
 call "$tree" one >"$room/one" 2>/dev/null &
 first=$!
 call "$tree" two >"$room/two" 2>/dev/null
 ended "$first"
-compare "two calls at once" "12: one 12: two, of 12 builds" "$(cat "$room/one") $(cat "$room/two"), of $(builds) builds"
+compare "two calls at once" "14: one 14: two, of 14 builds" "$(cat "$room/one") $(cat "$room/two"), of $(builds) builds"
 
 # What is said of a build that takes long: here, that it takes half a second is enough.
 sed -i 's/^every=.*/every=0/' "$tree/depot"
 echo "// slowly" >>"$below/src/lib.rt"
-expect "a build tells how far it is" 13 13
-for said in '0 of 2 crates done, below is under way' '1 of 2 crates done, depot is under way'; do
+expect "a build tells how far it is" 15 15
+for said in '2 crates, at most [1-9]' '0 of 2 crates done' '1 of 2 crates done' '2 of 2 crates done'; do
     grep -q "$said" "$room/err" || { echo "standard error is to say '$said', and said: $(cat "$room/err")" >&2; exit 1; }
     cases=$((cases + 1))
 done
 
-# A call that is broken off ends its build.
+# A call that is broken off ends its build, and so does one whose messages nobody reads any more.
 : >"$room/slow"
 echo "// once more" >>"$below/src/lib.rt"
 env PATH="$path" "$tree/depot" check >"$room/one" 2>/dev/null &
@@ -160,16 +175,16 @@ kill -TERM "$first"
 status=0
 ended "$first" || status=$?
 compare "a call was broken off" 130 "$status"
-if kill -0 "$(cat "$room/slow")" 2>/dev/null; then
-    echo "the build of a call that was broken off goes on" >&2
-    exit 1
-fi
+compare "its build goes on" no "$(goes_on)"
+: >"$room/slow"
+call "$tree" check 2>&1 | head -n 1 >"$room/one"
+compare "the build of a call whose messages nobody reads goes on" no "$(goes_on)"
 rm "$room/slow"
-expect "the next call builds" 14 14
+expect "the next call builds" 18 18
 
 rm "$depot/out/depot-program"
 touch "$room/fails-depot"
 status=0
 said=$(call "$tree" check 2>"$room/err") || status=$?
-compare "a build failed, and there is no program" "; 3, of 15 builds" "$said; $status, of $(builds) builds"
+compare "a build failed, and there is no program" "; 3, of 19 builds" "$said; $status, of $(builds) builds"
 echo "rebuilds: $cases cases of calls with $(builds) builds, each where it is wanted and nowhere else; where one fails the old program stays"
