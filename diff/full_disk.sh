@@ -1,8 +1,9 @@
 #!/usr/bin/env bash
-# Fills the disk of an office that serves: a file system of 6 MiB in memory. Shows what docs/OPERATING.md says under "A full
-# disk": the deposit that has no room is answered 503, and what was answered before is there once there is room, by the
-# page's commands; a backup and a `pack` that have no room leave nothing under their names. Standard error, in a file on that
-# disk, gets lines of the failures and of their end; where it has no room either, they are dropped, and the next ones come.
+# Fills the disk of an office that serves: a file system with 6 MiB left, once in memory and, for root, once ext4 on a loop
+# device. Shows what docs/OPERATING.md says under "A full disk": the deposit that has no room is answered 503, and what was
+# answered before is there once there is room, by the page's commands; a backup and a `pack` that have no room leave
+# nothing under their names. Standard error, in a file on that disk, gets lines of the failures and of their end; where it
+# has no room either, they are dropped, and the next ones come.
 # Needs curl, and root or a user namespace. Words: the program, that of the variable DEPOT or `depot` if left out.
 set -eu
 top=$(readlink -f "$(dirname "$(readlink -f "$0")")/..")
@@ -10,18 +11,47 @@ top=$(readlink -f "$(dirname "$(readlink -f "$0")")/..")
 . "$top/diff/waits.sh"
 . "$top/diff/pages.sh"
 needs curl unshare=util-linux
+PATH=$PATH:/usr/sbin:/sbin
 program=$(readlink -f "${1:-${DEPOT:-$top/depot}}")
-# The rest goes on where this script has mounts of its own.
-if [ -z "${HAS_MOUNTS-}" ]; then
-    user=()
-    [ "$(id -u)" -eq 0 ] || user=(--map-root-user)
-    exec env HAS_MOUNTS=yes unshare --mount "${user[@]}" "$0" "$program"
+# The rest goes on where this script has mounts of its own, on each kind of disk.
+if [ -z "${DISK-}" ]; then
+    if [ "$(id -u)" -ne 0 ]; then
+        DISK=tmpfs unshare --mount --map-root-user "$0" "$program"
+        echo "full_disk: ext4 wasn't tried, since a loop device needs root" >&2
+        exit
+    fi
+    needs mkfs.ext4=e2fsprogs
+    for disk in tmpfs ext4; do
+        DISK=$disk unshare --mount "$0" "$program"
+    done
+    exit
 fi
 room=$(mktemp -d)
 trap 'kill $(jobs -p) 2>/dev/null || true; wait; cd /; umount "$room/disk" "$room/other"; rm -rf "$room"' EXIT
 mkdir "$room/disk" "$room/other"
-mount -t tmpfs -o size=6m office "$room/disk"
 mount -t tmpfs -o size=1m backups "$room/other"
+if [ "$DISK" = ext4 ]; then
+    truncate -s 128M "$room/image"
+    mkfs.ext4 -q -m 0 "$room/image"
+    mount -o loop "$room/image" "$room/disk"
+    mkdir "$room/disk/office"
+    # A file takes up what the disk isn't to have.
+    fallocate -l $(($(df --output=avail -B 1 "$room/disk" | tail -n 1) - 6 * 1048576)) "$room/disk/ballast"
+else
+    mount -t tmpfs -o size=6m office "$room/disk"
+    mkdir "$room/disk/office"
+fi
+size=6
+
+# Gives the disk so many megabytes in all.
+resize() {
+    if [ "$DISK" = ext4 ]; then
+        truncate -s "-$((($1 - size) * 1048576))" "$room/disk/ballast"
+    else
+        mount -o "remount,size=$1m" office "$room/disk"
+    fi
+    size=$1
+}
 day=2024-03-02
 cases=0
 
@@ -87,7 +117,7 @@ last() {
     echo "depot: connection $(wc -c <"$room/asked"):"
 }
 
-cd "$room/disk"
+cd "$room/disk/office"
 ln -s "$program" depot
 # The page in which it begins is taken before the disk is full.
 echo 'standard error:' >log
@@ -137,7 +167,7 @@ lines+=" $(last) a change was answered Store, 10 in a row"
 tells "ten in a row" "$lines"
 # There is room again: the megabytes that the disk has, and what is done.
 more_room() {
-    mount -o "remount,size=$1m" office "$room/disk"
+    resize "$1"
     kept=$((kept + 1))
     compare "$2" "{\"deposit\":$kept} 201" "$(deposit "$kept")"
     lines+=" $(last) a change was accepted again, after 10 in a row, the last answered Store"
@@ -152,6 +182,8 @@ fill() {
     lines+=" $(last) a change was answered Store, 1 in a row"
     tells "full again" "$lines"
     dd if=/dev/zero of=filling bs=4096 2>/dev/null || true
+    sync -f filling
+    while head -c 4096 /dev/zero 2>/dev/null >>filling; do :; done
     truncate -s %4096 log
     more_changes 2
 }
@@ -182,7 +214,7 @@ compare "it leaves" 'depot filling log office.db office.db-wal said' "$(find . -
 
 # Room, and the page's commands. Where the disk of the backups is the full one, no backup has its name.
 rm filling
-mount -o remount,size=64m office "$room/disk"
+resize 64
 status=0
 DEPOT=./depot "$top/examples/systemd/backup" office.db "$room/other" >"$room/said" 2>"$room/told" || status=$?
 compare "a backup to a full disk" '1; *No space left on device' "$status; $(cat "$room/told")"
@@ -193,4 +225,4 @@ serve
 has_all "after a new start"
 kill "$office"
 ended "$office" || true
-echo "full_disk: $cases cases: what was answered is there, before there is room and after, and standard error says so"
+echo "full_disk: $cases cases on $DISK: what was answered is there, before there is room and after, and standard error says so"

@@ -20,6 +20,9 @@ or those that are wanted, and the next command with all memory installs it.
 `upgrade`: `depot ask` over a file with the tables of version 3, and of version 4: afterwards it has the rows from before or
 those that are wanted, and the next command with all memory upgrades it.
 
+`serve`: `depot serve` over a file, four connections: standard error has the lines of those that were answered 503, of
+the first of their kind that succeeds again, and of the end; or the program ends with `memory` before it listens.
+
 `hear`: `office_file hear`, a deposit that `read_request` hears: all of its bag, or nothing is heard.
 
 `bags`, `office`, `tables`, `stored`: the cases of `crates/office_file`, each of which comes out as worked
@@ -32,6 +35,7 @@ alone. DEPOT and OFFICE_FILE name other programs than those in `crates/depot/out
 import os
 import pathlib
 import shutil
+import socket
 import subprocess
 import sys
 import tempfile
@@ -318,6 +322,72 @@ def ask(library, first, last):
     return refused
 
 
+def served(library, number, store, texts):
+    """How `serve` ends while this allocation is refused, the answers to these requests, one for each connection (none where
+    it doesn't listen), and whether there was such an allocation."""
+    reader, writer = os.pipe()
+    names = {"LD_PRELOAD": library, "REFUSED": number, "TOLD": writer, "PATH": "/usr/bin:/bin"}
+    words = [DEPOT, "serve", "--port", 0, "--count", len(texts), store, "2024-03-01"]
+    server = subprocess.Popen(
+        list(map(str, words)), stdin=subprocess.DEVNULL, stdout=subprocess.PIPE, stderr=subprocess.PIPE, pass_fds=[writer],
+        env={name: str(it) for name, it in names.items()})
+    os.close(writer)
+    answered = []
+    listening = server.stdout.readline()
+    if listening.startswith(b"listening "):
+        for text in texts:
+            with socket.create_connection(("127.0.0.1", int(listening.split()[1])), timeout=60) as stream:
+                stream.sendall(text)
+                answered.append(b"".join(iter(lambda: stream.recv(65536), b"")))
+    _, told = server.communicate(timeout=60)
+    with os.fdopen(reader, "rb") as file:
+        return (server.returncode, told.decode()), answered, bool(file.read())
+
+
+def lines_of(kinds, answered):
+    """What `serve` tells on standard error of connections of these kinds that were answered so. (One whose answer was lost
+    was not the one after a failure, since one allocation alone is refused.)"""
+    lines, rows, last = [], {}, {}
+    again = {"change": "a change was accepted again", "reading": "a reading succeeded again"}
+    for number, (kind, answer) in enumerate(zip(kinds, answered), 1):
+        count = rows.get(kind, 0)
+        if is_wanting(answer):
+            rows[kind], last[kind] = count + 1, "Memory" if answer.endswith(b'{"error":"Memory"}') else "Store"
+            if count + 1 in (1, 10, 100):
+                lines.append(f"depot: connection {number}: a {kind} was answered {last[kind]}, {count + 1} in a row")
+        elif answer.startswith(b"HTTP/1.1 200 ") and count:
+            lines.append(f"depot: connection {number}: {again[kind]}, after {count} in a row, the last answered {last[kind]}")
+            rows[kind] = 0
+    return [*lines, f"depot: serving ended after the connections that were asked for: {len(kinds)}"]
+
+
+def serve(library, first, last):
+    """Connections that change something and that read, in turn."""
+    kinds = ["change", "reading"] * 2
+    texts = [request("anna", line) for line in ("PUT /collections/a", "GET /due", "PUT /collections/b", "GET /deposits")]
+    refused = told = 0
+    with tempfile.TemporaryDirectory() as room:
+        kept, used = pathlib.Path(room, "kept"), pathlib.Path(room, "used")
+        kept.mkdir()
+        subprocess.run([DEPOT, "policy", kept / "office.db", POLICY], check=True, capture_output=True, timeout=60)
+        for number in [0, *range(first, last + 1)]:
+            shutil.copytree(kept, used)
+            (status, said), answered, was_refused = served(library, number, used / "office.db", texts)
+            shutil.rmtree(used)
+            if number and not was_refused:
+                break
+            lines = lines_of(kinds, answered)
+            has_ended = status == 3 and not answered and said.split("\n")[0] in ("memory", "device", "store Q4")
+            if not has_ended and (status != 0 or said.splitlines() != lines):
+                sys.exit(f"serve, allocation {number}: it ended with {status}, {answered!r}, {said!r}, and not {lines!r}")
+            refused += was_refused
+            told += len(lines) > 1
+    print(f"serve: {len(texts)} connections, {refused} allocations refused, {told} of them told of", flush=True)
+    if first == 1 and last == LAST and not told:
+        sys.exit("serve: no request was answered 503")
+    return refused
+
+
 def sweep(library, first, last, kept, wanted, words, given):
     """How many allocations of a command on a copy of the store are refused in turn, where each time the schema and the rows
     are those from before or those that are wanted, and the latter once it is given again with all memory."""
@@ -447,7 +517,7 @@ def cases(group):
 
 # Each group gives how many allocations were refused.
 GROUPS = {
-    "desk": desk, "ask": ask, "policy": policy, "upgrade": upgrade, "hear": hear,
+    "desk": desk, "ask": ask, "serve": serve, "policy": policy, "upgrade": upgrade, "hear": hear,
     **{it: cases(it) for it in ("bags", "office", "tables", "stored")},
 }
 
