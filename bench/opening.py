@@ -12,7 +12,7 @@ import resource
 import time
 from statistics import median
 
-from office_file import RUNS, TOP, main, opened, ours
+from office_file import RUNS, main, opened, ours
 from stores import SCHEMA, VERSION_3, small_bag, stored
 
 TEXTS = "".join(f"{text};\n" for text in SCHEMA)

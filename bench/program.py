@@ -19,7 +19,7 @@ import sys
 import time
 from statistics import median
 
-from bench import DEPOT, TOP, bag, form
+from bench import DEPOT, TOP, form
 from desk import record as request_record
 from office_file import END_HOLD, FILES, PUT_HOLD, SET_HOLDS
 from office_file import copy, filled, main, opened, put_file, say, turns

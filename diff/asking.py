@@ -15,7 +15,6 @@ import pathlib
 import random
 import re
 import shutil
-import sqlite3
 import subprocess
 import sys
 import tempfile

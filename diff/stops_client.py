@@ -14,7 +14,6 @@ import http.client
 import itertools
 import os
 import random
-import select
 import socket
 import ssl
 import sys
