@@ -32,7 +32,7 @@ mkdir "$room/disk" "$room/other"
 mount -t tmpfs -o size=1m backups "$room/other"
 if [ "$DISK" = ext4 ]; then
     truncate -s 128M "$room/image"
-    mkfs.ext4 -q -m 0 "$room/image"
+    mkfs.ext4 -q -b 4096 -m 0 "$room/image"
     mount -o loop "$room/image" "$room/disk"
     mkdir "$room/disk/office"
     # A file takes up what the disk isn't to have.
