@@ -21,7 +21,7 @@ or those that are wanted, and the next command with all memory installs it.
 those that are wanted, and the next command with all memory upgrades it.
 
 `serve`: `depot serve` over a file, four connections: standard error has the lines of those that were answered 503, of
-the first of their kind that succeeds again, and of the end; or the program ends with `memory` before it listens.
+the first of their kind that succeeds again, and of the end; or the program ends with `memory`, whose line follows them.
 
 `hear`: `office_file hear`, a deposit that `read_request` hears: all of its bag, or nothing is heard.
 
@@ -323,8 +323,8 @@ def ask(library, first, last):
 
 
 def served(library, number, store, texts):
-    """How `serve` ends while this allocation is refused, the answers to these requests, one for each connection (none where
-    it doesn't listen), and whether there was such an allocation."""
+    """How `serve` ends while this allocation is refused, the answers to these requests, one for each connection until it no
+    longer listens, and whether there was such an allocation."""
     reader, writer = os.pipe()
     names = {"LD_PRELOAD": library, "REFUSED": number, "TOLD": writer, "PATH": "/usr/bin:/bin"}
     words = [DEPOT, "serve", "--port", 0, "--count", len(texts), store, "2024-03-01"]
@@ -336,9 +336,14 @@ def served(library, number, store, texts):
     listening = server.stdout.readline()
     if listening.startswith(b"listening "):
         for text in texts:
-            with socket.create_connection(("127.0.0.1", int(listening.split()[1])), timeout=60) as stream:
-                stream.sendall(text)
-                answered.append(b"".join(iter(lambda: stream.recv(65536), b"")))
+            try:
+                with socket.create_connection(("127.0.0.1", int(listening.split()[1])), timeout=60) as stream:
+                    stream.sendall(text)
+                    answered.append(b"".join(iter(lambda: stream.recv(65536), b"")))
+            except ConnectionResetError:
+                answered.append(b"")
+            except ConnectionRefusedError:
+                break
     _, told = server.communicate(timeout=60)
     with os.fdopen(reader, "rb") as file:
         return (server.returncode, told.decode()), answered, bool(file.read())
@@ -358,7 +363,19 @@ def lines_of(kinds, answered):
         elif answer.startswith(b"HTTP/1.1 200 ") and count:
             lines.append(f"depot: connection {number}: {again[kind]}, after {count} in a row, the last answered {last[kind]}")
             rows[kind] = 0
-    return [*lines, f"depot: serving ended after the connections that were asked for: {len(kinds)}"]
+    return lines
+
+
+def is_served_so(status, said, kinds, answered):
+    """Whether `serve` ends so, and tells this, after connections of these kinds that were answered so."""
+    lines, told = lines_of(kinds, answered), said.splitlines()
+    end = f"depot: serving ended after the connections that were asked for: {len(kinds)}"
+    rest = told[len(lines):]
+    if told[:len(lines)] != lines:
+        return False
+    if status == 0:
+        return len(answered) == len(kinds) and rest == [end]
+    return status == 3 and [it for it in rest if it != end][:1] in (["memory"], ["device"], ["store Q4"])
 
 
 def serve(library, first, last):
@@ -376,12 +393,10 @@ def serve(library, first, last):
             shutil.rmtree(used)
             if number and not was_refused:
                 break
-            lines = lines_of(kinds, answered)
-            has_ended = status == 3 and not answered and said.split("\n")[0] in ("memory", "device", "store Q4")
-            if not has_ended and (status != 0 or said.splitlines() != lines):
-                sys.exit(f"serve, allocation {number}: it ended with {status}, {answered!r}, {said!r}, and not {lines!r}")
+            if not is_served_so(status, said, kinds, answered) or not (number or status == 0):
+                sys.exit(f"serve, allocation {number}: it ended with {status}, {answered!r}, {said!r}")
             refused += was_refused
-            told += len(lines) > 1
+            told += any(map(is_wanting, answered))
     print(f"serve: {len(texts)} connections, {refused} allocations refused, {told} of them told of", flush=True)
     if first == 1 and last == LAST and not told:
         sys.exit("serve: no request was answered 503")
