@@ -43,11 +43,11 @@ def round_trip(folder, name, files):
     synced = turns(lambda: cleared(clear, [pack]), lambda: cleared(clear, [tar, ["sync", archive]]), bench.RUNS)
     if pathlib.Path(written).read_bytes() != text.read_bytes():
         sys.exit(f"{name}: another form")
-    memory = max(bench.peak(pack) for _ in range(3)) - 2 * size
+    memory = max(bench.peak(pack) for _ in range(3)) - size
     print(
         f"pack {name}: {ratio(*plain):.2f} times tar -cf (at most 1.5; {spreads(*plain)}), and"
         f" {ratio(*synced):.2f} times tar -cf and sync ({spreads(*synced)});"
-        f" memory: twice the form and {memory / 2**20:.1f} MiB (at most 8)",
+        f" memory: the form and {memory / 2**20:.1f} MiB (at most 8)",
         flush=True,
     )
     unpacks = [["tar", "-xf", archive, "-C", str(other)]]

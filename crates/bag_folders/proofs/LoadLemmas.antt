@@ -1,9 +1,12 @@
 -- Files that were read, and lists that grow as another is gone through.
-use Rattle.std.proofs.Common.{◌≡◌, ℕ, ◌+◌, ◌<◌, ◌≤◌, List, [], ◌∷◌, ◌++◌, length, get_or, take, map, refl, sym, ap, subst, ◌∙◌, arith}
+use Rattle.std.proofs.Common.{◌≡◌, ℕ, ◌+◌, ◌<◌, ◌≤◌, List, [], ◌∷◌, ◌++◌, length, get_or, take, map, refl, sym, ap, subst, ◌∙◌, append_assoc, arith}
 use Rattle.std.specs.Prelude.{string_bytes}
-use Rattle.std.proofs.lemmas.List.{map_push, take_all, take_more}
-use Rattle.bag_text.specs.TransferForm.{File}
+use Rattle.std.specs.List.{flat_map}
+use Rattle.std.proofs.lemmas.List.{append-nil, map_push, take_all, take_more}
+use Rattle.std.proofs.lemmas.List.Concat.{flat_map-append}
+use Rattle.bag_text.specs.TransferForm.{File, entry}
 use Rattle.bag_folders.specs.declared.listed.Listed.{Listed}
+use Rattle.bag_folders.specs.Loading.{AppendsEntry}
 use Rattle.bag_folders.specs.Packing.{AreFilesOf}
 
 -- ---- one list is a view of another
@@ -33,12 +36,18 @@ same_count [] (f ∷ fs) h = absurd h
 same_count (l ∷ ls) [] h = absurd h
 same_count (l ∷ ls) (f ∷ fs) h = let k = same_count ls fs h.2 in omega arith
 
--- a file more was read
-pub loaded_more : {X : Type 0} (g : X → File) (ls : List Listed) (i : ℕ) (d : Listed) (xs : List X) (x : X) (now : List X) → i < length ls → AreFilesOf (take i ls) (map g xs) → now ≡ xs ++ x ∷ []
-    → (g x).path ≡ string_bytes (get_or ls i d).path → length (g x).content ≡ (get_or ls i d).size → AreFilesOf (take (i + 1) ls) (map g now)
-loaded_more g ls i d xs x now lt so_far is path size =
-    subst (λ (fs : List File). AreFilesOf (take (i + 1) ls) fs) (sym (ap (λ (ys : List _). map g ys) is ∙ map_push g xs x))
-    (subst (λ (ks : List Listed). AreFilesOf ks (map g xs ++ g x ∷ [])) (sym (take_more ls i d lt)) (one_more (take i ls) (map g xs) (get_or ls i d) (g x) so_far path size))
+-- ---- a form that grows
 
-pub loaded_all : (ls : List Listed) (i : ℕ) (fs : List File) → length ls ≤ i → AreFilesOf (take i ls) fs → AreFilesOf ls fs
-loaded_all ls i fs le so_far = subst (λ (ks : List Listed). AreFilesOf ks fs) (take_all i ls le) so_far
+-- the entry of a file more follows
+pub entries_more : (ls : List Listed) (i : ℕ) (d : Listed) (start text now : List ℕ) → i < length ls
+    → (list : List File) × AreFilesOf (take i ls) list × (text ≡ start ++ flat_map entry list) → AppendsEntry (get_or ls i d) text now
+    → (list : List File) × AreFilesOf (take (i + 1) ls) list × (now ≡ start ++ flat_map entry list)
+entries_more ls i d start text now lt so_far more =
+    let l : Listed = get_or ls i d in
+    let f : File = record { path = string_bytes l.path; content = more.0 } in
+    let list : List File = so_far.0 in
+    let grown : flat_map entry (list ++ f ∷ []) ≡ flat_map entry list ++ entry f = flat_map-append entry list (f ∷ []) ∙ ap (λ (t : List ℕ). flat_map entry list ++ t) (append-nil (entry f)) in (
+      list ++ f ∷ [],
+      subst (λ (ks : List Listed). AreFilesOf ks (list ++ f ∷ [])) (sym (take_more ls i d lt)) (one_more (take i ls) list l f so_far.1 refl more.1),
+      more.2 ∙ ap (λ (t : List ℕ). t ++ entry f) so_far.2 ∙ append_assoc start (flat_map entry list) (entry f) ∙ ap (λ (t : List ℕ). start ++ t) (sym grown),
+    )

@@ -38,17 +38,6 @@ pub failed_has_none : (listed : List Listed) (failed : Failed) → HasNoFormOf l
 failed_has_none listed (failures.Device trouble) = tt
 failed_has_none listed failures.Memory = tt
 
-has_none : (listed : List Listed) (files : List File) (fault : PackFault) → AreFilesOf listed files → HasNoForm files fault → HasNoFormOf listed fault
-has_none listed files (Name odd) are h = absurd h
-has_none listed files (Set fault path) are h = (files, are, h)
-has_none listed files Size are h = (files, are, h)
-has_none listed files (Device trouble) are h = tt
-has_none listed files Memory are h = tt
-
-pub form_has_none : {X : Type 0} (listed : List Listed) (files : List File) (result : Result X PackFault) → AreFilesOf listed files → IfErr result (HasNoForm files) → IfErr result (HasNoFormOf listed)
-form_has_none listed files (Ok x) are h = tt
-form_has_none listed files (Err fault) are h = has_none listed files fault are h
-
 pub failed_under : (lists : List ℕ → List Entry → Type 0) (failed : Failed) → IsRefusedUnder lists (pack_failed failed)
 failed_under lists (failures.Device trouble) = tt
 failed_under lists failures.Memory = tt

@@ -1,10 +1,10 @@
 -- What was read of a file.
-use Rattle.std.proofs.Common.{◌≡◌, ◌<◌, ◌∙◌, ℕ, List, Option, Some, None, IfSome, ap, length, take, take_all, length-take, arith}
+use Rattle.std.proofs.Common.{◌≡◌, ◌+◌, ◌∙◌, ◌++◌, ℕ, List, ap, sym, length, drop, take-append-drop, length-drop, arith}
+use Rattle.std.specs.Io.{StartsWith}
+use Rattle.bag_folders.specs.Loading.{AppendsSome}
 
--- Where fewer bytes came than were asked for, they are all.
-pub all_of_it : (known : Option (List ℕ)) (content : List ℕ) (most : ℕ) → length content < most
-    → IfSome known (λ given. content ≡ take most given) → IfSome known (λ given. content ≡ given)
-all_of_it None content most few first = tt
-all_of_it (Some given) content most few first =
-    let count = ap length first ∙ length-take most given in
-    first ∙ take_all most given (omega arith)
+-- What was read to the end stands behind what was there before.
+pub some_behind : (old new : List ℕ) (count size : ℕ) → StartsWith new old → length new ≡ length old + count → count ≡ size → AppendsSome size old new
+some_behind old new count size front grown same =
+    let rest = length-drop (length old) new in
+    (drop (length old) new, omega arith, sym (take-append-drop (length old) new) ∙ ap (λ (t : List ℕ). t ++ drop (length old) new) front)

@@ -2,13 +2,11 @@
 use Rattle.std.proofs.Common.{◌≡◌, ◌≢◌, ℕ, zero, suc, ◌+◌, ◌<◌, ◌≤◌, Bool, true, false, ltb, leb, cond, ◌||◌, List, [], ◌∷◌, ◌++◌, length, take, map, refl, sym, ap, ap₂, subst, ◌∙◌, arith}
 use Rattle.std.specs.Prelude.{Option, Some, None, Result, Ok, Err, bytes_eq, codes, string_bytes}
 use Rattle.std.specs.List.{list_any, position_from, sum_by, flat_map}
-use Rattle.std.specs.Borrow.{Bor}
 use Rattle.std.proofs.lemmas.List.{length-append, length-take-le}
 use Rattle.std.proofs.lemmas.List.Sums.{sum_by-cons}
 use Rattle.std.proofs.lemmas.Option.{same_Some}
 use Rattle.bag_text.specs.Paths.{is_good, comes_before, lies_under}
 use Rattle.bag_text.specs.TransferForm.{File, IsBag, max_content, max_files, clashes, header, entry, opening, ending, set_text}
-use Rattle.bag_text.specs.TransferReading.{files_of}
 use Rattle.std.specs.Option.{option_or}
 use Rattle.bag_text.specs.BagList.{ListFault, file_fault, fault_from, clash_fault, list_fault}
 use Rattle.bag_text.specs.declared.set_fault.SetFault.{SetFault}
@@ -227,7 +225,7 @@ judged_fault X files TooManyFiles j out = (list_fault_law files TooManyFiles).0 
 judged_fault X files TrailingBytes j out = (list_fault_law files TrailingBytes).0 j
 
 -- the list's fault, as it is named, is why there is no form
-pub no_form : (files : List File) (fault : SetFault) (path : Option (List ℕ)) (named : PackFault) → (fault ≢ Memory → ListFault files fault)
+no_form : (files : List File) (fault : SetFault) (path : Option (List ℕ)) (named : PackFault) → (fault ≢ Memory → ListFault files fault)
     → path ≡ path_at_fault fault (paths_found files) → IsNamedAs fault path named → HasNoForm files named
 no_form files fault path (packing.Name other) stands at is = absurd is
 no_form files fault path (packing.Set found own) stands at is =
@@ -235,11 +233,6 @@ no_form files fault path (packing.Set found own) stands at is =
 no_form files fault path packing.Size stands at is = absurd is
 no_form files fault path (packing.Device trouble) stands at is = absurd is
 no_form files fault path packing.Memory stands at is = tt
-
--- the paths of files that are lent
-pub lent_paths : (files : List (Bor (List ℕ) × Bor (List ℕ))) → map (λ (file : Bor (List ℕ) × Bor (List ℕ)). file.0.now) files ≡ paths_found (files_of files)
-lent_paths [] = refl
-lent_paths (file ∷ files) = ap (λ (ps : List (List ℕ)). file.0.now ∷ ps) (lent_paths files)
 
 same_paths : (ls : List Listed) (fs : List File) → AreFilesOf ls fs → listed_paths ls ≡ paths_found fs
 same_paths [] [] h = refl

@@ -1,6 +1,12 @@
--- Files that were read, as files of a bag.
-use Rattle.bag_text.specs.TransferForm.{File}
-use Rattle.bag_folders.specs.declared.loading.Loaded.{Loaded}
+-- A form that grows by a file that is read.
+use Rattle.std.specs.Prelude.{◌≡◌, ℕ, List, ◌++◌, length, string_bytes}
+use Rattle.bag_text.specs.TransferForm.{entry}
+use Rattle.bag_folders.specs.declared.listed.Listed.{Listed}
 
-abbrev pub loaded_file : Loaded → File
-loaded_file l = record { path = l.path.now; content = l.content.items }
+-- so many bytes follow
+abbrev pub AppendsSome : ℕ → List ℕ → List ℕ → Type 0
+AppendsSome size old new = (content : List ℕ) × (length content ≡ size) × (new ≡ old ++ content)
+
+-- the entry of a file follows that has the path and the size that are listed
+abbrev pub AppendsEntry : Listed → List ℕ → List ℕ → Type 0
+AppendsEntry l old new = (content : List ℕ) × (length content ≡ l.size) × (new ≡ old ++ entry (record { path = string_bytes l.path; content = content }))

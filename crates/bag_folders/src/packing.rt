@@ -1,17 +1,14 @@
 //! A folder becomes a form.
 
-ghost use Rattle.std.specs.Prelude.{◌≡◌, IfOk, IfErr, length, List, ℕ};
-ghost use Rattle.bag_text.specs.TransferForm.{File, IsFormOf, set_text};
+ghost use Rattle.std.specs.Prelude.{◌≡◌, IfOk, IfErr};
 ghost use Rattle.bag_folders.specs.Listing.{AreToldOfSome};
-ghost use Rattle.bag_folders.specs.Packing.{AreFilesOf, is_any_declared, HasNoFormOf, IsFoundUnder, IsPacked, IsPackedOf, IsRefusedUnder, MayBeRefused};
+ghost use Rattle.bag_folders.specs.Packing.{is_any_declared, IsFoundUnder, IsPacked, IsPackedOf, IsRefusedUnder, MayBeRefused};
 ghost use Rattle.bag_folders.specs.declared.listed.Found.{Found};
 
-use crate::failed::Failed;
 use crate::folders::{Folders, FoldersUnder};
 use crate::form::form_of;
 use crate::listed::Listed;
 use crate::listing::found_under;
-use crate::loading::{lend, load};
 use crate::pack_fault::PackFault;
 use crate::planning::plan;
 use crate::putting::put;
@@ -37,23 +34,6 @@ fn is_declared(files: &[Listed]) -> bool
     files.iter().any(|file| file.path.as_str() == "bagit.txt")
 }
 
-/// The form of the files that are listed.
-fn form_of_folder<R: Files + AllocGlobal>(
-    rt: &R,
-    folder: &str,
-    files: &[Listed],
-) -> Result<Vec<u8>, PackFault>
-    ensures form { IfOk result (λ form. (list : List File)
-        × AreFilesOf files.now list × IsFormOf list form.items) }
-    ensures refused { IfErr result (HasNoFormOf files.now) }
-{
-    let loaded = load(rt, folder, files)?;
-    let Ok(list) = lend(rt.alloc(), loaded.as_slice()) else {
-        return Err(PackFault::Memory);
-    };
-    form_of(rt.alloc(), list.as_slice())
-}
-
 /// Writes the transfer form of all files that are listed in the folders to the file. The form is made of
 /// what was found before the file is made. The files are read under the folder of this path.
 fn pack_listed<R: Files + AllocGlobal, F: Folders>(
@@ -70,7 +50,7 @@ fn pack_listed<R: Files + AllocGlobal, F: Folders>(
 {
     let found = found_under(rt.alloc(), folders)?;
     let files = plan(rt.alloc(), found)?;
-    let form = form_of_folder(rt, folder, files.as_slice())?;
+    let form = form_of(rt, folder, files.as_slice())?;
     put(rt, file, form.as_slice())?;
     Ok(Packed {
         files: files.len(),

@@ -18,7 +18,7 @@ pub returns-in_err-form-clause-refused : goal.returns-in_err-form-clause-refused
 returns-in_err-form-clause-refused g c =
     let p = err_from_is_err_and c.from_residual-in_err-form.result c.from_residual-in_err-form.ensures.1 in
     rw (p.1, p.2) (form_under _ c.in_ok-found.found c.in_ok-files.files.items c.in_err-form.field-0.0 c.in_ok-found.ensures.found c.in_ok-files.ensures.order
-    (rw c.as_slice.ensures.value at c.in_err-form.ensures.refused))
+    ((rw c.as_slice.ensures.value at c.in_err-form.ensures.refused) c.in_ok-files.ensures.bag))
 
 pub returns-in_err-put-clause-refused : goal.returns-in_err-put-clause-refused
 returns-in_err-put-clause-refused g c =
@@ -33,5 +33,5 @@ returns-clause-packed g c =
       c.in_ok-found.found,
       c.in_ok-found.ensures.found,
       is_packed_of c.in_ok-found.found (record { files = c.len.result; bytes = c.len-2.result; is_declared = c.is_declared.result }) c.in_ok-files.files.items c.in_ok-form.form.items c.in_ok-files.ensures.order count bytes declared
-          (rw c.as_slice.ensures.value at c.in_ok-form.ensures.form),
+          ((rw c.as_slice.ensures.value at c.in_ok-form.ensures.form) c.in_ok-files.ensures.bag),
     )
