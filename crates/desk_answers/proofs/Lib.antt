@@ -1,4 +1,5 @@
 pub mod Lists
+pub mod ListTexts
 pub mod Walk
 mod Values
 pub mod Readings

@@ -1,7 +1,7 @@
 -- One walk over the refusals of the office and its answers, of what holds of the values that are said of them.
-use Rattle.std.proofs.Common.{◌≡◌, List, [], ◌∷◌, false, true, refl, map, Some, None}
+use Rattle.std.proofs.Common.{◌≡◌, ℕ, List, [], ◌∷◌, false, true, refl, sym, subst, ap, ◌∙◌, map, Some, None}
 use Rattle.serde_json.specs.Data.{Data}
-use Rattle.serde_json.specs.Written.{has_float}
+use Rattle.serde_json.specs.Written.{compact_text, has_float}
 use Rattle.office_core.specs.declared.answer.AuditReport.TheVariants.{Valid, Invalid}
 use Rattle.office_core.specs.declared.answer.Answer.{Answer}
 use Rattle.office_core.specs.declared.answer.Answer.TheVariants as answers
@@ -11,8 +11,13 @@ use Rattle.desk_answers.specs.Objects.{list_of, whole}
 use Rattle.desk_answers.specs.Rows.{record_data, live_hold_data}
 use Rattle.desk_answers.specs.Refusals.{refusal_data}
 use Rattle.desk_answers.specs.Bodies.{content_of}
-use Rattle.desk_answers.specs.Responses.{HasNoFloat}
+use Rattle.desk_answers.specs.Responses.{Content, json, octets, body_of}
 use Rattle.desk_answers.specs.Keys.{has_ascending_keys, content_has_ascending_keys}
+
+-- `compact_text` gives the text of a value without numbers that have a fraction
+abbrev pub HasNoFloat : Content → Type 0
+HasNoFloat (json value) = has_float value ≡ false
+HasNoFloat (octets bytes) = Unit {0}
 
 -- the value has no number with a fraction, and the keys of its objects ascend
 abbrev IsOrderly : Data → Type 0
@@ -65,3 +70,7 @@ answer_is_orderly (answers.DueList day deposits) =
     let numbers = list_is_orderly whole (λ _. (refl, refl)) deposits in
     (rw numbers.0, rw numbers.1)
 answer_is_orderly (answers.Refused refusal) = refusal_is_orderly refusal
+
+-- the text of a value that an answer carries is its body
+pub written_body : (answer : Answer) (value : Data) (text : List ℕ) → json value ≡ content_of answer → (has_float value ≡ false → text ≡ compact_text value) → text ≡ body_of (content_of answer)
+written_body answer value text is writes = writes (subst HasNoFloat (sym is) (answer_is_orderly answer).0) ∙ ap body_of is

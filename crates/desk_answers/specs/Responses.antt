@@ -1,9 +1,8 @@
 -- The bytes of a response of HTTP/1.1: a status line, field lines, an empty line and the body (RFC 9112, sections 2.1, 4 and 5). Each line ends with CR LF.
 -- `Content-Type`, `Content-Length`, `Allow` and `Connection` are fields of RFC 9110, sections 8.3, 8.6, 10.2.1 and 7.6.1.
-use Rattle.std.specs.Prelude.{◌≡◌, ℕ, List, ◌++◌, length, codes, decimal, false}
+use Rattle.std.specs.Prelude.{ℕ, List, ◌++◌, length, codes, decimal}
 use Rattle.serde_json.specs.Data.{Data}
-use Rattle.serde_json.specs.Written.{compact_text, has_float}
-use Rattle.serde_json.specs.View.{view}
+use Rattle.serde_json.specs.Written.{compact_text}
 use Rattle.desk_answers.specs.Statuses.{status_text}
 use Rattle.desk_answers.specs.declared.status.Status.{Status}
 use Rattle.desk_answers.specs.declared.content.Content.{Content as CarriedContent}
@@ -43,12 +42,11 @@ response_text status allow content = head_text status (media_type_of content) (l
 
 -- ---- for private clauses
 
--- what a value of the code carries
-abbrev pub content_view : CarriedContent → Content
-content_view (carries.Json value) = json (view value)
-content_view (carries.Octets bytes) = octets bytes.now
+-- the media type and the bytes of what the code carries
+abbrev pub carried_type : CarriedContent → MediaType
+carried_type (carries.Json text) = Json
+carried_type (carries.Octets bytes) = OctetStream
 
--- `compact_text` gives the text of a value without numbers that have a fraction
-abbrev pub HasNoFloat : Content → Type 0
-HasNoFloat (json value) = has_float value ≡ false
-HasNoFloat (octets bytes) = Unit {0}
+abbrev pub carried_bytes : CarriedContent → List ℕ
+carried_bytes (carries.Json text) = text.items
+carried_bytes (carries.Octets bytes) = bytes.now

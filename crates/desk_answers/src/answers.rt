@@ -4,7 +4,7 @@ ghost use Rattle.std.specs.Prelude.{◌≡◌, IfOk};
 ghost use Rattle.desk_answers.specs.Answers.{answer_text, refusal_text};
 ghost use Rattle.desk_answers.specs.Bodies.{status_of, content_of};
 ghost use Rattle.desk_answers.specs.DeskRefusals.{desk_status, desk_name};
-ghost use Rattle.desk_answers.specs.Responses.{content_view};
+ghost use Rattle.desk_answers.specs.Responses.{media_type_of, body_of, carried_type, carried_bytes};
 
 use crate::bodies;
 use crate::content::{Content, content_bytes};
@@ -12,6 +12,7 @@ use crate::methods::allow_line;
 use crate::refusals::{name_value, refusal_status, refusal_value};
 use crate::rows::record_data;
 use crate::status::Status;
+use crate::told::list_text;
 use desk_routes::DeskRefusal;
 use office_core::Answer;
 use std::alloc::{AllocError, Global};
@@ -38,18 +39,25 @@ fn status_of(answer: &Answer) -> Status
 
 /// What the answer carries. Bags and files are lent.
 fn content_of<'a>(alloc: Global, answer: &'a Answer) -> Result<Content<'a>, AllocError>
-    ensures { IfOk result (λ content. content_view content ≡ content_of answer.now) }
+    ensures media_type { IfOk result (λ content.
+        carried_type content ≡ media_type_of (content_of answer.now)) }
+    ensures body { IfOk result (λ content.
+        carried_bytes content ≡ body_of (content_of answer.now)) }
 {
     let value = match answer {
         Answer::Bag { bytes } | Answer::File { bytes } => {
             return Ok(Content::Octets(bytes.as_slice()));
         }
+        Answer::List { deposits } => {
+            return Ok(Content::Json(list_text(alloc, "deposits", deposits.as_slice())?));
+        }
+        Answer::Holds { holds } => {
+            return Ok(Content::Json(list_text(alloc, "holds", holds.as_slice())?));
+        }
         Answer::Class { name, years } => bodies::class(alloc, name.as_str(), *years),
         Answer::Collection { name } => bodies::collection(alloc, name.as_str()),
         Answer::Deposited { deposit } => bodies::deposit(alloc, *deposit),
-        Answer::List { deposits } => bodies::list(alloc, deposits.as_slice()),
         Answer::Record(record) => record_data(alloc, record),
-        Answer::Holds { holds } => bodies::holds(alloc, holds.as_slice()),
         Answer::Audit { deposit, report } => bodies::audit(alloc, *deposit, report),
         Answer::HoldPlaced { hold } => bodies::hold(alloc, *hold),
         Answer::HoldReleased { hold, day } => bodies::release(alloc, *hold, *day),
@@ -57,7 +65,7 @@ fn content_of<'a>(alloc: Global, answer: &'a Answer) -> Result<Content<'a>, Allo
         Answer::DueList { day, deposits } => bodies::due_list(alloc, *day, deposits.as_slice()),
         Answer::Refused(refusal) => refusal_value(alloc, refusal),
     }?;
-    Ok(Content::Json(value))
+    Ok(Content::Json(value.to_vec(alloc)?))
 }
 
 /// The bytes of the response that gives the office's answer: status line, fields, an empty line and
@@ -66,7 +74,7 @@ pub fn answer_bytes(alloc: Global, answer: &Answer) -> Result<Vec<u8>, AllocErro
     ensures { IfOk result (λ bytes. bytes.items ≡ answer_text answer.now) }
 {
     let content = content_of(alloc, answer)?;
-    content_bytes(alloc, status_of(answer), "", &content)
+    content_bytes(alloc, status_of(answer), "", content)
 }
 
 /// The status of a refusal of the desk, and its name.
@@ -96,6 +104,6 @@ pub fn refusal_bytes(alloc: Global, refusal: &DeskRefusal) -> Result<Vec<u8>, Al
     let refusal = *refusal;
     let allow = allow_line(alloc, refusal)?;
     let (status, name) = status_and_name(refusal);
-    let content = Content::Json(name_value(alloc, name)?);
-    content_bytes(alloc, status, allow.as_str(), &content)
+    let content = Content::Json(name_value(alloc, name)?.to_vec(alloc)?);
+    content_bytes(alloc, status, allow.as_str(), content)
 }

@@ -2,13 +2,12 @@
 
 ghost use Rattle.std.specs.Prelude.{◌≡◌, IfOk};
 ghost use Rattle.serde_json.specs.View.{view};
-ghost use Rattle.desk_answers.specs.Bodies.{class_data, collection_data, deposit_data, list_data, holds_data, valid_data, invalid_data, audit_data, hold_data, release_data, destroyed_data, due_list_data};
+ghost use Rattle.desk_answers.specs.Bodies.{class_data, collection_data, deposit_data, valid_data, invalid_data, audit_data, hold_data, release_data, destroyed_data, due_list_data};
 
 use crate::object::{MemberValue, object};
-use crate::rows::{deposit_rows, hold_rows};
 use bag_check::BagReport;
-use office_core::{AuditReport, Day, DepositRecord, LiveHold, Years};
-use serde_json::{Value, json};
+use office_core::{AuditReport, Day, Years};
+use serde_json::Value;
 use std::alloc::{AllocError, Global};
 
 pub(crate) fn class(alloc: Global, name: &str, years: Years) -> Result<Value, AllocError>
@@ -31,20 +30,6 @@ pub(crate) fn deposit(alloc: Global, number: u32) -> Result<Value, AllocError>
     ensures { IfOk result (λ value. view value ≡ deposit_data number) }
 {
     object(alloc, &[("deposit", MemberValue::Number(number as u64))])
-}
-
-pub(crate) fn list(alloc: Global, records: &[DepositRecord]) -> Result<Value, AllocError>
-    ensures { IfOk result (λ value. view value ≡ list_data records.now) }
-{
-    let rows = deposit_rows(alloc, records)?;
-    json!(in alloc; {"deposits": rows})
-}
-
-pub(crate) fn holds(alloc: Global, holds: &[LiveHold]) -> Result<Value, AllocError>
-    ensures { IfOk result (λ value. view value ≡ holds_data holds.now) }
-{
-    let rows = hold_rows(alloc, holds)?;
-    json!(in alloc; {"holds": rows})
 }
 
 fn valid_report(alloc: Global, deposit: u32, report: &BagReport) -> Result<Value, AllocError>

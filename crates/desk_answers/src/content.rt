@@ -1,17 +1,16 @@
 //! What a response carries.
 
-ghost use Rattle.std.specs.Prelude.{◌≡◌, IfOk, length};
-ghost use Rattle.desk_answers.specs.Responses.{response_text, content_view, HasNoFloat};
+ghost use Rattle.std.specs.Prelude.{◌≡◌, ◌++◌, IfOk, length};
+ghost use Rattle.desk_answers.specs.Responses.{head_text, carried_type, carried_bytes};
 
-use crate::head::{MediaType, response};
+use crate::head::{MediaType, response, response_around};
 use crate::status::Status;
-use serde_json::Value;
 use std::alloc::{AllocError, Global};
 
-/// What a response carries: a value in JSON, or bytes as they are.
+/// What a response carries: a text in JSON, or bytes as they are.
 #[derive(Drop)]
 pub enum Content<'a> {
-    Json(Value),
+    Json(Vec<u8>),
     Octets(&'a [u8]),
 }
 
@@ -20,17 +19,14 @@ pub(crate) fn content_bytes(
     alloc: Global,
     status: Status,
     allow: &str,
-    content: &Content<'_>,
+    content: Content<'_>,
 ) -> Result<Vec<u8>, AllocError>
-    requires { HasNoFloat (content_view content.now) }
     ensures { IfOk result (λ bytes. bytes.items
-        ≡ response_text status allow.now (content_view content.now)) }
+        ≡ head_text status (carried_type content.entry) (length (carried_bytes content.entry)) allow.now
+        ++ carried_bytes content.entry) }
 {
     match content {
-        Content::Json(value) => {
-            let text = value.to_vec(alloc)?;
-            response(alloc, status, MediaType::Json, allow, text.as_slice())
-        }
+        Content::Json(text) => response_around(alloc, status, MediaType::Json, allow, text),
         Content::Octets(bytes) => response(alloc, status, MediaType::OctetStream, allow, bytes),
     }
 }

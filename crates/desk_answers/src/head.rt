@@ -40,7 +40,7 @@ fn head(
     )
 }
 
-/// The bytes of a response. The body is copied once.
+/// The bytes of a response whose body is lent. The body is copied once.
 pub(crate) fn response(
     alloc: Global,
     status: Status,
@@ -53,5 +53,24 @@ pub(crate) fn response(
 {
     let mut bytes = head(alloc, status, kind, body.len(), allow)?.into_bytes();
     bytes.extend_from_slice(body)?;
+    Ok(bytes)
+}
+
+/// The bytes of a response. The body is moved up in its place, and the head put before it.
+pub(crate) fn response_around(
+    alloc: Global,
+    status: Status,
+    kind: MediaType,
+    allow: &str,
+    body: Vec<u8>,
+) -> Result<Vec<u8>, AllocError>
+    ensures { IfOk result (λ bytes. bytes.items
+        ≡ head_text status kind (length body.items) allow.now ++ body.items) }
+{
+    let len = body.len();
+    let head = head(alloc, status, kind, len, allow)?;
+    let mut bytes = body;
+    bytes.extend_from_slice(head.as_bytes())?;
+    bytes.rotate_left(len);
     Ok(bytes)
 }

@@ -12,5 +12,6 @@ mod object;
 mod refusals;
 mod rows;
 mod status;
+mod told;
 
 pub use answers::{answer_bytes, refusal_bytes};

@@ -1,10 +1,11 @@
 //! What answers say of one deposit, and of one hold.
 
-ghost use Rattle.std.specs.Prelude.{◌≡◌, IfOk, map};
+ghost use Rattle.std.specs.Prelude.{◌≡◌, IfOk};
 ghost use Rattle.serde_json.specs.View.{view};
 ghost use Rattle.desk_answers.specs.Rows.{scope_text, record_data, live_hold_data};
 
 use crate::object::{MemberValue, object};
+use crate::told::Told;
 use office_core::{DepositRecord, LiveHold, Scope};
 use serde_json::Value;
 use std::alloc::{AllocError, Global};
@@ -51,27 +52,18 @@ fn live_hold_data(alloc: Global, hold: &LiveHold) -> Result<Value, AllocError>
     object(alloc, &members)
 }
 
-/// What is told of each deposit, in their order.
-pub(crate) fn deposit_rows(
-    alloc: Global,
-    records: &[DepositRecord],
-) -> Result<Vec<Value>, AllocError>
-    ensures { IfOk result (λ rows. map view rows.items ≡ map record_data records.now) }
-{
-    let mut rows = Vec::new(alloc);
-    for record in records {
-        rows.push(record_data(alloc, record)?)?;
+impl Told for DepositRecord {
+    ghost told = { record_data };
+
+    fn text(&self, alloc: Global) -> Result<Vec<u8>, AllocError> {
+        record_data(alloc, self)?.to_vec(alloc)
     }
-    Ok(rows)
 }
 
-/// What is told of each hold, in their order.
-pub(crate) fn hold_rows(alloc: Global, holds: &[LiveHold]) -> Result<Vec<Value>, AllocError>
-    ensures { IfOk result (λ rows. map view rows.items ≡ map live_hold_data holds.now) }
-{
-    let mut rows = Vec::new(alloc);
-    for hold in holds {
-        rows.push(live_hold_data(alloc, hold)?)?;
+impl Told for LiveHold {
+    ghost told = { live_hold_data };
+
+    fn text(&self, alloc: Global) -> Result<Vec<u8>, AllocError> {
+        live_hold_data(alloc, self)?.to_vec(alloc)
     }
-    Ok(rows)
 }
