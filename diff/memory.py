@@ -20,8 +20,9 @@ or those that are wanted, and the next command with all memory installs it.
 `upgrade`: `depot ask` over a file with the tables of version 3, and of version 4: afterwards it has the rows from before or
 those that are wanted, and the next command with all memory upgrades it.
 
-`serve`: `depot serve` over a file, four connections: standard error has the lines of those that were answered 503, of
-the first of their kind that succeeds again, and of the end; or the program ends with `memory`, whose line follows them.
+`serve`: `depot serve` over a file, four connections, one of which at most goes without an answer: standard error has the
+lines of those that were answered 503, of the first of their kind that succeeds again, and of the end; or the program
+ends with `memory`, whose line follows them.
 
 `hear`: `office_file hear`, a deposit that `read_request` hears: all of its bag, or nothing is heard.
 
@@ -371,7 +372,7 @@ def is_served_so(status, said, kinds, answered):
     lines, told = lines_of(kinds, answered), said.splitlines()
     end = f"depot: serving ended after the connections that were asked for: {len(kinds)}"
     rest = told[len(lines):]
-    if told[:len(lines)] != lines:
+    if told[:len(lines)] != lines or answered.count(b"") > 1:
         return False
     if status == 0:
         return len(answered) == len(kinds) and rest == [end]

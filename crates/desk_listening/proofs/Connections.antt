@@ -29,7 +29,7 @@ use Rattle.desk_log.specs.declared.note.OfficeNote.{OfficeNote}
 use Rattle.desk_serving.specs.Serving.{IsNoted, ServesNoted}
 use Rattle.desk_listening.specs.Listening.{Connection, served, refused, lost, IsAfter, IsAfterAll, IsOf, IsRun, ReportsConnection, answers_of, is_answered, is_served, items_of, noted}
 use Rattle.desk_listening.specs.Accepting.{Takes, TakesAll}
-use Rattle.desk_listening.specs.Peers.{IsWritten, Leaves, Link, WritesBeginning}
+use Rattle.desk_listening.specs.Peers.{IsWritten, Leaves, Link, Talks, WritesBeginning}
 use Rattle.desk_listening.specs.declared.draining.Drained.{Drained}
 use Rattle.desk_listening.specs.declared.listener.Listener.{Ghosts as Listeners}
 use Rattle.desk_listening.specs.declared.patience.Patience.{Patience}
@@ -125,6 +125,14 @@ no_answer contents writer writer' answer same = uncalled contents writer writer'
 no_refusal : {W : Type 0} (contents : W → Option (List ℕ)) (writer writer' : Counted W) → writer' ≡ writer → IsWritten lost (contents (device_of writer)) (contents (device_of writer'))
 no_refusal contents writer writer' same =
     (Truncated, uncalled contents writer writer' (refusal_text Truncated) same (started (desk_status Truncated) (allow_line Truncated) (json (desk_data Truncated))))
+
+-- over ends that nothing was done with
+pub untouched : {P R W : Type 0} (p : Peers P R W) (r : Reads R) (w : Writes W) (patience : Patience) (link : Link P R W) → Talks (record { peer = p; reads = r; writes = w }) patience link lost link
+untouched p r w patience link = record {
+  heard = of_lost (r.remaining (device_of link.ends.reader));
+  written = no_refusal w.contents link.ends.writer link.ends.writer refl;
+  left = refl;
+}
 
 module _ {S : Type 0} (g : Ghosts S) (day : Date) where
   -- ---- one connection, of which this is told and noted

@@ -14,7 +14,8 @@ use crate::listener::Listener;
 use crate::patience::Patience;
 use crate::peer::Peer;
 use desk_log::{OfficeNote, Watch, tell_end};
-use http_desk::{Counted, DeskFault, serve_noting};
+use desk_routes::Routes;
+use http_desk::{Counted, DeskFault, serve_with_routes};
 use office_core::Day;
 use office_engine::Office;
 use sqlite::Alter;
@@ -26,6 +27,7 @@ use std::io::Write;
 /// noted of the office's answer.
 fn serve_ends<S: Alter, P: Peer>(
     alloc: Global,
+    routes: &Routes,
     office: &mut Office<S>,
     day: Day,
     peer: &mut P,
@@ -39,10 +41,11 @@ fn serve_ends<S: Alter, P: Peer>(
         patience.now (record { peer = peer.old; ends = ends.old }) connection
         (record { peer = peer.new; ends = ends.new }) }
 {
-    let (ended, note) = serve_noting(alloc, office, day, &mut ends.reader, &mut ends.writer);
+    let Ends { reader, writer } = ends;
+    let (ended, note) = serve_with_routes(alloc, routes, office, day, reader, writer);
     match ended {
         Ok(()) => {
-            let _left = hang_up(peer, &mut ends.reader, patience);
+            let _left = hang_up(peer, reader, patience);
             (Ok(()), note)
         }
         Err(fault) => (Err(fault), note),
@@ -52,9 +55,11 @@ fn serve_ends<S: Alter, P: Peer>(
 /// Serves the one request of a connection, and leaves the peer: what came of it, and what is noted of the
 /// office's answer.
 ///
-/// A connection that takes no waits, or has no ends, is a `Read`: nothing was done.
+/// A connection that takes no waits, or has no ends, is a `Read`: nothing was done. Where there is no table
+/// of the routes yet, it is made, for those that follow too.
 pub fn serve_peer<S: Alter, P: Peer>(
     alloc: Global,
+    routes: &mut Option<Routes>,
     office: &mut Office<S>,
     day: Day,
     peer: &mut P,
@@ -66,9 +71,12 @@ pub fn serve_peer<S: Alter, P: Peer>(
         × Treats (record { peer = P.Peer; reads = P.Reader.Read; writes = P.Writer.Write })
         patience.now peer.old connection peer.new }
 {
-    match open(peer, patience.talk) {
-        Ok(mut ends) => serve_ends(alloc, office, day, peer, &mut ends, patience),
-        Err(_) => (Err(DeskFault::Read), None),
+    let Ok(mut ends) = open(peer, patience.talk) else {
+        return (Err(DeskFault::Read), None);
+    };
+    match routes.get_or_try_insert_with(|| Routes::new(alloc)) {
+        Ok(routes) => serve_ends(alloc, routes, office, day, peer, &mut ends, patience),
+        Err(_) => (Err(DeskFault::Memory { done: false }), None),
     }
 }
 
@@ -85,6 +93,7 @@ struct Taken {
 /// connection alone.
 fn serve_next<S: Alter, P: Peer, L: Listener<Stream = P>>(
     alloc: Global,
+    routes: &mut Option<Routes>,
     office: &mut Office<S>,
     day: Day,
     listener: &mut L,
@@ -110,7 +119,7 @@ fn serve_next<S: Alter, P: Peer, L: Listener<Stream = P>>(
         }
         Err(error) => return Err(error),
     };
-    let (ended, note) = serve_peer(alloc, office, day, &mut peer, patience);
+    let (ended, note) = serve_peer(alloc, routes, office, day, &mut peer, patience);
     listener.close(peer);
     Ok(Taken {
         answered: ended.is_ok(),
@@ -147,10 +156,11 @@ pub fn serve_connections<S: Alter, P: Peer, L: Listener<Stream = P>, E: Write>(
         × IsLogged (all_lines result count connections)
         (log_of E.Write log.old) (log_of E.Write log.new) }
 {
+    let mut routes = None;
     let mut watch = Watch::new();
     let mut answered = 0;
     for taken in 0..count {
-        match serve_next(alloc, office, day, listener, patience) {
+        match serve_next(alloc, &mut routes, office, day, listener, patience) {
             Ok(next) => {
                 answered += u32::from(next.answered);
                 watch = watch.tell(next.note, log);

@@ -4,4 +4,6 @@
 pub mod laws;
 mod serving;
 
-pub use serving::{DeskFault, Response, Unanswered, respond, serve_noting, serve_one};
+pub use serving::{
+    DeskFault, Response, Unanswered, respond, serve_noting, serve_one, serve_with_routes,
+};

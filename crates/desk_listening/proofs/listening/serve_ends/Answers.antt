@@ -7,7 +7,7 @@ use Rattle.desk_listening.proofs.listening.serve_ends.Goals as goal
 pub returns-in-Ok : goal.returns-in-Ok
 returns-in-Ok g c =
     let ends = c.args.ends.now in
-    let noting = c.serve_noting-ended in
+    let noting = c.serve_with_routes-ended in
     let one = noting.new in
     let at = noting.ensures in
     let it = told g.S.Store c.args.day g.P.Writer.Write.contents c.args.office.now one.office (g.P.Reader.Read.remaining (device_of ends.reader)) (g.P.Reader.Read.remaining (device_of one.reader))
@@ -36,7 +36,7 @@ returns-in-Ok g c =
 pub returns-in-Err : goal.returns-in-Err
 returns-in-Err g c =
     let ends = c.args.ends.now in
-    let noting = c.serve_noting-ended in
+    let noting = c.serve_with_routes-ended in
     let one = noting.new in
     let at = noting.ensures in
     let it = told g.S.Store c.args.day g.P.Writer.Write.contents c.args.office.now one.office (g.P.Reader.Read.remaining (device_of ends.reader)) (g.P.Reader.Read.remaining (device_of one.reader))
