@@ -5,3 +5,4 @@ pub mod Answers
 pub mod Changes
 pub mod Serving
 pub mod Stock
+pub mod Kinds

@@ -12,7 +12,7 @@ use Rattle.jiff.specs.Words.{epoch_day}
 use Rattle.std.proofs.lemmas.Map.Keys.{any_passes_from_place}
 use Rattle.office_core.specs.FirstOf.{first_some}
 use Rattle.office_core.specs.Days.{first_day, last_day, IsDay}
-use Rattle.office_core.specs.Rules.{Question, HasNoDays, IsFirstMatch, NoneMatches, asked_on, counts_on, patterns_match, matches, matches_name, matches_optional, matches_action, first_place, decision_of, decision_at, some_rule_allows, allows}
+use Rattle.office_core.specs.Rules.{Question, HasNoDays, IsFirstMatch, NoneMatches, asked_on, counts_on, patterns_match, matches, matches_name, first_place, decision_of, decision_at, some_rule_allows, allows}
 use Rattle.office_core.specs.Verdicts.{verdict_of, is_denied, IsReadyForDisposal, hold_verdict, due_verdict}
 use Rattle.office_core.specs.declared.action.Action.TheVariants.{Dispose}
 use Rattle.office_core.specs.declared.rule.Rule.{Rule}

@@ -6,3 +6,4 @@ pub mod RecordByRow
 pub mod FormTold
 pub mod ListedByRow
 pub mod Totals
+pub mod NamesSpelled

@@ -1,3 +1,4 @@
+pub mod Kinds
 pub mod Allowances
 pub mod Listing
 pub mod Reading

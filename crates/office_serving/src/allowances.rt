@@ -1,15 +1,15 @@
 //! What the rules let a caller do on a day with the deposits of a collection and a class, asked once for each
-//! pair that comes up.
+//! kind of pair that comes up.
 
 ghost use Rattle.std.specs.Prelude.{◌≡◌, ℕ, List, Some};
 ghost use Rattle.jiff.specs.Types.{Date};
 ghost use Rattle.office_core.specs.declared.action.Action.{Action};
-ghost use Rattle.office_tables.specs.Calls.{GoesOnInTurn, Shows};
-ghost use Rattle.office_rows.specs.Rows.{Tables};
+ghost use Rattle.office_tables.specs.Calls.{GoesOnInTurn, GoesOnInside, Shows};
 ghost use Rattle.office_by_rows.specs.Answers.{is_allowed_for};
 ghost use Rattle.office_asking.specs.Asking.{role_name};
 ghost use Rattle.office_serving.specs.Allowances.{AreFor};
 
+use crate::kinds::{Kind, Spelled};
 use office_asking::Asker;
 use office_core::Action;
 use office_tables::TableFault;
@@ -17,26 +17,36 @@ use sqlite::{Alter, Transaction};
 use std::alloc::Global;
 use std::collections::HashMap;
 
-/// What a caller may do with deposits on a day, by the pairs of collection and class of which the rules were
-/// asked. The texts of a pair are lent by the rows.
+/// What a caller may do with deposits on a day, by the kinds of pairs of collection and class of which the rules
+/// were asked. The names of a kind are lent by the rows.
 #[derive(Drop)]
 pub struct Allowances<'a> {
     asker: &'a Asker,
     action: Action,
-    known: HashMap<(&'a str, &'a str), bool>,
+    spelled: Spelled,
+    known: HashMap<Kind<'a>, bool>,
 }
 
 impl<'a> Allowances<'a> {
     /// Those of the asker and an action, of no pair yet.
-    pub fn new(alloc: Global, asker: &'a Asker, action: Action) -> Allowances<'a>
-        ensures known { (tables : Tables)
-            → AreFor tables (role_name asker.now) asker.now.day action result }
+    ///
+    /// Fails with `Memory` or `Store`.
+    pub fn read<S: Alter>(
+        alloc: Global,
+        tx: &mut Transaction<'_, S>,
+        asker: &'a Asker,
+        action: Action,
+    ) -> Result<Allowances<'a>, TableFault>
+        ensures inside { GoesOnInside S.Store tx.old.conn tx.new.conn result }
+        ensures reads { Shows S.Store tx.old.conn.now tx.new.conn.now result (λ tables allowances.
+            AreFor tables (role_name asker.now) asker.now.day action allowances) }
     {
-        Allowances {
+        Ok(Allowances {
             asker,
             action,
+            spelled: Spelled::read(alloc, tx)?,
             known: HashMap::new(alloc),
-        }
+        })
     }
 
     /// Whether the rules let the caller do that with the deposits of this collection and this class.
@@ -55,14 +65,15 @@ impl<'a> Allowances<'a> {
             → AreFor tables role day action self.new
             × (is_allowed_for tables role day action collection.now class.now ≡ Some is)) }
     {
-        if let Some(is) = self.known.get(&(collection, class)).copied() {
+        let kind = self.spelled.kind_of(collection, class);
+        if let Some(is) = self.known.get(&kind).copied() {
             return Ok(is);
         }
         let denied = self
             .asker
             .denial(tx, self.action, Some(collection), Some(class))?;
         let is = denied.is_none();
-        self.known.insert((collection, class), is)?;
+        self.known.insert(kind, is)?;
         Ok(is)
     }
 }

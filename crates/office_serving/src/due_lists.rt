@@ -28,7 +28,7 @@ fn allowed_among<S: Alter>(
         things_told (place_told tables (role_name asker.now) asker.now.day) places.now
         ≡ Some numbers.items) }
 {
-    let mut allowances = Allowances::new(alloc, asker, Action::Dispose);
+    let mut allowances = Allowances::read(alloc, tx, asker, Action::Dispose)?;
     let mut numbers = Vec::new(alloc);
     for place in places {
         due_numbered(place.due)?;

@@ -8,6 +8,7 @@ mod counts;
 mod due_lists;
 mod files;
 mod hold_lists;
+mod kinds;
 pub mod laws;
 mod lists;
 mod records;

@@ -102,7 +102,7 @@ fn shown_among<S: Alter>(
         (wanted_of collection.entry class.entry)) rows.now
         ≡ Some told.items) }
 {
-    let mut allowances = Allowances::new(alloc, asker, Action::List);
+    let mut allowances = Allowances::read(alloc, tx, asker, Action::List)?;
     let mut told = Vec::new(alloc);
     for row in rows {
         if let Some(record) = shown_record(alloc, tx, &mut allowances, collection, class, row)? {

@@ -1,12 +1,14 @@
-use Rattle.std.proofs.Common.{arith, rules, ◌≡◌, Some, None, pos, length, get_or, refl, ap, sym, subst, ◌∙◌, append-nil}
+use Rattle.std.proofs.Common.{arith, rules, ◌≡◌, Some, None, pos, length, get_or, ap, sym, subst, ◌∙◌, append-nil}
 use Rattle.sqlite.specs.State.{HasCleanDisk}
 use Rattle.sqlite.specs.Held.{state}
 use Rattle.office_core.specs.declared.action.Action.TheVariants as acts
 use Rattle.office_tables.specs.Tables.{tables_of}
-use Rattle.office_tables.proofs.InTurn.{clean_first, none_called, turn_as, turn_then}
+use Rattle.office_tables.proofs.InTurn.{clean_first, in_turn, turn_as, turn_failed, turn_then}
 use Rattle.office_by_rows.specs.Answers.{is_allowed_for, place_told}
 use Rattle.office_by_rows.specs.Values.{count_of, due_of_number}
+use Rattle.office_tables.specs.declared.fault.TableFault.TheVariants.{Store}
 use Rattle.office_asking.specs.Asking.{role_name}
+use Rattle.office_asking.proofs.RowsRead.{some_read}
 use Rattle.office_asking.proofs.RowsTold.{office_still, told_before}
 use Rattle.office_serving.specs.Allowances.{AreFor}
 use Rattle.office_serving.proofs.ListedByRow.{no_number, number_told}
@@ -24,6 +26,7 @@ loop-place-preserved g c =
     let item = c.place-item.result in
     let at : item ≡ get_or a.places.now i item = search rules in
     let number : pos c.place.inside.number ≡ item.number = search rules in
+    let kept : c.place.inside.due ≡ item.due = search rules in
     let collection : c.deref.result.now ≡ item.collection = search rules in
     let class : c.deref-in-loop-place.result.now ≡ item.class = search rules in
     let early = λ (clean : HasCleanDisk new). clean_first c.allows.ensures.inside.stays clean in
@@ -37,7 +40,7 @@ loop-place-preserved g c =
           let day = a.asker.now.day in
           let said = told_before before.0 (λ t. AreFor t role day acts.Dispose c.loop-place.allowances → AreFor t role day acts.Dispose c.allows.new.self × (is_allowed_for t role day acts.Dispose c.deref.result.now c.deref-in-loop-place.result.now ≡ Some c.in_ok-allowed.allowed))
           (found.1 role day acts.Dispose) before.1 in
-          let due : due_of_number item.due ≡ Some c.in_ok-due_numbered.field-0 = search rules in
+          let due = ap due_of_number (sym kept) ∙ some_read (due_of_number c.place.inside.due) Store c.in_ok-due_numbered.field-0 c.in_ok-due_numbered.ensures.reads in
           let allowed : is_allowed_for t role day acts.Dispose item.collection item.class ≡ Some c.in_ok-allowed.allowed = (λ j. is_allowed_for t role day acts.Dispose (sym collection j) (sym class j)) ∙ said.1 in
           let tell = place_told t role day in
           let next = things_next tell a.places.now i item c.loop-place-test.true c.loop-place.numbers.items before.2 in (
@@ -56,9 +59,20 @@ loop-place-preserved g c =
 
 pub loop-place-init : goal.loop-place-init
 loop-place-init g c = record {
-  inside = none_called _ tt;
-  reads = λ clean office. (refl, c.new-allowances.ensures.known (tables_of (state g.S.Store c.args.tx.now.conn.now).now), ap Some (sym c.new-numbers.ensures.items));
+  inside = turn_as (in_turn c.in_ok-allowances.ensures.inside) _ tt;
+  reads = λ clean office.
+      let read = c.in_ok-allowances.ensures.reads clean office in
+      (read.0, read.1, ap Some (sym c.new-numbers.ensures.items));
 }
+
+pub returns-in_err-due_numbered-clause-inside : goal.returns-in_err-due_numbered-clause-inside
+returns-in_err-due_numbered-clause-inside g c = turn_as c.loop-place.invariant.inside _ (search rules)
+
+pub returns-in_err-allowed-clause-inside : goal.returns-in_err-allowed-clause-inside
+returns-in_err-allowed-clause-inside g c = turn_failed c.loop-place.invariant.inside c.allows.ensures.inside _ (search rules) (search rules)
+
+pub returns-in_err-push-clause-inside : goal.returns-in_err-push-clause-inside
+returns-in_err-push-clause-inside g c = turn_as (turn_then c.loop-place.invariant.inside c.in_ok-allowed.ensures.inside) _ (search rules)
 
 pub returns-clause-reads : goal.returns-clause-reads
 returns-clause-reads g c clean office =

@@ -1,10 +1,10 @@
-use Rattle.std.proofs.Common.{arith, rules, ◌≡◌, ◌++◌, [], length, get_or, ap, sym, subst, ◌∙◌, append-nil, refl, Some}
+use Rattle.std.proofs.Common.{arith, rules, ◌≡◌, ◌++◌, [], length, get_or, ap, sym, subst, ◌∙◌, append-nil, Some}
 use Rattle.std.specs.List.{cons_option}
 use Rattle.sqlite.specs.State.{HasCleanDisk}
 use Rattle.sqlite.specs.Held.{state}
 use Rattle.office_core.specs.declared.action.Action.TheVariants as acts
 use Rattle.office_tables.specs.Tables.{tables_of}
-use Rattle.office_tables.proofs.InTurn.{clean_first, none_called, turn_as, turn_failed, turn_then}
+use Rattle.office_tables.proofs.InTurn.{clean_first, in_turn, turn_as, turn_failed, turn_then}
 use Rattle.office_by_rows.specs.Answers.{listed_record}
 use Rattle.office_asking.specs.Asking.{role_name}
 use Rattle.office_asking.proofs.RowsTold.{office_still, told_before}
@@ -36,7 +36,7 @@ loop-row-preserved g c =
           let told = listed_record (tables_of old.now) role day (wanted_of a.collection a.class) in (
             found.0 ∙ before.0,
             said.0,
-            things_next told a.rows.now place row c.loop-row-test.true c.loop-row.told.items before.2 c.in_ok-record.field-0 (subst (λ r. told r ≡ Some c.in_ok-record.field-0) item said.1) _ (elim c.match-branch-2.branch [
+            things_next told a.rows.now place row c.loop-row-test.true c.loop-row.told.items before.2 c.in_ok-record.field-0 (subst (λ r. told r ≡ Some c.in_ok-record.field-0) item said.1) _ (elim c.match-branch-3.branch [
               | in-Some+in_ok-push w ↦ ap (λ v. v.items) w.told-is ∙ w.in_ok-push.ensures.items ∙ ap (λ o. c.loop-row.told.items ++ cons_option o []) (sym w.in-Some.is)
               | in_default w ↦ ap (λ v. v.items) w.told-is ∙ sym (append-nil c.loop-row.told.items) ∙ ap (λ o. c.loop-row.told.items ++ cons_option o []) (sym w.in_default.is)
             ]),
@@ -45,8 +45,10 @@ loop-row-preserved g c =
 
 pub loop-row-init : goal.loop-row-init
 loop-row-init g c = record {
-  inside = none_called _ tt;
-  reads = λ clean office. (refl, c.new-allowances.ensures.known (tables_of (state g.S.Store c.args.tx.now.conn.now).now), ap Some (sym c.new-told.ensures.items));
+  inside = turn_as (in_turn c.in_ok-allowances.ensures.inside) _ tt;
+  reads = λ clean office.
+      let read = c.in_ok-allowances.ensures.reads clean office in
+      (read.0, read.1, ap Some (sym c.new-told.ensures.items));
 }
 
 pub returns-in_err-record-clause-inside : goal.returns-in_err-record-clause-inside
