@@ -59,12 +59,12 @@ use Rattle.office_tables.specs.Schema.{office_schema, file_table, file_tree}
 use Rattle.office_rows.proofs.Order.{map_back}
 use Rattle.office_rows.specs.Rows.{FileRow, ContentRow, bytes_under, is_file_of, is_file_at, file_at, with_file}
 use Rattle.office_tables.specs.Tables.{IsOffice, Becomes, tables_of, contents_of, file_in}
-use Rattle.office_tables.specs.Contents.{references_of, references_where, references_within, content_at, content_referred, is_intact, IsMarked, KeepsOnce, IsFileAdded, AreFilesDropped}
+use Rattle.office_tables.specs.Contents.{references_of, references_where, references_within, content_at, content_referred, is_intact, IsMarked, KeepsOnce, IsFileAdded, AreFilesDropped, ShowsFile}
 use Rattle.office_tables.specs.Deposits.{shown_path, path_cmp, files_by_path}
 use Rattle.office_tables.proofs.TablePlaces.{of_files}
 use Rattle.office_tables.proofs.ContentLemmas.{fetched}
 use Rattle.office_tables.proofs.Frames.{idle, becomes, with_edit, file_rows_after, contents_after, references_after}
-use Rattle.office_tables.proofs.FileTexts.{by_deposit, by_place, by_path, content_text, paths_text, ids_text, put_text, drop_text, file_meanings}
+use Rattle.office_tables.proofs.FileTexts.{by_deposit, by_place, by_path, content_text, files_columns, files_text, ids_text, put_text, drop_text, file_meanings}
 use Rattle.office_tables.proofs.Columns.{only, all_given}
 
 -- a stored file, as the rules of its table leave it
@@ -126,7 +126,7 @@ abbrev content_under : List ContentRow → Row → List ℕ
 content_under contents row = bytes_under contents (int_at row 0)
 
 -- the references of the files that pass are those in their rows
-references_are : (those : FileRow → Bool) (test : Row → Bool) (contents : List ContentRow) → ((r : Row) → those (file_in contents r) ≡ test r) → (rows : List Row)
+pub references_are : (those : FileRow → Bool) (test : Row → Bool) (contents : List ContentRow) → ((r : Row) → those (file_in contents r) ≡ test r) → (rows : List Row)
     → references_where those (map (file_in contents) rows) (map (λ row. int_at row 3) rows) ≡ map (λ row. int_at row 3) (filter test rows)
 references_are those test contents tests [] = refl
 references_are those test contents tests (r ∷ rows) = elim (cases_Bool (test r)) [
@@ -257,7 +257,32 @@ drops_files old new n count office h =
           ];
     }
 
--- ---- the paths of the files of a deposit
+-- ---- the files of a deposit
+
+-- a file of a deposit is alone at its path
+pub only_row : (db : Database) → IsOffice db → (n : ℤ) (r : Row) → Has (db.trees file_tree) r → has_deposit n r ≡ true → filter (has_place n (bytes_at r 2)) (db.trees file_tree) ≡ r ∷ []
+only_row db office n r there his =
+    let path = bytes_at r 2 in
+    let placed : has_place n path r ≡ true = ap₂ ◌&&◌ his (bytes_itself path) in
+    elim (few_files db office n path) [
+      | inl none ↦ absurd (subst (λ rs. Has rs r) none (has_kept (has_place n path) (db.trees file_tree) r there placed))
+      | inr one ↦ one.3 ∙ ap (λ (s : Row). s ∷ []) (one_file db office n path one.0 r one.1 there one.2 placed)
+    ]
+
+-- it is the one that is found there
+pub found_there : (db : Database) → IsOffice db → (n : ℤ) (r : Row) → Has (db.trees file_tree) r → has_deposit n r ≡ true → file_at n (bytes_at r 2) (tables_of db).files ≡ Some (file_in (contents_of db) r)
+found_there db office n r there his =
+    found_by (is_file_at n (bytes_at r 2)) (has_place n (bytes_at r 2)) (file_in (contents_of db)) (db.trees file_tree) (all_from _ (db.trees file_tree) (λ r there. refl))
+    ∙ ap (λ (rs : List Row). option_map (file_in (contents_of db)) (slice_get rs 0)) (only_row db office n r there his)
+
+-- a row that shows its path and the number of its content shows it
+shows_file : (db : Database) → IsOffice db → (n : ℤ) (r : Row) → Has (db.trees file_tree) r → has_deposit n r ≡ true → ShowsFile n db (shown_of (Int n ∷ []) files_columns r)
+shows_file db office n r there his = record {
+  file = found_there db office n r there his ∙ ap (λ (d : ℤ). Some (record { deposit = d; path = bytes_at r 2; content = bytes_under (contents_of db) (int_at r 3) })) (same_number (int_at r 1) n his);
+  content = ap (λ id. content_referred id (contents_of db)) (reference_is db n (bytes_at r 2) ∙ ap (λ (rs : List Row). option_map (λ r. int_at r 3) (slice_get rs 0)) (only_row db office n r there his));
+}
+
+-- ---- their paths
 
 ascending_has : (R S : Row → Row → Type 0) (xs : List Row) → ((a b : Row) → Has xs a → Has xs b → R a b → S a b) → IsAscending R xs → IsAscending S xs
 ascending_has R S [] each up = tt
@@ -276,13 +301,13 @@ shown_by o = shown_path o.1
 abbrev IsByPath : Row × Row → Type 0
 IsByPath o = column o.0 0 ≡ Text (shown_by o)
 
-sorted_paths : (os : List (Row × Row)) → AllByRecursion IsByPath os → IsSorted (output_cmp (scan file_tree by_deposit (only 2) by_path)) os → IsSorted text_cmp (map shown_by os)
+sorted_paths : (os : List (Row × Row)) → AllByRecursion IsByPath os → IsSorted (output_cmp (scan file_tree by_deposit files_columns by_path)) os → IsSorted text_cmp (map shown_by os)
 sorted_paths os typed up = sorted_map (λ k d low high.
     let a = slice_index_or os (k + 1) d in
     let b = slice_index_or os k d in
     let ta : IsByPath a = All-from_recursion IsByPath os typed (k + 1) d (omega arith) in
     let tb : IsByPath b = All-from_recursion IsByPath os typed k d (omega arith) in
-    let same : output_cmp (scan file_tree by_deposit (only 2) by_path) a b ≡ text_cmp (shown_by a) (shown_by b) =
+    let same : output_cmp (scan file_tree by_deposit files_columns by_path) a b ≡ text_cmp (shown_by a) (shown_by b) =
     then-Equal (value_cmp (column a.0 0) (column b.0 0)) ∙ subst₂ (λ v w. value_cmp v w ≡ text_cmp (shown_by a) (shown_by b)) (sym ta) (sym tb) (value_cmp-Text (shown_by a) (shown_by b)) in
     subst (λ o. is_lt o ≡ false) same (up k d low high))
   where
@@ -309,13 +334,13 @@ untied db office n a b ha hb below = elim (cases_Bool (is_eq (text_cmp (path_in 
   | inr apart ↦ apart
 ]
 
-pub lists_paths : (old new : State) (n : ℤ) (rows : List Row) → IsOffice old.now → Shown paths_text (Int n ∷ []) old new rows
-    → (new.now ≡ old.now) × (map (λ (f : FileRow). f.path) (files_by_path n (tables_of old.now)) ≡ map shown_path rows)
-lists_paths old new n rows office h =
+pub lists_files : (old new : State) (n : ℤ) (rows : List Row) → IsOffice old.now → Shown files_text (Int n ∷ []) old new rows
+    → (new.now ≡ old.now) × (map (λ (f : FileRow). f.path) (files_by_path n (tables_of old.now)) ≡ map shown_path rows) × AllByRecursion (ShowsFile n old.now) rows
+lists_files old new n rows office h =
     let params : Row = Int n ∷ [] in
     let db = old.now.trees in
-    let q = scan file_tree by_deposit (only 2) by_path in
-    let found = reads_scan office_schema paths_text file_tree by_deposit (only 2) by_path file_meanings.asks_paths params old new office.whole.schema_is rows h in
+    let q = scan file_tree by_deposit files_columns by_path in
+    let found = reads_scan office_schema files_text file_tree by_deposit files_columns by_path file_meanings.asks_files params old new office.whole.schema_is rows h in
     let typed = file_rows old.now office in
     let keep = has_deposit n in
     let kept = filter keep (db file_tree) in
@@ -337,8 +362,11 @@ lists_paths old new n rows office h =
     let paths_are : map (λ (f : FileRow). f.path) files ≡ map path_in kept = ap (map (λ (f : FileRow). f.path)) (filter-map (is_file_of n) decode (db file_tree)) ∙ map-map (λ (f : FileRow). f.path) decode kept in
     let in_order : map (λ (f : FileRow). f.path) (sort_by path_cmp files) ≡ sort_by text_cmp (map path_in kept) = sym (sort_by-map text_cmp (λ (f : FileRow). f.path) files) ∙ ap (sort_by text_cmp) paths_are in
     let rows_are : map shown_path rows ≡ map shown_by found.ordered = ap (map shown_path) found.shown ∙ map-map shown_path (λ (o : Row × Row). o.1) found.ordered in (
-      reads_same office_schema paths_text file_tree by_deposit (only 2) by_path file_meanings.asks_paths params old new office.whole.schema_is rows h,
+      reads_same office_schema files_text file_tree by_deposit files_columns by_path file_meanings.asks_files params old new office.whole.schema_is rows h,
       in_order ∙ sym sorted_is ∙ sym rows_are,
+      all_from (ShowsFile n old.now) rows (λ x there.
+          let r = answer_sound db params file_tree by_deposit files_columns by_path rows keep found (each_of old.now office n) x there in
+          subst (ShowsFile n old.now) (sym r.3) (shows_file old.now office n r.0 r.1 r.2)),
     )
 
 -- ---- the files at these paths
@@ -377,23 +405,12 @@ module _ (db : Database) (office : IsOffice db) (n : ℤ) where
   abbrev IsFound : FileRow → Type 0
   IsFound f = file_at n f.path (tables_of db).files ≡ Some f
 
-  -- a file of the deposit is the one at its path
-  found_there : (r : Row) → Has stored r → has_deposit n r ≡ true → IsFound (decode r)
-  found_there r there keeps =
-      let path = bytes_at r 2 in
-      let its_path : bytes_eq path path ≡ true = bytes_itself path in
-      let placed : has_place n path r ≡ true = rw (keeps, its_path) refl in
-      let first = found_by (is_file_at n path) (has_place n path) decode stored (all_from _ stored (λ r there. refl)) in
-      elim (few_files db office n path) [
-        | inl none ↦ absurd (subst (λ rs. Has rs r) none (has_kept (has_place n path) stored r there placed))
-        | inr (other, kept, passes, only) ↦ first ∙ ap (λ rs. option_map decode (slice_get rs 0)) only ∙ ap (λ x. Some (decode x)) (one_file db office n path other r kept there passes placed)
-      ]
-
-  each_found : AllByRecursion IsFound (files_by_path n (tables_of db))
+  -- each is the one at its path
+  pub each_found : AllByRecursion IsFound (files_by_path n (tables_of db))
   each_found =
       let kept = filter (has_deposit n) stored in
       let files = filter (is_file_of n) (map decode stored) in
-      let all_kept : AllByRecursion IsFound (map decode kept) = all_map IsFound decode kept (all_from (λ r. IsFound (decode r)) kept (λ r there. let it = has_filtered (has_deposit n) stored r there in found_there r it.0 it.1)) in
+      let all_kept : AllByRecursion IsFound (map decode kept) = all_map IsFound decode kept (all_from (λ r. IsFound (decode r)) kept (λ r there. let it = has_filtered (has_deposit n) stored r there in found_there db office n r it.0 it.1)) in
       let all_files : AllByRecursion IsFound files = subst (AllByRecursion IsFound) (sym (filter-map (is_file_of n) decode stored)) all_kept in
       all-permutation IsFound files (sort_by path_cmp files) (IsPermutation-sym (sort_by path_cmp files) files (IsPermutation-sort_by path_cmp path_total files)) all_files
 

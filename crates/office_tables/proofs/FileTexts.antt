@@ -34,8 +34,11 @@ content_text = codes "SELECT content FROM file WHERE deposit = ?1 AND path = ?2"
 abbrev pub ids_text : List ℕ
 ids_text = codes "SELECT content FROM file WHERE deposit = ?1"
 
-abbrev pub paths_text : List ℕ
-paths_text = codes "SELECT path FROM file WHERE deposit = ?1 ORDER BY path"
+abbrev pub files_text : List ℕ
+files_text = codes "SELECT path, content FROM file WHERE deposit = ?1 ORDER BY path"
+
+abbrev pub files_columns : List Term
+files_columns = col 1 2 ∷ col 1 3 ∷ []
 
 -- ---- writes
 
@@ -50,7 +53,7 @@ drop_text = codes "DELETE FROM file WHERE deposit = ?1"
 pub record FileMeanings : Type 0 where
   pub asks_content : Asks office_schema content_text file_tree by_place (only 3) []
   pub asks_ids : Asks office_schema ids_text file_tree by_deposit (only 3) []
-  pub asks_paths : Asks office_schema paths_text file_tree by_deposit (only 2) by_path
+  pub asks_files : Asks office_schema files_text file_tree by_deposit files_columns by_path
   pub put_means : Means office_schema put_text (Insert 6 (Values (all_given 3) 4))
   pub drop_means : Means office_schema drop_text (Delete 6 (as_program (scan file_tree by_deposit (only 0) [])))
 
@@ -59,7 +62,7 @@ unfolding understood everything
 file_meanings = record {
   asks_content = record { names = codes "content" ∷ []; command = refl; unlisted = refl; plain = (refl, refl) };
   asks_ids = record { names = codes "content" ∷ []; command = refl; unlisted = refl; plain = (refl, refl) };
-  asks_paths = record { names = codes "path" ∷ []; command = refl; unlisted = refl; plain = (refl, refl) };
+  asks_files = record { names = codes "path" ∷ codes "content" ∷ []; command = refl; unlisted = refl; plain = (refl, refl) };
   put_means = record { is = refl; plain = (refl, refl) };
   drop_means = record { is = refl; plain = (refl, refl) };
 }

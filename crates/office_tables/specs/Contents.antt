@@ -9,7 +9,7 @@ use Rattle.std.specs.Ordering.{int_eq}
 use Rattle.sqlite.specs.Order.{Row}
 use Rattle.sqlite.specs.Effect.{Database}
 use Rattle.sqlite_rules.specs.Lists.{Has}
-use Rattle.sql_meaning.specs.Columns.{int_at}
+use Rattle.sql_meaning.specs.Columns.{bytes_at, int_at}
 use Rattle.office_rows.specs.Rows.{ContentRow, FileRow, is_content, content_numbered, bytes_under, next_id, with_content, is_alike, is_file_at, is_file_of, file_at, with_file, without_files}
 use Rattle.office_tables.specs.Schema.{file_tree}
 use Rattle.office_tables.specs.Tables.{IsOffice, Becomes, tables_of, contents_of}
@@ -164,6 +164,11 @@ content_at n path files references = content_referred (slice_get (references_whe
 abbrev pub is_intact : Option ContentRow → Bool
 is_intact None = false
 is_intact (Some c) = bytes_eq c.mark (sha256 c.bytes)
+
+-- a row shows the path of a file of the deposit, and the number of the content that this file has
+pub record ShowsFile (n : ℤ) (db : Database) (row : Row) : Type 0 where
+  pub file : file_at n (bytes_at row 0) (tables_of db).files ≡ Some (record { deposit = n; path = bytes_at row 0; content = bytes_under (contents_of db) (int_at row 1) })
+  pub content : content_at n (bytes_at row 0) (tables_of db).files (references_of db) (contents_of db) ≡ content_numbered (int_at row 1) (contents_of db)
 
 -- ---- contents that nobody keeps
 

@@ -6,7 +6,7 @@ ghost use Rattle.sql_meaning.specs.Columns.{int_at};
 ghost use Rattle.office_rows.specs.Rows.{bytes_under, content_numbered, file_at, is_file_at, with_content, with_file, without_files};
 ghost use Rattle.office_tables.specs.Calls.{GoesOnInTurn, GoesOnInside, Keeps, Shows, Tells, Writes};
 ghost use Rattle.office_tables.specs.Tables.{contents_of, tables_of};
-ghost use Rattle.office_tables.specs.Contents.{AreFilesDropped, AreUsed, Does, IsFileAdded, IsMarkedPut, LeavesOnce, StandOnce, content_at, content_number, contents_without, is_intact, references_of, references_where, references_without};
+ghost use Rattle.office_tables.specs.Contents.{AreFilesDropped, AreUsed, Does, IsFileAdded, IsMarkedPut, LeavesOnce, ShowsFile, StandOnce, content_at, content_number, contents_without, is_intact, references_of, references_where, references_without};
 ghost use Rattle.std.specs.List.{AllByRecursion, list_all};
 ghost use Rattle.office_tables.specs.Deposits.{shown_path, files_by_path};
 
@@ -157,16 +157,21 @@ fn rows_of_file<S: Alter>(tx: &mut Transaction<'_, S>, number: u32, path: &str) 
     )
 }
 
-/// The content whose number a row shows; where it is checked, its SHA-256 is its mark.
-fn content_in<S: Alter>(tx: &mut Transaction<'_, S>, row: &Row, checked: bool) -> Result<Vec<u8>>
+/// The content whose number a row shows in that column; where it is checked, its SHA-256 is its mark.
+fn content_in<S: Alter>(
+    tx: &mut Transaction<'_, S>,
+    row: &Row,
+    at: usize,
+    checked: bool,
+) -> Result<Vec<u8>>
     ensures inside { GoesOnInside S.Store tx.old.conn tx.new.conn result }
     ensures found { Does S.Store tx.old.conn.now tx.new.conn.now result (λ old new content.
-        (new ≡ old) × (content.items ≡ bytes_under (contents_of old) (int_at row.now 0))) }
+        (new ≡ old) × (content.items ≡ bytes_under (contents_of old) (int_at row.now at))) }
     ensures intact { Does S.Store tx.old.conn.now tx.new.conn.now result (λ old new _.
         checked ≡ true
-        → is_intact (content_numbered (int_at row.now 0) (contents_of old)) ≡ true) }
+        → is_intact (content_numbered (int_at row.now at) (contents_of old)) ≡ true) }
 {
-    let id = number_in(row, 0)?;
+    let id = number_in(row, at)?;
     match content_of(tx, id, checked)? {
         Some(content) => Ok(content),
         None => Err(TableFault::Store),
@@ -194,7 +199,7 @@ fn content_of_file<S: Alter>(
 {
     let rows = rows_of_file(tx, number, path)?;
     match rows.first() {
-        Some(row) => Ok(Some(content_in(tx, row, checked)?)),
+        Some(row) => Ok(Some(content_in(tx, row, 0, checked)?)),
         None => Ok(None),
     }
 }
@@ -275,22 +280,23 @@ pub fn drop_files<S: Alter>(tx: &mut Transaction<'_, S>, number: u32) -> Result<
     Ok(())
 }
 
-/// The rows that show the paths of the files of the deposit, ascending.
-fn rows_of_paths<S: Alter>(tx: &mut Transaction<'_, S>, number: u32) -> Result<Vec<Row>>
+/// The rows that show the paths of the files of the deposit, ascending, and the numbers of their contents.
+fn rows_of_files<S: Alter>(tx: &mut Transaction<'_, S>, number: u32) -> Result<Vec<Row>>
     ensures inside { GoesOnInside S.Store tx.old.conn tx.new.conn result }
     ensures found { Shows S.Store tx.old.conn.now tx.new.conn.now result (λ tables rows.
         map (λ f. f.path) (files_by_path (pos number) tables) ≡ map shown_path rows.items) }
+    ensures each { Does S.Store tx.old.conn.now tx.new.conn.now result (λ old new rows.
+        AllByRecursion (ShowsFile (pos number) old) rows.items) }
 {
     ask(
         tx,
-        "SELECT path FROM file WHERE deposit = ?1 ORDER BY path",
+        "SELECT path, content FROM file WHERE deposit = ?1 ORDER BY path",
         params![number],
     )
 }
 
-/// The file of the deposit at the path that a row shows; where its content is checked, its SHA-256 is its
-/// mark.
-fn file_at<S: Alter>(
+/// The file of the deposit that a row shows; where its content is checked, its SHA-256 is its mark.
+fn file_in<S: Alter>(
     tx: &mut Transaction<'_, S>,
     number: u32,
     row: &Row,
@@ -298,27 +304,26 @@ fn file_at<S: Alter>(
 ) -> Result<FileRow>
     ensures inside { GoesOnInside S.Store tx.old.conn tx.new.conn result }
     ensures same { Keeps S.Store tx.old.conn.now tx.new.conn.now result }
-    ensures found { Tells S.Store tx.old.conn.now tx.new.conn.now result (λ tables file.
-        Some file ≡ file_at (pos number) (shown_path row.now) tables.files) }
+    ensures found { Does S.Store tx.old.conn.now tx.new.conn.now result (λ old new file.
+        ShowsFile (pos number) old row.now
+        → Some file ≡ file_at (pos number) (shown_path row.now) (tables_of old).files) }
     ensures intact { Does S.Store tx.old.conn.now tx.new.conn.now result (λ old new file.
-        checked ≡ true
+        checked ≡ true → ShowsFile (pos number) old row.now
         → is_intact (content_at (pos number) file.path (tables_of old).files (references_of old)
         (contents_of old)) ≡ true) }
 {
     let path: String = row.get(0)?;
-    match content_of_file(tx, number, &path, checked)? {
-        Some(content) => Ok(FileRow {
-            deposit: number,
-            path,
-            content,
-        }),
-        None => Err(TableFault::Store),
-    }
+    let content = content_in(tx, row, 1, checked)?;
+    Ok(FileRow {
+        deposit: number,
+        path,
+        content,
+    })
 }
 
-/// The files of the deposit at the paths that the rows show, read one after another: the store holds
-/// a row that it shows several times over.
-fn files_at<S: Alter>(
+/// The files of the deposit that the rows show, read one after another: the store holds a row that it
+/// shows several times over.
+fn files_in<S: Alter>(
     alloc: Global,
     tx: &mut Transaction<'_, S>,
     number: u32,
@@ -326,18 +331,20 @@ fn files_at<S: Alter>(
     checked: bool,
 ) -> Result<Vec<FileRow>>
     ensures inside { GoesOnInTurn S.Store tx.old.conn tx.new.conn result }
-    ensures found { Shows S.Store tx.old.conn.now tx.new.conn.now result (λ tables files.
-        map Some files.items
-        ≡ map (λ row. file_at (pos number) (shown_path row) tables.files) rows.now) }
+    ensures found { Does S.Store tx.old.conn.now tx.new.conn.now result (λ old new files.
+        (new ≡ old)
+        × (AllByRecursion (ShowsFile (pos number) old) rows.now
+        → map Some files.items
+        ≡ map (λ row. file_at (pos number) (shown_path row) (tables_of old).files) rows.now)) }
     ensures intact { Does S.Store tx.old.conn.now tx.new.conn.now result (λ old new files.
-        checked ≡ true
+        checked ≡ true → AllByRecursion (ShowsFile (pos number) old) rows.now
         → list_all (λ f.
         is_intact (content_at (pos number) f.path (tables_of old).files (references_of old)
         (contents_of old))) files.items ≡ true) }
 {
     let mut files = Vec::with_capacity(alloc, rows.len())?;
     for row in rows {
-        files.push(file_at(tx, number, row, checked)?)?;
+        files.push(file_in(tx, number, row, checked)?)?;
     }
     Ok(files)
 }
@@ -360,8 +367,8 @@ fn read_files<S: Alter>(
         is_intact (content_at (pos number) f.path (tables_of old).files (references_of old)
         (contents_of old))) all.items ≡ true) }
 {
-    let rows = rows_of_paths(tx, number)?;
-    files_at(alloc, tx, number, &rows, checked)
+    let rows = rows_of_files(tx, number)?;
+    files_in(alloc, tx, number, &rows, checked)
 }
 
 /// The files of the deposit of that number, ascending by path, byte by byte.

@@ -1,12 +1,12 @@
 use Rattle.std.proofs.Common.{◌≡◌, pos, map, Some, true, sym, subst}
-use Rattle.std.specs.List.{list_all}
+use Rattle.std.specs.List.{AllByRecursion, list_all}
 use Rattle.std.proofs.lemmas.Result.{IfOk-weaker}
 use Rattle.sqlite.specs.Effect.{Database}
 use Rattle.sqlite.specs.State.{HasCleanDisk}
 use Rattle.sqlite.specs.Held.{state}
 use Rattle.office_rows.specs.Rows.{FileRow, file_at}
 use Rattle.office_tables.specs.Tables.{IsOffice, tables_of, contents_of}
-use Rattle.office_tables.specs.Contents.{content_at, is_intact, references_of}
+use Rattle.office_tables.specs.Contents.{ShowsFile, content_at, is_intact, references_of}
 use Rattle.office_tables.specs.Deposits.{shown_path}
 use Rattle.office_tables.proofs.FileLemmas.{gathers_files}
 use Rattle.office_tables.proofs.InTurn.{clean_first}
@@ -15,20 +15,22 @@ use Rattle.office_tables.proofs.files.read_files.Goals as goal
 pub returns-clause-found : goal.returns-clause-found
 returns-clause-found g c clean office =
     let old = state g.S.Store c.args.tx.now.conn.now in
-    let mid = state g.S.Store c.rows_of_paths.new.tx.conn.now in
-    let clean_mid : HasCleanDisk mid = clean_first c.files_at.ensures.inside.stays clean in
+    let mid = state g.S.Store c.rows_of_files.new.tx.conn.now in
+    let clean_mid : HasCleanDisk mid = clean_first c.files_in.ensures.inside.stays clean in
     let paths = c.in_ok-rows.ensures.found clean_mid office in
-    let found = rw c.deref.ensures.value at (c.files_at.ensures.found clean (subst IsOffice (sym paths.0) office)) in
     let n = pos c.args.number in
     let rows = c.in_ok-rows.rows.items in
-    IfOk-weaker c.files_at.result _ _ (λ files h. gathers_files old.now office n rows files.items paths.1
-    (subst (λ (db : Database). map Some files.items ≡ map (λ row. file_at n (shown_path row) (tables_of db).files) rows) paths.0 h.1)) found
+    let each = subst (λ (db : Database). AllByRecursion (ShowsFile n db) rows) (sym paths.0) (c.in_ok-rows.ensures.each clean_mid office) in
+    let found = rw c.deref.ensures.value at (c.files_in.ensures.found clean (subst IsOffice (sym paths.0) office)) in
+    IfOk-weaker c.files_in.result _ _ (λ files h. gathers_files old.now office n rows files.items paths.1
+    (subst (λ (db : Database). map Some files.items ≡ map (λ row. file_at n (shown_path row) (tables_of db).files) rows) paths.0 (h.1 each))) found
 
 pub returns-clause-intact : goal.returns-clause-intact
 returns-clause-intact g c clean office =
-    let mid = state g.S.Store c.rows_of_paths.new.tx.conn.now in
-    let clean_mid : HasCleanDisk mid = clean_first c.files_at.ensures.inside.stays clean in
+    let mid = state g.S.Store c.rows_of_files.new.tx.conn.now in
+    let clean_mid : HasCleanDisk mid = clean_first c.files_in.ensures.inside.stays clean in
     let paths = c.in_ok-rows.ensures.found clean_mid office in
-    let intact = c.files_at.ensures.intact clean (subst IsOffice (sym paths.0) office) in
     let n = pos c.args.number in
-    IfOk-weaker c.files_at.result _ _ (λ files h checked. subst (λ (db : Database). list_all (λ (f : FileRow). is_intact (content_at n f.path (tables_of db).files (references_of db) (contents_of db))) files.items ≡ true) paths.0 (h checked)) intact
+    let each = subst (λ (db : Database). AllByRecursion (ShowsFile n db) c.in_ok-rows.rows.items) (sym paths.0) (c.in_ok-rows.ensures.each clean_mid office) in
+    let intact = rw c.deref.ensures.value at (c.files_in.ensures.intact clean (subst IsOffice (sym paths.0) office)) in
+    IfOk-weaker c.files_in.result _ _ (λ files h checked. subst (λ (db : Database). list_all (λ (f : FileRow). is_intact (content_at n f.path (tables_of db).files (references_of db) (contents_of db))) files.items ≡ true) paths.0 (h checked each)) intact

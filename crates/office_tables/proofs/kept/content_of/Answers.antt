@@ -1,4 +1,4 @@
-use Rattle.std.proofs.Common.{◌≡◌, None, Some, slice_get, option_map, rules, sym, ap, subst, ◌∙◌, w64}
+use Rattle.std.proofs.Common.{◌≡◌, Some, slice_get, option_map, rules, sym, ap, ◌∙◌, w64}
 use Rattle.std.proofs.lemmas.Int.{to_z-of_z}
 use Rattle.sqlite.specs.Order.{Row}
 use Rattle.sqlite.specs.Held.{state}

@@ -1,0 +1,21 @@
+use Rattle.std.proofs.Common.{◌≡◌, List, ℕ, pos, string_bytes, Some, ap, sym, ◌∙◌}
+use Rattle.sqlite.specs.Order.{bytes}
+use Rattle.sqlite.specs.Held.{state}
+use Rattle.office_tables.specs.Contents.{content_at, is_intact, references_of}
+use Rattle.office_tables.specs.Tables.{contents_of, tables_of}
+use Rattle.office_tables.specs.Deposits.{shown_path}
+use Rattle.office_tables.proofs.files.file_in.Goals as goal
+
+pub returns-clause-found : goal.returns-clause-found
+returns-clause-found g c clean office shows =
+    let path : string_bytes c.in_ok-path.path ≡ shown_path c.args.row.now = sym (ap bytes c.in_ok-path.ensures.ok.1) in
+    let content = (c.in_ok-content.ensures.found clean office).1 in
+    (λ i. Some (record { deposit = pos c.args.number; path = path i; content = content i })) ∙ sym shows.file
+
+pub returns-clause-intact : goal.returns-clause-intact
+returns-clause-intact g c clean office checked shows =
+    let db = (state g.S.Store c.args.tx.now.conn.now).now in
+    let path : string_bytes c.in_ok-path.path ≡ shown_path c.args.row.now = sym (ap bytes c.in_ok-path.ensures.ok.1) in
+    ap (λ (path : List ℕ). is_intact (content_at (pos c.args.number) path (tables_of db).files (references_of db) (contents_of db))) path
+    ∙ ap is_intact shows.content
+    ∙ c.in_ok-content.ensures.intact clean office checked

@@ -1,0 +1,18 @@
+use Rattle.std.proofs.Common.{Ok, ◌≡◌, map, take, pos, Some, true}
+use Rattle.std.specs.List.{AllByRecursion, list_all}
+use Rattle.office_rows.specs.Rows.{file_at}
+use Rattle.office_tables.specs.Deposits.{shown_path}
+use Rattle.office_tables.specs.Calls.{GoesOnInTurn}
+use Rattle.office_tables.specs.Contents.{Does, ShowsFile, content_at, is_intact, references_of}
+use Rattle.office_tables.specs.Tables.{tables_of, contents_of}
+use Rattle.office_tables.specs.declared.fault.TableFault.{TableFault}
+use Rattle.office_tables.proofs.files.files_in.Given as goal
+
+abbrev pub invariant-loop-row : goal.invariant-loop-row
+invariant-loop-row g l = record {
+  inside : GoesOnInTurn {T = Unit {0}} g.S.Store l.fn.tx.conn l.tx.conn (Ok tt);
+  found : Does {E = TableFault} g.S.Store l.fn.tx.conn.now l.tx.conn.now (Ok l.files) (λ old new files.
+      (new ≡ old) × (AllByRecursion (ShowsFile (pos l.number) old) l.rows → map Some files.items ≡ map (λ row. file_at (pos l.number) (shown_path row) (tables_of old).files) (take l.row-index l.rows)));
+  intact : Does {E = TableFault} g.S.Store l.fn.tx.conn.now l.tx.conn.now (Ok l.files) (λ old _ files.
+      l.checked ≡ true → AllByRecursion (ShowsFile (pos l.number) old) l.rows → list_all (λ f. is_intact (content_at (pos l.number) f.path (tables_of old).files (references_of old) (contents_of old))) files.items ≡ true);
+}
