@@ -34,7 +34,7 @@ use Rattle.office_tables.proofs.TablePlaces.{of_rules}
 use Rattle.office_tables.proofs.PolicyTexts.{rule_columns}
 use Rattle.office_tables.proofs.DueLemmas.{truth_back, by_day}
 use Rattle.office_tables.proofs.MatchTexts.{AsksFirst, match_text, matching, match_order, asks_match}
-use Rattle.office_rows.specs.Matching.{Attempt, fits_attempt, fits_name, matching_rule}
+use Rattle.office_rows.specs.Matching.{Attempt, counts_on, fits_attempt, fits_name, matching_rule}
 
 -- ---- ORDER BY, LIMIT 1
 
@@ -101,12 +101,24 @@ until_is r day is = and_true (is_true (binary (Compare Ge Binary) (column r 8) (
 abbrev attempt : List ℕ → List ℕ → List ℕ → List ℕ → ℤ → Attempt
 attempt role action collection class day = record { role = role; action = action; collection = collection; class = class; day = day }
 
+false_last : (a b : Bool) → false ≡ (a && (b && false))
+false_last true true = refl
+false_last true false = refl
+false_last false b = refl
+
+-- two tests may be made before two others
+reordered : (c d a b e : Bool) → (c && (d && (a && (b && e)))) ≡ (a && (b && (c && (d && e))))
+reordered true true a b e = refl
+reordered true false a b e = false_last a b
+reordered false d a b e = false_last a b
+
 passes_match : (role action collection class : List ℕ) (day : ℤ) (r : Row) → IsRuleRow r
     → passes (Text role ∷ Text action ∷ Text collection ∷ Text class ∷ Int day ∷ []) matching r ≡ fits_attempt (attempt role action collection class day) (rule_in r)
 passes_match role action collection class day r it =
-    ap₂ (λ a b. a && b) (star_is (column r 3) (bytes_at r 3) role it.0) (ap₂ (λ a b. a && b) (star_is (column r 4) (bytes_at r 4) action it.1)
-    (ap₂ (λ a b. a && b) (star_is (column r 5) (bytes_at r 5) collection it.2) (ap₂ (λ a b. a && b) (star_is (column r 6) (bytes_at r 6) class it.3)
+    ap₂ (λ a b. a && b) (star_is (column r 5) (bytes_at r 5) collection it.2) (ap₂ (λ a b. a && b) (star_is (column r 6) (bytes_at r 6) class it.3)
+    (ap₂ (λ a b. a && b) (star_is (column r 3) (bytes_at r 3) role it.0) (ap₂ (λ a b. a && b) (star_is (column r 4) (bytes_at r 4) action it.1)
     (ap₂ (λ a b. a && b) (ap (λ v. is_true (binary (Compare Le Binary) v (Int day))) it.4 ∙ by_day (int_at r 7) day) (until_is r day it.5)))))
+    ∙ reordered (fits_name (bytes_at r 5) collection) (fits_name (bytes_at r 6) class) (fits_name (bytes_at r 3) role) (fits_name (bytes_at r 4) action) (counts_on day (rule_in r))
 
 pub finds_match : (old new : State) (role action collection class : List ℕ) (day : ℤ) (rows : List Row) → IsOffice old.now
     → Shown match_text (Text role ∷ Text action ∷ Text collection ∷ Text class ∷ Int day ∷ []) old new rows

@@ -39,10 +39,10 @@ abbrev pub day_until : ℕ → ℕ → Term
 day_until place param = op2 (Compare Ge Binary) (col 1 place) (col 0 param)
 
 abbrev pub match_text : List ℕ
-match_text = codes "SELECT place, effect, role, action, collection, class, first, last FROM rule_5 WHERE role IN ('*', ?1) AND action IN ('*', ?2) AND collection IN ('*', ?3) AND class IN ('*', ?4) AND first <= ?5 AND last >= ?5 ORDER BY place LIMIT 1"
+match_text = codes "SELECT place, effect, role, action, collection, class, first, last FROM rule_5 WHERE collection IN ('*', ?3) AND class IN ('*', ?4) AND role IN ('*', ?1) AND action IN ('*', ?2) AND first <= ?5 AND last >= ?5 ORDER BY place LIMIT 1"
 
 abbrev pub matching : List Term
-matching = star_or 3 0 ∷ star_or 4 1 ∷ star_or 5 2 ∷ star_or 6 3 ∷ day_from 7 4 ∷ day_until 8 4 ∷ []
+matching = star_or 5 2 ∷ star_or 6 3 ∷ star_or 3 0 ∷ star_or 4 1 ∷ day_from 7 4 ∷ day_until 8 4 ∷ []
 
 abbrev pub match_order : List (Term × Key)
 match_order = rising

@@ -184,7 +184,7 @@ pub fn match_rule<S: Alter>(
 {
     let rows = ask(
         tx,
-        "SELECT place, effect, role, action, collection, class, first, last FROM rule_5 WHERE role IN ('*', ?1) AND action IN ('*', ?2) AND collection IN ('*', ?3) AND class IN ('*', ?4) AND first <= ?5 AND last >= ?5 ORDER BY place LIMIT 1",
+        "SELECT place, effect, role, action, collection, class, first, last FROM rule_5 WHERE collection IN ('*', ?3) AND class IN ('*', ?4) AND role IN ('*', ?1) AND action IN ('*', ?2) AND first <= ?5 AND last >= ?5 ORDER BY place LIMIT 1",
         params![role, action, collection, class, day],
     )?;
     read_first(&rows)
