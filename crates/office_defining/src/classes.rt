@@ -1,17 +1,21 @@
 //! Classes.
 
-ghost use Rattle.std.specs.Prelude.{◌≡◌, [], ◌∷◌};
+ghost use Rattle.std.specs.Prelude.{◌≡◌, ◌∷◌, ◌+ℤ◌, IsTrue, option_map, pos};
+ghost use Rattle.office_core.specs.Retention.{due_number};
+ghost use Rattle.office_core.specs.RetentionReading.{due_of};
 ghost use Rattle.office_core.specs.declared.request.Request.TheVariants as requests;
+ghost use Rattle.office_rows.specs.Rows.{with_dues};
 ghost use Rattle.office_rows.specs.Told.{class_closings};
 ghost use Rattle.office_tables.specs.Calls.{GoesOnInTurn, GoesOnInside};
 ghost use Rattle.office_history.specs.Pictures.{years_number};
 ghost use Rattle.office_by_rows.specs.Changes.{with_due_days, with_years};
+ghost use Rattle.office_by_rows.specs.Values.{day_numbered};
 ghost use Rattle.office_asking.specs.Asking.{visit_on};
 ghost use Rattle.office_asking.specs.Serving.{Changes, Serves};
 
 use office_asking::{day_numbered, denial};
 use office_core::{Action, Answer, Day, Name, Years, due};
-use office_tables::{ClosingRow, TableFault, put_class, rows_of_class, set_due};
+use office_tables::{ClosingRow, TableFault, put_class, rows_of_class, set_dues};
 use sqlite::{Alter, Transaction};
 use std::alloc::Global;
 
@@ -25,18 +29,53 @@ fn years_number(years: Years) -> i64
     }
 }
 
-/// Sets the day from which the deposit of that row may be destroyed, by the years of its class.
-fn set_due_day<S: Alter>(
+/// Whether the deposit of the next row has the next number, and was closed on the same day.
+fn follows(row: &ClosingRow, next: &ClosingRow) -> bool
+    ensures { IsTrue result
+        → next.now ≡ record { number = row.now.number +ℤ pos 1; closed = row.now.closed } }
+{
+    row.number.checked_add(1) == Some(next.number) && next.closed == row.closed
+}
+
+/// Sets the due day of a series: the deposits from the first row's number to the last's, which were closed on
+/// one day.
+fn set_series<S: Alter>(
     tx: &mut Transaction<'_, S>,
-    row: &ClosingRow,
+    first: &ClosingRow,
+    last: &ClosingRow,
     years: Years,
 ) -> Result<(), TableFault>
     ensures inside { GoesOnInside S.Store tx.old.conn tx.new.conn result }
-    ensures changes { Changes S.Store tx.old.conn.now tx.new.conn.now result
-        (with_due_days years (row.now ∷ [])) }
+    ensures changes { Changes S.Store tx.old.conn.now tx.new.conn.now result (λ tables.
+        option_map
+        (λ closed.
+        with_dues first.now.number last.now.number (due_number (due_of closed years)) tables)
+        (day_numbered first.now.closed)) }
 {
-    let closed = day_numbered(row.closed)?;
-    set_due(tx, row.number, due(closed, years).number())
+    let closed = day_numbered(first.closed)?;
+    set_dues(tx, first.number, last.number, due(closed, years).number())
+}
+
+/// Sets the due days of the deposits of these rows, by one statement for each series of them.
+fn set_by_series<S: Alter>(
+    tx: &mut Transaction<'_, S>,
+    row: &ClosingRow,
+    others: &[ClosingRow],
+    years: Years,
+) -> Result<(), TableFault>
+    ensures inside { GoesOnInTurn S.Store tx.old.conn tx.new.conn result }
+    ensures changes { Changes S.Store tx.old.conn.now tx.new.conn.now result
+        (with_due_days years (row.now ∷ others.now)) }
+{
+    let (mut first, mut last) = (row, row);
+    for next in others {
+        if !follows(last, next) {
+            set_series(tx, first, last, years)?;
+            first = next;
+        }
+        last = next;
+    }
+    set_series(tx, first, last, years)
 }
 
 /// Sets the due days of the deposits of these rows in turn.
@@ -49,10 +88,10 @@ fn set_due_days<S: Alter>(
     ensures changes { Changes S.Store tx.old.conn.now tx.new.conn.now result
         (with_due_days years rows.now) }
 {
-    for row in rows {
-        set_due_day(tx, row, years)?;
+    match rows.split_first() {
+        Some((row, others)) => set_by_series(tx, row, others, years),
+        None => Ok(()),
     }
-    Ok(())
 }
 
 /// Sets the due day of each deposit of the class, destroyed ones too, by the years of the class.

@@ -277,6 +277,13 @@ due_numbered n = find (is_due_of n)
 abbrev pub with_due : ℤ → Option ℤ → Tables → Tables
 with_due n due t = record t { dues = map (λ d. if is_due_of n d then record d { due = due } else d) t.dues }
 
+abbrev pub is_due_between : ℤ → ℤ → DueRow → Bool
+is_due_between first last d = is_ge (int_cmp d.number first) && is_le (int_cmp d.number last)
+
+-- each deposit from the first number to the last, both included, falls due on that day, or never
+abbrev pub with_dues : ℤ → ℤ → Option ℤ → Tables → Tables
+with_dues first last due t = record t { dues = map (λ d. if is_due_between first last d then record d { due = due } else d) t.dues }
+
 -- so many live holds cover the deposit
 abbrev pub with_holds : ℤ → ℤ → Tables → Tables
 with_holds n holds t = record t { dues = map (λ d. if is_due_of n d then record d { holds = holds } else d) t.dues }

@@ -1,5 +1,5 @@
 -- What the statements on due days and on counts of holds do to the rows of an office.
-use Rattle.std.proofs.Common.{IsTrue, ◌≡◌, ◌⊎◌, ◌&&◌, codes, Float, is_nan, ℕ, ℤ, pos, ◌+ℤ◌, List, [], ◌∷◌, map, filter, slice_get, option_map, Bool, true, false, Some, None, Ok, refl, sym, ap, ap₂, subst, subst₂, ◌∙◌, inl, inr, if◌then◌else◌}
+use Rattle.std.proofs.Common.{IsTrue, ◌≡◌, ◌⊎◌, ◌&&◌, codes, Float, is_nan, ℕ, ℤ, pos, ◌+ℤ◌, List, [], ◌∷◌, map, filter, slice_get, option_map, Bool, true, false, Option, Some, None, Ok, refl, sym, ap, ap₂, subst, subst₂, ◌∙◌, inl, inr, if◌then◌else◌}
 use Rattle.std.specs.Ordering.{int_cmp, is_le, is_ge}
 use Rattle.sqlite.specs.declared.types.Value.{Value}
 use Rattle.sqlite.specs.declared.types.Value.TheVariants.{Null, Int, Real, Text}
@@ -39,7 +39,7 @@ use Rattle.sql_meaning.proofs.Changing.{revises}
 use Rattle.sql_meaning.proofs.Whole.{rows_after}
 use Rattle.sql_meaning.proofs.ManyRows.{revises_all}
 use Rattle.office_tables.specs.Schema.{office_schema, deposit_table, deposit_tree}
-use Rattle.office_rows.specs.Rows.{DepositRow, DueRow, is_due_of, due_numbered, with_due, with_holds, beside, more_holds, with_more_holds, with_more_holds_class, is_within, is_of_class, of_class, least_number, is_by, is_disposable}
+use Rattle.office_rows.specs.Rows.{DepositRow, DueRow, is_due_of, is_due_between, due_numbered, with_due, with_dues, with_holds, beside, more_holds, with_more_holds, with_more_holds_class, is_within, is_of_class, of_class, least_number, is_by, is_disposable}
 use Rattle.office_rows.specs.Told.{place_row, closing_of, due_places, class_closings}
 use Rattle.office_tables.specs.Dues.{shown_due, shown_beside, shown_place, shown_closing, FitMore, dues_of}
 use Rattle.office_tables.specs.Tables.{IsOffice, Becomes, tables_of, deposit_in, due_in}
@@ -47,9 +47,9 @@ use Rattle.office_tables.proofs.TablePlaces.{of_deposits}
 use Rattle.office_tables.proofs.Frames.{idle, becomes}
 use Rattle.office_tables.proofs.DepositLemmas.{IsDepositRow, deposit_rows, kept_alike}
 use Rattle.office_tables.proofs.MaybeEmpty.{keeps_int, null_is}
-use Rattle.office_tables.proofs.DueTexts.{class_rows_text, class_rows_columns, due_of_text, due_of_columns, set_due_text, clear_due_text, set_holds_text, add_holds_text, more_columns, add_holds_class_text, due_rows_text, is_due, due_rows_columns, beside_text, due_meanings}
+use Rattle.office_tables.proofs.DueTexts.{class_rows_text, class_rows_columns, due_of_text, due_of_columns, set_due_text, clear_due_text, set_dues_text, clear_dues_text, by_numbers, set_holds_text, add_holds_text, more_columns, add_holds_class_text, due_rows_text, is_due, due_rows_columns, beside_text, due_meanings}
 use Rattle.office_tables.proofs.DepositTexts.{deposit_with}
-use Rattle.sqlite.specs.Term.{lit, col}
+use Rattle.sqlite.specs.Term.{Term, lit, col, eval}
 use Rattle.office_tables.proofs.RowsRead.{reads_numbered, lists_all}
 
 -- ---- a stored deposit with other last columns
@@ -323,3 +323,42 @@ lists_class old new class rows office h =
       reads_same office_schema class_rows_text deposit_tree (by_text 4) class_rows_columns rising due_meanings.asks_class_rows params old new office.whole.schema_is rows h,
       found ∙ sym shows ∙ ap (map shown_closing) (sym is),
     )
+
+-- ---- the deposits between two numbers
+
+passes_between : (first last : ℤ) (more r : Row) → IsTrue (is_int (rowid r)) → passes (Int first ∷ Int last ∷ more) by_numbers r ≡ is_due_between first last (due_in r)
+passes_between first last more r whole =
+    and_end (is_true (binary (Compare Ge Binary) (column r 0) (Int first))) (is_true (binary (Compare Le Binary) (column r 0) (Int last)))
+    ∙ ap (within first last) (int_is (rowid r) whole)
+    ∙ ap₂ (λ a b. a && b) (not_before (int_at r 0) first) (by_day (int_at r 0) last)
+
+-- a text by which each of them gets this value as its day
+module _ (text : List ℕ) (more : Row) (day : Term) (value : Value) (due : Option ℤ) (means : Means office_schema text (Update 5 (as_program (scan deposit_tree by_numbers (deposit_with 10 day) []))))
+    (shows : (first last : ℤ) (r : Row) → eval day ((Int first ∷ Int last ∷ more) ∷ r ∷ []) ≡ value) (keeps : cast kind.Integer value ≡ value) (is : maybe_int value ≡ due) where
+  sets_between : (old new : State) (first last : ℤ) (count : ℕ) → IsOffice old.now → Executes text (Int first ∷ Int last ∷ more) old new (Ok count)
+      → Becomes new.now (with_dues first last due (tables_of old.now))
+  sets_between old new first last count office h =
+      let db = old.now.trees in
+      let shaped = of_deposits office.whole.shaped in
+      let params : Row = Int first ∷ Int last ∷ more in
+      let keep : Row → Bool = λ r. is_due_between first last (due_in r) in
+      let set : Row → Row = λ r. with_last (column r 9) value (Int (int_at r 11)) r in
+      let each = all_from (λ r. passes params by_numbers r ≡ keep r) (db deposit_tree) (λ r there. passes_between first last more r (all_has _ (db deposit_tree) r shaped.1 there)) in
+      let done = revises_all text params old new office_schema office.whole.schema_is 5 deposit_table refl idle shaped by_numbers (deposit_with 10 day) keep each means set (λ r. refl) (λ r there kept.
+      let it = all_has IsDepositRow (db deposit_tree) r (deposit_rows old.now office) there in (
+        ap₂ (λ u v. cast_row deposit_table (rowid r ∷ Null ∷ column r 2 ∷ column r 3 ∷ column r 4 ∷ column r 5 ∷ column r 6 ∷ column r 7 ∷ column r 8 ∷ column r 9 ∷ u ∷ v ∷ [])) (shows first last r) it.8
+            ∙ cast_last (column r 9) value (Int (int_at r 11)) r it (all_has _ (db deposit_tree) r shaped.1 there) (keeps_int (column r 9) it.9) keeps (cast_int (int_at r 11)),
+        refl,
+      )) count h in
+      let edit = edit_of db deposit_table (ids_of done.answer) Given 1 done.answer in
+      let deposits_are : map deposit_in (edited db edit) ≡ map deposit_in (db deposit_tree) = ap (map deposit_in) done.made ∙ kept_alike deposit_in keep set (λ r. refl) (db deposit_tree) in
+      let dues_are = decoded due_in keep set (is_due_between first last) (λ d. record d { due = due }) (λ r. refl) (λ r. ap (λ day. record (due_in r) { due = day }) is) (db deposit_tree) in
+      becomes old new edit count edit.news office (refl, (refl, tt)) done.change _ (ap₂ (λ rows dues. record (tables_of old.now) { deposits = rows; dues = dues }) deposits_are (ap (map due_in) done.made ∙ dues_are))
+
+pub sets_dues : (old new : State) (first last day : ℤ) (count : ℕ) → IsOffice old.now → Executes set_dues_text (Int first ∷ Int last ∷ Int day ∷ []) old new (Ok count)
+    → Becomes new.now (with_dues first last (Some day) (tables_of old.now))
+sets_dues old new first last day = sets_between set_dues_text (Int day ∷ []) (col 0 2) (Int day) (Some day) due_meanings.set_dues_means (λ first last r. refl) (cast_int day) refl old new first last
+
+pub clears_dues : (old new : State) (first last : ℤ) (count : ℕ) → IsOffice old.now → Executes clear_dues_text (Int first ∷ Int last ∷ []) old new (Ok count)
+    → Becomes new.now (with_dues first last None (tables_of old.now))
+clears_dues = sets_between clear_dues_text [] (lit Null) Null None due_meanings.clear_dues_means (λ first last r. refl) cast_null refl

@@ -43,6 +43,18 @@ clear_due_text = codes "UPDATE deposit SET due = NULL WHERE number = ?1"
 abbrev pub set_holds_text : List ℕ
 set_holds_text = codes "UPDATE deposit SET holds = ?2 WHERE number = ?1"
 
+-- ---- the deposits between two numbers
+
+abbrev pub set_dues_text : List ℕ
+set_dues_text = codes "UPDATE deposit SET due = ?3 WHERE number BETWEEN ?1 AND ?2"
+
+abbrev pub clear_dues_text : List ℕ
+clear_dues_text = codes "UPDATE deposit SET due = NULL WHERE number BETWEEN ?1 AND ?2"
+
+-- WHERE number BETWEEN ?1 AND ?2
+abbrev pub by_numbers : List Term
+by_numbers = op2 (Compare Ge Binary) (col 1 0) (col 0 0) ∷ op2 (Compare Le Binary) (col 1 0) (col 0 1) ∷ []
+
 -- ---- every deposit with what is kept beside it
 
 abbrev pub beside_text : List ℕ
@@ -86,6 +98,8 @@ pub record DueMeanings : Type 0 where
   pub asks_due_of : Asks office_schema due_of_text deposit_tree by_number due_of_columns []
   pub set_due_means : Means office_schema set_due_text (Update 5 (as_program (scan deposit_tree by_number (deposit_with 10 (col 0 1)) [])))
   pub clear_due_means : Means office_schema clear_due_text (Update 5 (as_program (scan deposit_tree by_number (deposit_with 10 (lit Null)) [])))
+  pub set_dues_means : Means office_schema set_dues_text (Update 5 (as_program (scan deposit_tree by_numbers (deposit_with 10 (col 0 2)) [])))
+  pub clear_dues_means : Means office_schema clear_dues_text (Update 5 (as_program (scan deposit_tree by_numbers (deposit_with 10 (lit Null)) [])))
   pub set_holds_means : Means office_schema set_holds_text (Update 5 (as_program (scan deposit_tree by_number (deposit_with 11 (col 0 1)) [])))
   pub asks_beside : Asks office_schema beside_text deposit_tree [] beside_columns rising
   pub add_holds_means : Means office_schema add_holds_text (Update 5 (as_program (scan deposit_tree (by_text 3) more_columns [])))
@@ -99,6 +113,8 @@ due_meanings = record {
   asks_due_of = record { names = codes "number" ∷ codes "due" ∷ codes "holds" ∷ []; command = refl; unlisted = refl; plain = (refl, refl) };
   set_due_means = record { is = refl; plain = (refl, refl) };
   clear_due_means = record { is = refl; plain = (refl, refl) };
+  set_dues_means = record { is = refl; plain = (refl, refl) };
+  clear_dues_means = record { is = refl; plain = (refl, refl) };
   set_holds_means = record { is = refl; plain = (refl, refl) };
   asks_beside = record { names = codes "number" ∷ codes "accession" ∷ codes "collection" ∷ codes "class" ∷ codes "closed" ∷ codes "deposited" ∷ codes "files" ∷ codes "bytes" ∷ codes "gone" ∷ codes "due" ∷ codes "holds" ∷ []; command = refl; unlisted = refl; plain = (refl, refl) };
   add_holds_means = record { is = refl; plain = (refl, refl) };

@@ -47,6 +47,12 @@ set_day_same params old new count office h = same_contents old new _ count _ (up
 pub clear_day_same : (params : Row) (old new : State) (count : ℕ) → IsOffice old.now → Executes dues.clear_due_text params old new (Ok count) → HasSameContents old.now new.now
 clear_day_same params old new count office h = same_contents old new _ count _ (updates dues.clear_due_text params old new office_schema office.whole.schema_is 5 deposit_table refl idle (as_program (scan deposit_tree by_number (deposit_with 10 (lit Null)) [])) dues.due_meanings.clear_due_means count h).2 refl refl
 
+pub set_days_same : (params : Row) (old new : State) (count : ℕ) → IsOffice old.now → Executes dues.set_dues_text params old new (Ok count) → HasSameContents old.now new.now
+set_days_same params old new count office h = same_contents old new _ count _ (updates dues.set_dues_text params old new office_schema office.whole.schema_is 5 deposit_table refl idle (as_program (scan deposit_tree dues.by_numbers (deposit_with 10 (col 0 2)) [])) dues.due_meanings.set_dues_means count h).2 refl refl
+
+pub clear_days_same : (params : Row) (old new : State) (count : ℕ) → IsOffice old.now → Executes dues.clear_dues_text params old new (Ok count) → HasSameContents old.now new.now
+clear_days_same params old new count office h = same_contents old new _ count _ (updates dues.clear_dues_text params old new office_schema office.whole.schema_is 5 deposit_table refl idle (as_program (scan deposit_tree dues.by_numbers (deposit_with 10 (lit Null)) [])) dues.due_meanings.clear_dues_means count h).2 refl refl
+
 pub set_holds_same : (params : Row) (old new : State) (count : ℕ) → IsOffice old.now → Executes dues.set_holds_text params old new (Ok count) → HasSameContents old.now new.now
 set_holds_same params old new count office h = same_contents old new _ count _ (updates dues.set_holds_text params old new office_schema office.whole.schema_is 5 deposit_table refl idle (as_program (scan deposit_tree by_number (deposit_with 11 (col 0 1)) [])) dues.due_meanings.set_holds_means count h).2 refl refl
 

@@ -1,7 +1,7 @@
 //! When deposits fall due, and how many live holds cover each.
 
 ghost use Rattle.std.specs.Prelude.{◌≡◌, Some, None, pos, option_map, slice_get, map};
-ghost use Rattle.office_rows.specs.Rows.{beside, due_numbered, is_of_class, is_within, with_due, with_holds, with_more_holds, with_more_holds_class};
+ghost use Rattle.office_rows.specs.Rows.{beside, due_numbered, is_of_class, is_within, with_due, with_dues, with_holds, with_more_holds, with_more_holds_class};
 ghost use Rattle.office_rows.specs.Told.{due_places, class_closings};
 ghost use Rattle.office_tables.specs.Calls.{GoesOnInside, Keeps, Shows, Tells, Writes};
 ghost use Rattle.office_tables.specs.Contents.{LeavesContents, LeavesOnce};
@@ -219,6 +219,58 @@ pub fn set_due<S: Alter>(tx: &mut Transaction<'_, S>, number: u32, due: Option<i
     match due {
         Some(day) => set_day(tx, number, day),
         None => clear_day(tx, number),
+    }
+}
+
+/// Sets the day from which the deposits of these numbers may be destroyed.
+fn set_days<S: Alter>(tx: &mut Transaction<'_, S>, first: u32, last: u32, day: i64) -> Result<()>
+    ensures inside { GoesOnInside S.Store tx.old.conn tx.new.conn result }
+    ensures becomes { Writes S.Store tx.old.conn.now tx.new.conn.now result
+        (with_dues (pos first) (pos last) (Some day)) }
+    ensures contents { LeavesContents S.Store tx.old.conn.now tx.new.conn.now result }
+{
+    change(
+        tx,
+        "UPDATE deposit SET due = ?3 WHERE number BETWEEN ?1 AND ?2",
+        params![first, last, day],
+    )?;
+    Ok(())
+}
+
+/// Notes that the deposits of these numbers are kept permanently.
+fn clear_days<S: Alter>(tx: &mut Transaction<'_, S>, first: u32, last: u32) -> Result<()>
+    ensures inside { GoesOnInside S.Store tx.old.conn tx.new.conn result }
+    ensures becomes { Writes S.Store tx.old.conn.now tx.new.conn.now result
+        (with_dues (pos first) (pos last) None) }
+    ensures contents { LeavesContents S.Store tx.old.conn.now tx.new.conn.now result }
+{
+    change(
+        tx,
+        "UPDATE deposit SET due = NULL WHERE number BETWEEN ?1 AND ?2",
+        params![first, last],
+    )?;
+    Ok(())
+}
+
+/// Sets the day from which each deposit from the first number to the last, both included, may be destroyed, or that
+/// it is kept permanently.
+///
+/// Fails with `Memory` or `Store`.
+pub fn set_dues<S: Alter>(
+    tx: &mut Transaction<'_, S>,
+    first: u32,
+    last: u32,
+    due: Option<i64>,
+) -> Result<()>
+    ensures inside { GoesOnInside S.Store tx.old.conn tx.new.conn result }
+    ensures becomes { Writes S.Store tx.old.conn.now tx.new.conn.now result
+        (with_dues (pos first) (pos last) due) }
+    ensures contents { LeavesContents S.Store tx.old.conn.now tx.new.conn.now result }
+    ensures once { LeavesOnce S.Store tx.old.conn.now tx.new.conn.now result }
+{
+    match due {
+        Some(day) => set_days(tx, first, last, day),
+        None => clear_days(tx, first, last),
     }
 }
 

@@ -27,7 +27,7 @@ pub use deposits::{
 };
 pub use dues::{
     ClosingRow, DepositAndDue, DueRow, PlaceRow, add_holds, add_holds_class, deposits_and_dues,
-    due_row, due_rows, rows_of_class, set_due, set_holds,
+    due_row, due_rows, rows_of_class, set_due, set_dues, set_holds,
 };
 pub use fault::{Result, TableFault};
 pub use files::{

@@ -250,6 +250,18 @@ pub static CALLS: [&[Part]; 10] = [
              Some(741) }]\n\
              do|drop files|1",
         ),
+        // Those from the first number to the last, and none where the last is lower.
+        (
+            "steps",
+            "do|dues|2|4|742\n\
+             do|dues|5|9|\n\
+             do|dues|2|1|9\n\
+             read|due|1 > Some(DueRow { number: 1, due: None, holds: 2 })\n\
+             read|due|2 > Some(DueRow { number: 2, due: Some(742), holds: 0 })\n\
+             read|due|3 > Some(DueRow { number: 3, due: Some(742), holds: 4 })\n\
+             read|due|4 > Some(DueRow { number: 4, due: Some(742), holds: 4 })\n\
+             read|due|5 > Some(DueRow { number: 5, due: None, holds: 2 })",
+        ),
     ],
     // The rule of the least place that fits on the day decides; a name that is absent fits `*` alone.
     &[(

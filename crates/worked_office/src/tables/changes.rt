@@ -4,7 +4,7 @@ use crate::words::{number, word};
 use office_tables::{
     CallerRow, HoldTarget, NewDeposit, RuleRow, TableFault, add_holds, add_holds_class, drop_files,
     end_hold, mark_gone, put_class, put_collection, put_deposit, put_file, put_hold, put_marked,
-    put_policy, set_due, set_holds,
+    put_policy, set_due, set_dues, set_holds,
 };
 use sqlite::{Alter, Transaction};
 use std::alloc::{AllocError, Global};
@@ -78,6 +78,10 @@ fn change_kept<S: Alter>(tx: &mut Transaction<'_, S>, words: &[&str]) -> Result<
             )
         }
         "due" => set_due(tx, deposit, word(words, 2).parse().ok()),
+        "dues" => {
+            let last = number(words, 2);
+            set_dues(tx, deposit, last, word(words, 3).parse().ok())
+        }
         "holds" => set_holds(tx, deposit, word(words, 2).parse().unwrap_or(0)),
         "more holds" => add_holds(tx, word(words, 1), word(words, 2).parse().unwrap_or(0)),
         "more holds of class" => {

@@ -107,6 +107,7 @@ pub static REFUSALS: [&[Part]; 4] = [
              read|due rows|9 > Q4\n\
              read|rule|keeper|list|maps|y2 > Q4\n\
              do|due|1|9 > Q4\n\
+             do|dues|1|2|9 > Q4\n\
              do|more holds|maps|1 > Q4\n\
              do|more holds of class|y2|1 > Q4\n\
              do|file|1|data/a| > Q4",

@@ -1,0 +1,13 @@
+use Rattle.std.proofs.Common.{Ok, take, ◌∷◌}
+use Rattle.office_tables.specs.Calls.{GoesOnInTurn}
+use Rattle.office_tables.specs.declared.fault.TableFault.{TableFault}
+use Rattle.office_by_rows.specs.Changes.{with_due_days}
+use Rattle.office_asking.specs.Serving.{Changes}
+use Rattle.office_defining.proofs.DueDaysByRows.{EndsInSeries}
+use Rattle.office_defining.proofs.classes.set_by_series.Given as goal
+
+abbrev pub invariant-loop-next : goal.invariant-loop-next
+invariant-loop-next g l =
+    (series : EndsInSeries (l.row ∷ take l.next-index l.others) l.first l.last)
+    × GoesOnInTurn {T = Unit {0}} g.S.Store l.fn.tx.conn l.tx.conn (Ok tt)
+    × Changes {T = Unit {0}} {E = TableFault} g.S.Store l.fn.tx.conn.now l.tx.conn.now (Ok tt) (with_due_days l.years series.before)

@@ -1,0 +1,11 @@
+use Rattle.std.proofs.Common.{pos, w64}
+use Rattle.std.proofs.lemmas.Int.{to_z-of_z}
+use Rattle.office_tables.proofs.DueLemmas.{sets_dues}
+use Rattle.office_tables.proofs.SameContents.{set_days_same}
+use Rattle.office_tables.proofs.dues.set_days.Goals as goal
+
+pub returns-clause-becomes : goal.returns-clause-becomes
+returns-clause-becomes g c clean office = sets_dues _ _ (pos c.args.first) (pos c.args.last) c.args.day c.in_ok-change.field-0 office (rw (c.params-to_sql.ensures, c.params-to_sql-2.ensures, c.params-to_sql-3.ensures, to_z-of_z w64 c.args.day c.ranges.day) at (c.in_ok-change.ensures.ran clean))
+
+pub returns-clause-contents : goal.returns-clause-contents
+returns-clause-contents g c clean office = set_days_same _ _ _ c.in_ok-change.field-0 office (c.in_ok-change.ensures.ran clean)
