@@ -14,4 +14,5 @@ pub mod ValidLemmas
 pub mod JudgeLaws
 pub mod CodeLemmas
 pub mod AnswerLemmas
+pub mod DigestLemmas
 mod Examples

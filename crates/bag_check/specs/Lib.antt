@@ -6,3 +6,4 @@ pub mod OxumReading
 pub mod Judging
 pub mod FaultTexts
 pub mod Answers
+pub mod Digests

@@ -1,6 +1,6 @@
 //! A bag is judged.
 
-ghost use Rattle.std.specs.Prelude.{◌≡◌, ◌⊎◌, IfOk, IfErr, IsErrAnd, MatchResult, Some, map};
+ghost use Rattle.std.specs.Prelude.{◌≡◌, ◌⊎◌, IfOk, IfErr, IsErrAnd, MatchResult, None, Some, map};
 ghost use Rattle.std.specs.List.{list_any};
 ghost use Rattle.std.specs.Cow.{cow_str_bytes};
 ghost use Rattle.bag_text.specs.Answers.{Gives};
@@ -10,17 +10,20 @@ ghost use Rattle.bag_check.specs.Contents.{is_kind};
 ghost use Rattle.bag_check.specs.Validity.{Valid, report_of, payload_files, payload_bytes};
 ghost use Rattle.bag_text.specs.declared.declaration.Version.{Version};
 ghost use Rattle.bag_check.specs.declared.fault.BagFault.TheVariants.{Memory};
+ghost use Rattle.bag_check.specs.declared.rule.Rule.TheVariants.{ChecksumWrong};
+ghost use Rattle.bag_check.specs.Digests.{digests_of};
 ghost use Rattle.bag_check.specs.Faults.{Fault, Breaks, FirstFault};
 ghost use Rattle.bag_check.specs.Judging.{version_declared, no_fetch, some_payload, first_place, kept_by, keeps, listing_rules, keeps_contents, judge};
 ghost use Rattle.bag_check.specs.Answers.{named_fault, named_seen, listed_seen, report_seen, NamesFirst};
 
+use crate::digests::digests_of;
 use crate::fault::BagFault;
 use crate::info::keep_info;
 use crate::listed::{Listed, Named, find_manifests, read_manifests};
 use crate::names::{Kind, is_kind};
 use crate::payload::{PayloadCounts, count_payload};
 use crate::place::first_place;
-use crate::report::BagReport;
+use crate::report::{BagReport, DigestedReport};
 use crate::rule::Rule;
 use bag_text::{BagSet, Version, read_declaration};
 use std::alloc::Global;
@@ -147,14 +150,24 @@ fn report_on(version: Version, bag: &BagSet<'_>, manifests: usize) -> BagReport
     }
 }
 
+/// What judging a valid bag finds: what is counted, and what its manifests list.
+#[derive(Drop)]
+struct Judged<'a> {
+    report: BagReport,
+    listed: Vec<Listed<'a>>,
+}
+
 /// Judges a bag with these files, one number of the faults after the other.
-fn judge_bag<'a>(
+fn judge_files<'a>(
     alloc: Global,
     bag: &BagSet<'a>,
     files: &[(&'a str, &'a [u8])],
-) -> Result<BagReport, BagFault<'a>>
+) -> Result<Judged<'a>, BagFault<'a>>
     requires { files_of files.now ≡ bag.now }
-    ensures { Gives named_fault report_seen result (judge bag.now) }
+    ensures exact { Gives named_fault (λ judged. report_seen judged.report) result
+        (judge bag.now) }
+    ensures fixity { IfOk result (λ judged.
+        first_place bag.now ChecksumWrong (map listed_seen judged.listed.items) ≡ None) }
 {
     let version = read_version(bag)?;
     refuse_fetch(bag)?;
@@ -163,7 +176,21 @@ fn judge_bag<'a>(
     let listed = read_manifests(alloc, version, &found)?;
     keep_listing_rules(bag, &listed)?;
     keep_contents(alloc, bag, &listed)?;
-    Ok(report_on(version, bag, found.len()))
+    let report = report_on(version, bag, found.len());
+    Ok(Judged { report, listed })
+}
+
+/// What is counted in a valid bag with these files, or the first fault of another.
+fn judge_bag<'a>(
+    alloc: Global,
+    bag: &BagSet<'a>,
+    files: &[(&'a str, &'a [u8])],
+) -> Result<BagReport, BagFault<'a>>
+    requires { files_of files.now ≡ bag.now }
+    ensures { Gives named_fault report_seen result (judge bag.now) }
+{
+    let judged = judge_files(alloc, bag, files)?;
+    Ok(judged.report)
 }
 
 /// Judges a bag (RFC 8493, section 3): what is counted in a valid bag, or the first fault of one
@@ -188,4 +215,20 @@ pub fn check_bag<'a>(alloc: Global, bag: &BagSet<'a>) -> Result<BagReport, BagFa
     ensures exact { Gives named_fault report_seen result (judge bag.now) }
 {
     judge_bag(alloc, bag, bag.files())
+}
+
+/// Judges a bag as `check_bag` does, and tells the SHA-256 of each file of a valid one. Where a manifest lists
+/// it, it was computed once, to be compared.
+pub fn check_and_digest<'a>(alloc: Global, bag: &BagSet<'a>) -> Result<DigestedReport, BagFault<'a>>
+    ensures exact { Gives named_fault (λ digested. report_seen digested.report) result
+        (judge bag.now) }
+    ensures digests { IfOk result (λ digested. digested.digests.items ≡ digests_of bag.now) }
+{
+    let files = bag.files();
+    let judged = judge_files(alloc, bag, files)?;
+    let digests = digests_of(alloc, &judged.listed, files)?;
+    Ok(DigestedReport {
+        report: judged.report,
+        digests,
+    })
 }

@@ -3,6 +3,7 @@
 
 mod check;
 mod digest;
+mod digests;
 mod display;
 mod fault;
 mod info;
@@ -15,8 +16,8 @@ mod place;
 mod report;
 mod rule;
 
-pub use check::check_bag;
+pub use check::{check_and_digest, check_bag};
 pub use digest::digest_matches;
 pub use fault::BagFault;
 pub use payload::{PayloadCounts, count_payload};
-pub use report::BagReport;
+pub use report::{BagReport, DigestedReport};

@@ -14,3 +14,10 @@ pub struct BagReport {
     /// How many manifests there are, of both kinds.
     pub manifests: usize,
 }
+
+/// What is said of a valid bag, and the SHA-256 of each of its files, in their order.
+#[derive(Debug, Drop)]
+pub struct DigestedReport {
+    pub report: BagReport,
+    pub digests: Vec<[u8; 32]>,
+}

@@ -11,7 +11,7 @@ use Rattle.office_core.specs.RetentionReading.{due_of}
 use Rattle.office_core.specs.declared.request.Request.{Request}
 use Rattle.office_core.specs.declared.request.Request.TheVariants.{DefineClass, DefineCollection, Deposit, HoldDeposit, HoldCollection, HoldClass, Release, Dispose}
 use Rattle.office_core.specs.declared.retention.Due.{Due}
-use Rattle.office_rows.specs.Rows.{DepositRow, HoldRow, Tables, class_named, due_numbered, hold_numbered, limits_of, live_holds, with_class, with_collection, with_deposit, with_due, with_file, with_gone, with_hold, with_holds, with_more_holds, with_more_holds_class, with_policy, with_released, without_files}
+use Rattle.office_rows.specs.Rows.{DepositRow, HoldRow, Tables, class_named, due_numbered, hold_numbered, limits_of, live_holds, with_class, with_collection, with_due, with_file, with_gone, with_hold, with_holds, with_kept, with_more_holds, with_more_holds_class, with_policy, with_released, without_files}
 use Rattle.office_rows.specs.Told.{ClosingRow, class_closings}
 use Rattle.office_history.specs.Bags.{bag_of}
 use Rattle.office_history.specs.Histories.{Target, OnDeposit, OnCollection, OnClass}
@@ -65,10 +65,6 @@ due_in t class closed = do
 -- how many live holds cover a deposit, where each that does was released on a day of the office or not at all
 abbrev pub count_in : Tables → ℕ → List ℕ → List ℕ → Option ℕ
 count_in t n collection class = if are_released_on_days n collection class t then Some (length (live_holds (pos n) collection class t)) else None
-
--- the deposit is in its place by number; it falls due on that day or never, and so many live holds cover it
-abbrev pub with_kept : DepositRow → Option ℤ → ℤ → Tables → Tables
-with_kept row due holds t = with_holds row.number holds (with_due row.number due (with_deposit row t))
 
 -- the deposit of that number has these files too
 abbrev pub with_files : ℤ → List File → Tables → Tables

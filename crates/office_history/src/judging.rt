@@ -1,18 +1,18 @@
 //! What every office judges by: bags that are deposited, bags that are checked again, and the
 //! refusals that verdicts are.
 
-ghost use Rattle.std.specs.Prelude.{◌≡◌, Ok, IfOk, is_none};
+ghost use Rattle.std.specs.Prelude.{◌≡◌, Ok, Err, IfOk, MatchResult, is_none};
 ghost use Rattle.bag_text.specs.FaultTexts.{set_fault_text};
 ghost use Rattle.bag_text.specs.TransferForm.{IsBag, set_text};
 ghost use Rattle.bag_text.specs.TransferReading.{set_of};
 ghost use Rattle.bag_check.specs.Answers.{named_fault, printed_fault};
+ghost use Rattle.bag_check.specs.Digests.{digests_of};
 ghost use Rattle.office_history.specs.Answers.{audit_report};
 ghost use Rattle.office_history.specs.Bags as bags;
-ghost use Rattle.office_history.specs.Bags.{bag_of};
-ghost use Rattle.office_history.specs.PlainBags.{IsReported};
+ghost use Rattle.office_history.specs.Bags.{IsReported, bag_of, if_valid};
 ghost use Rattle.office_history.specs.Refusals.{refusal_of};
 
-use bag_check::{BagFault, BagReport, check_bag};
+use bag_check::{BagFault, BagReport, check_and_digest, check_bag};
 use bag_text::{BagSet, SetFault, read_bagset};
 use office_core::{AuditReport, Due, FaultText, Refusal, Verdict};
 use std::alloc::{AllocError, Global};
@@ -79,6 +79,56 @@ pub fn valid_bag(alloc: Global, text: &[u8]) -> Result<Result<BagSet<'_>, FaultT
         Err(fault) => Ok(Err(set_fault_text(alloc, fault)?)),
         Ok(bag) => match report_on(alloc, &bag)? {
             Ok(_) => Ok(Ok(bag)),
+            Err(fault) => Ok(Err(fault)),
+        },
+    }
+}
+
+/// The SHA-256 of each file of a valid bag, or the text of the first fault of another.
+fn digests_on(
+    alloc: Global,
+    bag: &BagSet<'_>,
+) -> Result<Result<Vec<[u8; 32]>, FaultText>, AllocError>
+    ensures digests { IfOk result (λ judged. IfOk judged (λ digests.
+        digests.items ≡ digests_of bag.now)) }
+    ensures valid { IfOk result (λ judged. MatchResult judged
+        (λ _. if_valid bag.now (bags.report_on bag.now) ≡ Ok bag.now)
+        (λ text. if_valid bag.now (bags.report_on bag.now) ≡ Err text)) }
+{
+    match check_and_digest(alloc, bag) {
+        Ok(digested) => Ok(Ok(digested.digests)),
+        Err(fault) => {
+            if is_memory(&fault) {
+                return Err(AllocError);
+            }
+            Ok(Err(fault_text(alloc, &fault)?))
+        }
+    }
+}
+
+/// A valid bag, and the SHA-256 of each of its files, in their order.
+#[derive(Drop)]
+pub struct DigestedBag<'a> {
+    pub bag: BagSet<'a>,
+    pub digests: Vec<[u8; 32]>,
+}
+
+/// The same as `valid_bag`, with the SHA-256 of each file.
+pub fn digested_bag(
+    alloc: Global,
+    text: &[u8],
+) -> Result<Result<DigestedBag<'_>, FaultText>, AllocError>
+    ensures valid { IfOk result (λ found. MatchResult found
+        (λ digested. bag_of text.now ≡ Ok digested.bag)
+        (λ fault. bag_of text.now ≡ Err fault)) }
+    ensures digests { IfOk result (λ found. IfOk found (λ digested.
+        digested.digests.items ≡ digests_of digested.bag)) }
+{
+    match read_bagset(alloc, text) {
+        Err(SetFault::Memory) => Err(AllocError),
+        Err(fault) => Ok(Err(set_fault_text(alloc, fault)?)),
+        Ok(bag) => match digests_on(alloc, &bag)? {
+            Ok(digests) => Ok(Ok(DigestedBag { bag, digests })),
             Err(fault) => Ok(Err(fault)),
         },
     }

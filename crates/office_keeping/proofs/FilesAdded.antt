@@ -1,5 +1,5 @@
 -- The files of a deposit, and their contents, one after another.
-use Rattle.std.proofs.Common.{◌≡◌, ℕ, ◌+◌, ◌≤◌, ◌<◌, ℤ, List, length, Some, refl, sym, ap, ◌∙◌, drop, get_or, Bor}
+use Rattle.std.proofs.Common.{◌≡◌, ℕ, zero, suc, ◌+◌, ◌≤◌, ◌<◌, ℤ, List, [], ◌∷◌, length, Some, refl, sym, ap, ◌∙◌, arith, drop, get_or, slice_index_or, Bor}
 use Rattle.std.proofs.lemmas.List.{at_drop_all, at_drop_more}
 use Rattle.std.proofs.lemmas.Option.{same_Some}
 use Rattle.std.specs.Prelude.{Ok}
@@ -8,7 +8,9 @@ use Rattle.sqlite.specs.Effect.{Database}
 use Rattle.sqlite.specs.Store.{Ghosts}
 use Rattle.sqlite.specs.State.{HasCleanDisk}
 use Rattle.sqlite.specs.Held.{Held, state}
+use Rattle.sha2.specs.Sha256.{sha256}
 use Rattle.bag_text.specs.TransferReading.{file_of, files_of}
+use Rattle.bag_check.specs.Digests.{digests_of}
 use Rattle.office_rows.specs.Rows.{with_file}
 use Rattle.office_tables.specs.Calls.{GoesOnInTurn, GoesOnInside}
 use Rattle.office_tables.specs.Contents.{KeepsOnce}
@@ -18,6 +20,15 @@ use Rattle.office_tables.proofs.InTurn.{clean_first}
 use Rattle.office_by_rows.specs.Changes.{with_files}
 use Rattle.office_asking.specs.Contents.{contents_in, with_content_of, with_contents_of}
 use Rattle.office_asking.specs.Serving.{Rewrites}
+
+-- the digest at a place is that of the file's content
+at_place : (fs : List (Bor (List ℕ) × Bor (List ℕ))) (i : ℕ) (no_file : Bor (List ℕ) × Bor (List ℕ)) (no_digest : List ℕ) → i < length fs → slice_index_or (digests_of (files_of fs)) i no_digest ≡ sha256 (slice_index_or fs i no_file).1.now
+at_place [] i no_file no_digest low = absurd (omega arith)
+at_place (f ∷ fs) zero no_file no_digest low = refl
+at_place (f ∷ fs) (suc i) no_file no_digest low = at_place fs i no_file no_digest (omega arith)
+
+pub digest_at : (fs : List (Bor (List ℕ) × Bor (List ℕ))) (digests : List (List ℕ)) → digests ≡ digests_of (files_of fs) → (i : ℕ) (no_file : Bor (List ℕ) × Bor (List ℕ)) (no_digest : List ℕ) → i < length fs → slice_index_or digests i no_digest ≡ sha256 (slice_index_or fs i no_file).1.now
+digest_at fs digests are i no_file no_digest low = ap (λ ds. slice_index_or ds i no_digest) are ∙ at_place fs i no_file no_digest low
 
 -- of these files, those before that place are there, and their contents
 pub record AreAdded (n : ℤ) (fs : List (Bor (List ℕ) × Bor (List ℕ))) (i : ℕ) (old now : Database) : Type 0 where

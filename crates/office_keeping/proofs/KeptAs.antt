@@ -7,9 +7,9 @@ use Rattle.bag_text.specs.TransferForm.{File}
 use Rattle.office_core.specs.FirstOf.{◌>>=◌}
 use Rattle.office_core.specs.Retention.{due_number}
 use Rattle.office_core.specs.declared.retention.Due.{Due}
-use Rattle.office_rows.specs.Rows.{DepositRow, Tables}
+use Rattle.office_rows.specs.Rows.{DepositRow, Tables, with_kept}
 use Rattle.office_history.specs.Bags.{bag_of}
-use Rattle.office_by_rows.specs.Changes.{allowed_rows, count_in, due_in, if_bag, kept_as, new_deposit, with_files, with_kept}
+use Rattle.office_by_rows.specs.Changes.{allowed_rows, count_in, due_in, if_bag, kept_as, new_deposit, with_files}
 use Rattle.office_by_rows.specs.Refusals.{highest_deposit, number_after}
 use Rattle.office_keeping.specs.Asked.{request_of, row_of, visit_of}
 use Rattle.office_keeping.specs.declared.asked.DepositAsked.{DepositAsked}

@@ -4,6 +4,7 @@ ghost use Rattle.std.specs.Prelude.{◌≡◌, IfErr, IfOk, [], ◌∷◌, Ok, S
 ghost use Rattle.std.specs.Result.{result_err};
 ghost use Rattle.office_core.specs.FirstOf.{first_some};
 ghost use Rattle.office_tables.specs.Calls.{GoesOnInside, Shows};
+ghost use Rattle.bag_check.specs.Digests.{digests_of};
 ghost use Rattle.office_history.specs.Bags.{bag_of};
 ghost use Rattle.office_history.specs.Refusals.{bad_bag, closed_ahead_refusal};
 ghost use Rattle.office_by_rows.specs.Refusals as by_rows;
@@ -16,7 +17,7 @@ use crate::keeping::keep;
 use bag_text::BagSet;
 use office_asking::{denial, number_after};
 use office_core::{Accession, Action, Answer, Day, Refusal, Subject};
-use office_history::judging::valid_bag;
+use office_history::judging::{DigestedBag, digested_bag};
 use office_tables::{TableFault, by_accession, class_of, has_collection, last_deposit, limits};
 use sqlite::{Alter, Transaction};
 use std::alloc::Global;
@@ -110,10 +111,11 @@ fn next_number<S: Alter>(tx: &mut Transaction<'_, S>) -> Result<Result<u32, Refu
     Ok(number_after(last, limits.max_deposits))
 }
 
-/// A bag that is to be kept, and the number that its deposit is to have.
+/// A bag that is to be kept, the SHA-256 of each of its files, and the number that its deposit is to have.
 #[derive(Drop)]
 struct NewBag<'a> {
     bag: BagSet<'a>,
+    digests: Vec<[u8; 32]>,
     number: u32,
 }
 
@@ -129,13 +131,19 @@ fn judged_bag<'a>(
         result_err asked ≡ first_some (bad_bag text.entry.now ∷ result_err number ∷ [])) }
     ensures given { IfOk result (λ asked. IfOk asked (λ new.
         (bag_of text.entry.now ≡ Ok new.bag) × (number ≡ Ok new.number))) }
+    ensures digests { IfOk result (λ asked. IfOk asked (λ new.
+        new.digests.items ≡ digests_of new.bag)) }
 {
-    let bag = match valid_bag(alloc, text)? {
-        Ok(bag) => bag,
+    let DigestedBag { bag, digests } = match digested_bag(alloc, text)? {
+        Ok(digested) => digested,
         Err(fault) => return Ok(Err(Refusal::BadBag(fault))),
     };
     match number {
-        Ok(number) => Ok(Ok(NewBag { bag, number })),
+        Ok(number) => Ok(Ok(NewBag {
+            bag,
+            digests,
+            number,
+        })),
         Err(why) => Ok(Err(why)),
     }
 }
@@ -152,6 +160,8 @@ fn numbered_bag<'a, S: Alter>(
         (first_told (refusals_of_the_bag tables text.entry.now) ≡ Some (result_err asked))
         × IfOk asked (λ new. number_after (highest_deposit tables) ≡ Some new.number)) }
     ensures bag { IfOk result (λ asked. IfOk asked (λ new. bag_of text.entry.now ≡ Ok new.bag)) }
+    ensures digests { IfOk result (λ asked. IfOk asked (λ new.
+        new.digests.items ≡ digests_of new.bag)) }
 {
     let number = next_number(tx)?;
     judged_bag(alloc, text, number)
@@ -170,6 +180,8 @@ fn new_bag<'a, S: Alter>(
         ≡ Some (result_err given))
         × IfOk given (λ new. number_after (highest_deposit tables) ≡ Some new.number)) }
     ensures bag { IfOk result (λ given. IfOk given (λ new. bag_of text.entry.now ≡ Ok new.bag)) }
+    ensures digests { IfOk result (λ given. IfOk given (λ new.
+        new.digests.items ≡ digests_of new.bag)) }
 {
     if let Some(why) = refusal_before_the_bag(tx, asked)? {
         return Ok(Err(why));
@@ -196,7 +208,7 @@ pub fn deposit<S: Alter>(
         Ok(new) => new,
         Err(why) => return Ok(Answer::Refused(why)),
     };
-    keep(alloc, tx, asked, new.number, &new.bag)?;
+    keep(alloc, tx, asked, new.number, &new.bag, &new.digests)?;
     Ok(Answer::Deposited {
         deposit: new.number,
     })

@@ -1,12 +1,14 @@
 //! A bag that is kept: its deposit's row with what is kept beside it, and its files.
 
 ghost use Rattle.std.specs.Prelude.{◌≡◌, IfErr, OkIff, ◌<◌, ◌^◌, Some, option_map, pos};
+ghost use Rattle.sha2.specs.Sha256.{sha256};
 ghost use Rattle.bag_text.specs.TransferReading.{file_of, files_of};
-ghost use Rattle.office_rows.specs.Rows.{with_file};
+ghost use Rattle.bag_check.specs.Digests.{digests_of};
+ghost use Rattle.office_rows.specs.Rows.{with_file, with_kept};
 ghost use Rattle.office_tables.specs.Calls.{GoesOnInTurn, GoesOnInside, Shows};
 ghost use Rattle.office_tables.specs.Deposits.{added_row};
 ghost use Rattle.office_core.specs.Retention.{due_number};
-ghost use Rattle.office_by_rows.specs.Changes.{count_in, due_in, kept_as, with_files, with_kept};
+ghost use Rattle.office_by_rows.specs.Changes.{count_in, due_in, kept_as, with_files};
 ghost use Rattle.office_asking.specs.Contents.{with_content_of, with_contents_of};
 ghost use Rattle.office_asking.specs.Serving.{Changes, Rewrites};
 ghost use Rattle.office_keeping.specs.Asked.{row_of};
@@ -15,16 +17,18 @@ use crate::asked::DepositAsked;
 use bag_check::count_payload;
 use bag_text::BagSet;
 use office_asking::{due_day, live_count};
-use office_tables::{NewDeposit, TableFault, put_deposit, put_file, set_due, set_holds};
+use office_tables::{NewDeposit, TableFault, put_deposit_and_due, put_marked};
 use sqlite::{Alter, Transaction};
 use std::alloc::Global;
 
-/// Adds a file of a bag to the deposit of that number.
+/// Adds a file of a bag, whose content has that SHA-256, to the deposit of that number.
 fn add_file<S: Alter>(
     tx: &mut Transaction<'_, S>,
     number: u32,
     file: &(&str, &[u8]),
+    digest: &[u8; 32],
 ) -> Result<(), TableFault>
+    requires { digest.now ≡ sha256 file.now.1.now }
     ensures inside { GoesOnInside S.Store tx.old.conn tx.new.conn result }
     ensures changes { Rewrites S.Store tx.old.conn.now tx.new.conn.now result
         (λ tables.
@@ -33,22 +37,25 @@ fn add_file<S: Alter>(
         (record { deposit = pos number; path = file.now.0.now; content = file.now.1.now }) tables))
         (λ _ contents. with_content_of (file_of file.now) contents) }
 {
-    put_file(tx, number, file.0, file.1)
+    put_marked(tx, number, file.0, digest, file.1)?;
+    Ok(())
 }
 
-/// Adds the files of a bag in turn.
+/// Adds the files of a bag, whose contents have these SHA-256, in turn.
 fn add_files<S: Alter>(
     tx: &mut Transaction<'_, S>,
     number: u32,
     files: &[(&str, &[u8])],
+    digests: &[[u8; 32]],
 ) -> Result<(), TableFault>
+    requires { digests.now ≡ digests_of (files_of files.now) }
     ensures inside { GoesOnInTurn S.Store tx.old.conn tx.new.conn result }
     ensures changes { Rewrites S.Store tx.old.conn.now tx.new.conn.now result
         (λ tables. Some (with_files (pos number) (files_of files.now) tables))
         (λ _ contents. with_contents_of (files_of files.now) contents) }
 {
-    for file in files {
-        add_file(tx, number, file)?;
+    for (index, file) in files.iter().enumerate() {
+        add_file(tx, number, file, &digests[index])?;
     }
     Ok(())
 }
@@ -107,13 +114,10 @@ fn put_row<S: Alter>(
     ensures changes { Changes S.Store tx.old.conn.now tx.new.conn.now result (λ tables.
         Some (with_kept (added_row deposit.entry) beside.due beside.holds tables)) }
 {
-    let number = deposit.number;
-    put_deposit(tx, deposit)?;
-    set_due(tx, number, beside.due)?;
-    set_holds(tx, number, beside.holds)
+    put_deposit_and_due(tx, deposit, beside.due, beside.holds)
 }
 
-/// Keeps a bag as the deposit of that number, which is to be the next.
+/// Keeps a bag, whose files have these SHA-256, as the deposit of that number, which is to be the next.
 ///
 /// Fails with `Memory` or `Store`.
 pub(crate) fn keep<S: Alter>(
@@ -122,7 +126,9 @@ pub(crate) fn keep<S: Alter>(
     asked: &DepositAsked<'_>,
     number: u32,
     bag: &BagSet<'_>,
+    digests: &[[u8; 32]],
 ) -> Result<(), TableFault>
+    requires { digests.now ≡ digests_of bag.now }
     ensures inside { GoesOnInside S.Store tx.old.conn tx.new.conn result }
     ensures changes { Rewrites S.Store tx.old.conn.now tx.new.conn.now result
         (kept_as number (row_of asked.now number bag.now) asked.now.closed bag.now)
@@ -141,5 +147,5 @@ pub(crate) fn keep<S: Alter>(
         bytes: row_count(payload.bytes)?,
     };
     put_row(tx, new, beside)?;
-    add_files(tx, number, bag.files())
+    add_files(tx, number, bag.files(), digests)
 }

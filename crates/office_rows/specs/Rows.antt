@@ -253,13 +253,17 @@ has_accession accession d = bytes_eq d.accession accession
 abbrev pub deposit_by : List ℕ → List DepositRow → Option DepositRow
 deposit_by accession = find (has_accession accession)
 
--- what is kept of a deposit that is new: no day, and no hold
-abbrev pub new_due : ℤ → DueRow
-new_due n = record { number = n; due = None; holds = pos 0 }
+-- what is kept of the deposit of that number
+abbrev pub kept_row : ℤ → Option ℤ → ℤ → DueRow
+kept_row n due holds = record { number = n; due = due; holds = holds }
 
--- the deposit is in its place by number
+-- the deposit is in its place by number; it falls due on that day or never, and so many live holds cover it
+abbrev pub with_kept : DepositRow → Option ℤ → ℤ → Tables → Tables
+with_kept d due holds t = record t { deposits = put_by (λ e. e.number) d t.deposits; dues = put_by (λ e. e.number) (kept_row d.number due holds) t.dues }
+
+-- the same of a deposit with no day and no hold
 abbrev pub with_deposit : DepositRow → Tables → Tables
-with_deposit d t = record t { deposits = put_by (λ e. e.number) d t.deposits; dues = put_by (λ e. e.number) (new_due d.number) t.dues }
+with_deposit d = with_kept d None (pos 0)
 
 -- the deposit was destroyed on that day
 abbrev pub with_gone : ℤ → ℤ → Tables → Tables

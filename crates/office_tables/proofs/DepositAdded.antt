@@ -1,11 +1,12 @@
 -- What a deposit that was put tells of the rows before it: its number and its accession are new, and its collection and its class are there.
-use Rattle.std.proofs.Common.{◌≡◌, ℕ, ℤ, pos, [], ◌∷◌, filter, slice_get, option_map, Bool, true, None, Ok, IsTrue, map, refl, sym, ap, ap₂, subst, ◌∙◌}
+use Rattle.std.proofs.Common.{◌≡◌, ℕ, ℤ, [], ◌∷◌, filter, slice_get, option_map, Bool, true, Option, Some, None, Ok, IsTrue, map, refl, sym, ap, ap₂, subst, ◌∙◌}
 use Rattle.std.specs.List.{AllByRecursion, list_any}
 use Rattle.std.proofs.lemmas.Bool.{and_parts}
 use Rattle.sqlite.specs.declared.types.Value.TheVariants.{Null, Int, Text}
 use Rattle.sqlite.specs.Order.{Row}
 use Rattle.sqlite.specs.Edit.{with_rowid}
 use Rattle.sqlite.specs.Rowids.TheVariants.{Chosen}
+use Rattle.sqlite.specs.Values.{or_null, bound_value}
 use Rattle.sqlite.specs.Cast.{cast_row}
 use Rattle.sqlite.specs.State.{State, Executes}
 use Rattle.sqlite_schema.specs.declared.schema.Keys.TheVariants.{Enforced}
@@ -23,48 +24,59 @@ use Rattle.sql_meaning.proofs.RowidKeys.{has_number, one_numbered}
 use Rattle.sql_meaning.proofs.Edits.{any_mapped, cast_null, cast_int}
 use Rattle.sql_meaning.proofs.Whole.{keeps_rule}
 use Rattle.office_tables.specs.Schema.{office_schema, deposit_table, class_tree, collection_tree, deposit_tree}
-use Rattle.office_rows.specs.Rows.{DepositRow, DueRow, put_by, with_deposit, is_deposit, deposit_numbered, has_accession, deposit_by, is_class, has_class, is_collection, has_collection}
+use Rattle.office_rows.specs.Rows.{DepositRow, DueRow, put_by, kept_row, with_kept, is_deposit, deposit_numbered, has_accession, deposit_by, is_class, has_class, is_collection, has_collection}
 use Rattle.office_tables.specs.Tables.{IsOffice, Becomes, tables_of, deposit_in, due_in, class_in, collection_in}
 use Rattle.office_tables.specs.Deposits.{IsAdded}
 use Rattle.office_tables.proofs.TablePlaces.{of_deposits}
 use Rattle.office_tables.proofs.Frames.{idle, becomes, adding}
 use Rattle.office_tables.proofs.InOrder.{placed}
+use Rattle.office_tables.proofs.MaybeEmpty.{cast_maybe, maybe_back}
 use Rattle.office_tables.proofs.ClassLemmas.{IsClassRow, class_rows}
 use Rattle.office_tables.proofs.CollectionLemmas.{collection_rows}
 use Rattle.office_tables.proofs.DepositLemmas.{accessions}
 use Rattle.office_tables.proofs.DepositTexts.{put_text, put_terms, deposit_meanings}
 
-abbrev pub params_of : DepositRow → Row
-params_of d = Int d.number ∷ Text d.accession ∷ Text d.collection ∷ Text d.class ∷ Int d.closed ∷ Int d.deposited ∷ Int d.files ∷ Int d.bytes ∷ []
+abbrev pub params_of : DepositRow → Option ℤ → ℤ → Row
+params_of d due holds = Int d.number ∷ Text d.accession ∷ Text d.collection ∷ Text d.class ∷ Int d.closed ∷ Int d.deposited ∷ Int d.files ∷ Int d.bytes ∷ or_null Int due ∷ Int holds ∷ []
 
-abbrev stored_of : DepositRow → Row
-stored_of d = Null ∷ Text d.accession ∷ Text d.collection ∷ Text d.class ∷ Int d.closed ∷ Int d.deposited ∷ Int d.files ∷ Int d.bytes ∷ Null ∷ Null ∷ Int (pos 0) ∷ []
+-- what is bound of a day that may be missing
+pub bound_due : (due : Option ℤ) → bound_value (or_null Int due) ≡ or_null Int due
+bound_due None = refl
+bound_due (Some day) = refl
 
-abbrev row_of : DepositRow → Row
-row_of d = Int d.number ∷ stored_of d
+abbrev stored_of : DepositRow → Option ℤ → ℤ → Row
+stored_of d due holds = Null ∷ Text d.accession ∷ Text d.collection ∷ Text d.class ∷ Int d.closed ∷ Int d.deposited ∷ Int d.files ∷ Int d.bytes ∷ Null ∷ or_null Int due ∷ Int holds ∷ []
 
-module _ (old new : State) (d : DepositRow) (kept : d.gone ≡ None) (count : ℕ) (office : IsOffice old.now) (h : Executes put_text (params_of d) old new (Ok count)) where
-  change : Changes office_schema old new (adding deposit_table (row_of d) old) count (adding deposit_table (row_of d) old).news
-  change = inserts put_text (params_of d) old new office_schema office.whole.schema_is 5 deposit_table refl idle put_terms 12 deposit_meanings.put_means refl refl count h
+abbrev row_of : DepositRow → Option ℤ → ℤ → Row
+row_of d due holds = Int d.number ∷ stored_of d due holds
 
-  cast_is : cast_row deposit_table (row_of d) ≡ (row_of d)
-  cast_is = rw (cast_null, cast_int d.number, cast_int d.closed, cast_int d.deposited, cast_int d.files, cast_int d.bytes, cast_int (pos 0)) refl
+module _ (old new : State) (d : DepositRow) (due : Option ℤ) (holds : ℤ) (kept : d.gone ≡ None) (count : ℕ) (office : IsOffice old.now) (h : Executes put_text (params_of d due holds) old new (Ok count)) where
+  abbrev row : Row
+  row = row_of d due holds
 
-  after : Becomes new.now (with_deposit d (tables_of old.now))
+  change : Changes office_schema old new (adding deposit_table row old) count (adding deposit_table row old).news
+  change = inserts put_text (params_of d due holds) old new office_schema office.whole.schema_is 5 deposit_table refl idle put_terms 12 deposit_meanings.put_means refl refl count h
+
+  cast_is : cast_row deposit_table row ≡ row
+  cast_is = rw (cast_null, cast_int d.number, cast_int d.closed, cast_int d.deposited, cast_int d.files, cast_int d.bytes, cast_maybe due, cast_int holds) refl
+
+  after : Becomes new.now (with_kept d due holds (tables_of old.now))
   after =
       let number : DepositRow → ℤ = λ e. e.number in
-      let is_d : deposit_in (row_of d) ≡ d = ap (λ g. record d { gone = g }) (sym kept) in
-      let at_its_place = placed deposit_in number (λ r. refl) old new deposit_table (row_of d) (stored_of d) d.number count (adding deposit_table (row_of d) old).news (of_deposits office.whole.shaped) cast_is change in
-      let due_at_its_place = placed due_in (λ (e : DueRow). e.number) (λ r. refl) old new deposit_table (row_of d) (stored_of d) d.number count (adding deposit_table (row_of d) old).news (of_deposits office.whole.shaped) cast_is change in
-      becomes old new (adding deposit_table (row_of d) old) count (adding deposit_table (row_of d) old).news office (refl, (refl, tt)) change _ (ap₂ (λ rows dues. record (tables_of old.now) { deposits = rows; dues = dues })
-      (at_its_place ∙ ap (λ x. put_by number x (map deposit_in (old.now.trees deposit_tree))) is_d) due_at_its_place)
+      let is_d : deposit_in row ≡ d = ap (λ g. record d { gone = g }) (sym kept) in
+      let at_its_place = placed deposit_in number (λ r. refl) old new deposit_table row (stored_of d due holds) d.number count (adding deposit_table row old).news (of_deposits office.whole.shaped) cast_is change in
+      let due_at_its_place = placed due_in (λ (e : DueRow). e.number) (λ r. refl) old new deposit_table row (stored_of d due holds) d.number count (adding deposit_table row old).news (of_deposits office.whole.shaped) cast_is change in
+      let is_due : due_in row ≡ kept_row d.number due holds = ap (λ day. kept_row d.number day holds) (maybe_back due []) in
+      becomes old new (adding deposit_table row old) count (adding deposit_table row old).news office (refl, (refl, tt)) change _ (ap₂ (λ rows dues. record (tables_of old.now) { deposits = rows; dues = dues })
+      (at_its_place ∙ ap (λ x. put_by number x (map deposit_in (old.now.trees deposit_tree))) is_d)
+      (due_at_its_place ∙ ap (λ x. put_by (λ (e : DueRow). e.number) x (map due_in (old.now.trees deposit_tree))) is_due))
 
-  row_is : put office_schema Enforced old.now.trees new.now.trees deposit_table (row_of d) change.applies ≡ (row_of d)
+  row_is : put office_schema Enforced old.now.trees new.now.trees deposit_table row change.applies ≡ row
   row_is = ap (with_rowid Chosen (old.now.trees deposit_tree)) cast_is
 
   -- no deposit passes a test that two deposits of an office can't both pass, and the new one does
-  none_passes : (keep : Row → Bool) → keep (row_of d) ≡ true → ((x y : Row) → Has (new.now.trees deposit_tree) x → Has (new.now.trees deposit_tree) y → keep x ≡ true → keep y ≡ true → x ≡ y) → filter keep (old.now.trees deposit_tree) ≡ []
-  none_passes keep is alike = none_before office_schema Enforced old.now.trees new.now.trees deposit_table (row_of d) change.applies keep (ap keep row_is ∙ is) alike
+  none_passes : (keep : Row → Bool) → keep row ≡ true → ((x y : Row) → Has (new.now.trees deposit_tree) x → Has (new.now.trees deposit_tree) y → keep x ≡ true → keep y ≡ true → x ≡ y) → filter keep (old.now.trees deposit_tree) ≡ []
+  none_passes keep is alike = none_before office_schema Enforced old.now.trees new.now.trees deposit_table row change.applies keep (ap keep row_is ∙ is) alike
 
   number_was_new : deposit_numbered d.number (tables_of old.now).deposits ≡ None
   number_was_new =
@@ -78,28 +90,28 @@ module _ (old new : State) (d : DepositRow) (kept : d.gone ≡ None) (count : �
       found_by (has_accession d.accession) (has_text 2 d.accession) deposit_in (old.now.trees deposit_tree) (all_from _ (old.now.trees deposit_tree) (λ r there. refl)) ∙ ap (λ rs. option_map deposit_in (slice_get rs 0)) none
 
   -- the parents of the new row are there
-  was_there : Has (new.now.trees deposit_tree) (row_of d)
-  was_there = subst (λ r. Has (new.now.trees deposit_tree) r) row_is (was_put office_schema Enforced old.now.trees new.now.trees deposit_table (row_of d) change.applies)
+  was_there : Has (new.now.trees deposit_tree) row
+  was_there = subst (λ r. Has (new.now.trees deposit_tree) r) row_is (was_put office_schema Enforced old.now.trees new.now.trees deposit_table row change.applies)
 
-  held : (list_any (λ parent. agree plain (1 ∷ []) parent (3 ∷ []) (row_of d)) (new.now.trees collection_tree) ≡ true) × (list_any (λ parent. agree plain (1 ∷ []) parent (4 ∷ []) (row_of d)) (new.now.trees class_tree) ≡ true)
+  held : (list_any (λ parent. agree plain (1 ∷ []) parent (3 ∷ []) row) (new.now.trees collection_tree) ≡ true) × (list_any (λ parent. agree plain (1 ∷ []) parent (4 ∷ []) row) (new.now.trees class_tree) ≡ true)
   unfolding joined same_name
   held =
-      let each = all_has _ (new.now.trees deposit_tree) (row_of d) (of_deposits (keeps_rule after.office.whole ForeignKey)) was_there in
+      let each = all_has _ (new.now.trees deposit_tree) row (of_deposits (keeps_rule after.office.whole ForeignKey)) was_there in
       let two = and_parts _ _ each in
       (two.0, (and_parts _ _ two.1).0)
 
   collection_was_there : IsTrue (has_collection d.collection (tables_of old.now))
   collection_was_there =
-      let named = any_parent 1 3 d.collection (row_of d) (new.now.trees collection_tree) (collection_rows new.now after.office) refl in
+      let named = any_parent 1 3 d.collection row (new.now.trees collection_tree) (collection_rows new.now after.office) refl in
       sym (ap (λ t. has_collection d.collection t) after.are) ∙ any_mapped collection_in (has_text 1 d.collection) (is_collection d.collection) (λ r. refl) (new.now.trees collection_tree) ∙ sym named ∙ held.0
 
   class_was_there : IsTrue (has_class d.class (tables_of old.now))
   class_was_there =
       let names : AllByRecursion (IsText 1) (new.now.trees class_tree) = all_from _ (new.now.trees class_tree) (λ r there. (all_has IsClassRow (new.now.trees class_tree) r (class_rows new.now after.office) there).0) in
-      let named = any_parent 1 4 d.class (row_of d) (new.now.trees class_tree) names refl in
+      let named = any_parent 1 4 d.class row (new.now.trees class_tree) names refl in
       sym (ap (λ t. has_class d.class t) after.are) ∙ any_mapped class_in (has_text 1 d.class) (is_class d.class) (λ r. refl) (new.now.trees class_tree) ∙ sym named ∙ held.1
 
-  pub is_added : IsAdded d old.now new.now
+  pub is_added : IsAdded d due holds old.now new.now
   is_added = record {
     becomes = after;
     new_number = number_was_new;

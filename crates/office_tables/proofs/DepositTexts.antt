@@ -1,6 +1,6 @@
 -- What the statements on deposits mean under the schema of an office.
-use Rattle.std.proofs.Common.{ℕ, pos, List, [], ◌∷◌, ◌++◌, ◌+◌, take, drop, codes, refl}
-use Rattle.sqlite.specs.declared.types.Value.TheVariants.{Null, Int}
+use Rattle.std.proofs.Common.{ℕ, List, [], ◌∷◌, ◌++◌, ◌+◌, take, drop, codes, refl}
+use Rattle.sqlite.specs.declared.types.Value.TheVariants.{Null}
 use Rattle.sqlite.specs.Term.{Term, lit, col}
 use Rattle.sqlite.specs.Command.TheVariants.{Insert, Update}
 use Rattle.sqlite.specs.Source.TheVariants.{Values}
@@ -34,10 +34,10 @@ deposit_names = codes "number" ∷ codes "accession" ∷ codes "collection" ∷ 
 -- ---- writes
 
 abbrev pub put_text : List ℕ
-put_text = codes "INSERT INTO deposit (number, accession, collection, class, closed, deposited, files, bytes, holds) VALUES (?1, ?2, ?3, ?4, ?5, ?6, ?7, ?8, 0)"
+put_text = codes "INSERT INTO deposit (number, accession, collection, class, closed, deposited, files, bytes, due, holds) VALUES (?1, ?2, ?3, ?4, ?5, ?6, ?7, ?8, ?9, ?10)"
 
 abbrev pub put_terms : List Term
-put_terms = col 0 0 ∷ lit Null ∷ col 0 1 ∷ col 0 2 ∷ col 0 3 ∷ col 0 4 ∷ col 0 5 ∷ col 0 6 ∷ col 0 7 ∷ lit Null ∷ lit Null ∷ lit (Int (pos 0)) ∷ []
+put_terms = col 0 0 ∷ lit Null ∷ col 0 1 ∷ col 0 2 ∷ col 0 3 ∷ col 0 4 ∷ col 0 5 ∷ col 0 6 ∷ col 0 7 ∷ lit Null ∷ col 0 8 ∷ col 0 9 ∷ []
 
 -- each column as it was, but for that one
 abbrev pub deposit_with : ℕ → Term → List Term

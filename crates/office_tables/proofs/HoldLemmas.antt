@@ -37,7 +37,7 @@ use Rattle.sqlite_rules.proofs.ListLemmas.{all_has, all_from}
 use Rattle.sqlite_rules.proofs.TableLemmas.{int_is}
 use Rattle.sqlite_trees.specs.View.{is_int, IsShaped}
 use Rattle.sqlite_trees.specs.declared.store.Shape.TheVariants as shape
-use Rattle.sql_meaning.specs.Columns.{int_at, bytes_at, maybe_int, maybe_bytes, maybe_int_at, maybe_bytes_at}
+use Rattle.sql_meaning.specs.Columns.{int_at, bytes_at, maybe_int, maybe_bytes, maybe_bytes_at}
 use Rattle.sql_meaning.proofs.Writing.{Changes, inserts}
 use Rattle.sql_meaning.proofs.Inserts.{none_before}
 use Rattle.sqlite_schema.specs.declared.schema.Keys.TheVariants.{Enforced}
@@ -56,7 +56,7 @@ use Rattle.office_tables.proofs.TablePlaces.{of_holds}
 use Rattle.office_tables.proofs.Frames.{idle, becomes, AreOthers, adding}
 use Rattle.office_tables.proofs.InOrder.{placed}
 use Rattle.office_tables.proofs.LastRow.{reads_last}
-use Rattle.office_tables.proofs.MaybeEmpty.{keeps_int, keeps_text, null_is}
+use Rattle.office_tables.proofs.MaybeEmpty.{cast_maybe, keeps_int, keeps_text, maybe_back, null_is}
 use Rattle.office_tables.proofs.HoldTexts.{hold_text, hold_columns, last_text, put_text, hold_terms, end_text, ended_columns, on_text, on, within_text, within, of_class_text, of_class, hold_meanings}
 use Rattle.office_tables.proofs.Columns.{only}
 use Rattle.office_tables.proofs.RowsRead.{reads_numbered}
@@ -93,17 +93,9 @@ stored_of h = Null ∷ or_null Int h.deposit ∷ or_null Text h.collection ∷ o
 abbrev row_of : HoldRow → Row
 row_of h = Int h.number ∷ stored_of h
 
-cast_maybe : (n : Option ℤ) → cast kind.Integer (or_null Int n) ≡ or_null Int n
-cast_maybe None = cast_null
-cast_maybe (Some n) = cast_int n
-
 cast_text : (t : Option (List ℕ)) → cast kind.Text (or_null Text t) ≡ or_null Text t
 cast_text None = refl
 cast_text (Some t) = refl
-
-maybe_back : (n : Option ℤ) (more : Row) → maybe_int_at (or_null Int n ∷ more) 0 ≡ n
-maybe_back None more = refl
-maybe_back (Some n) more = refl
 
 text_back : (t : Option (List ℕ)) (more : Row) → maybe_bytes_at (or_null Text t ∷ more) 0 ≡ t
 text_back None more = refl

@@ -1,5 +1,5 @@
 -- The rows that the queries on deposits and files show, the order of paths, and what a deposit that was added tells.
-use Rattle.std.specs.Prelude.{ℕ, ℤ, pos, List, None, IsTrue, ◌≡◌}
+use Rattle.std.specs.Prelude.{ℕ, ℤ, pos, List, Option, None, IsTrue, ◌≡◌}
 use Rattle.std.specs.Ordering.{nat_cmp}
 use Rattle.std.specs.Cmp.Lexicographic.{slice_cmp}
 use Rattle.std.specs.declared.cmp.Ordering.{Ordering}
@@ -7,7 +7,7 @@ use Rattle.sqlite.specs.Order.{Row}
 use Rattle.sqlite.specs.Effect.{Database}
 use Rattle.sqlite_keyed.specs.Lists.{sort_by}
 use Rattle.sql_meaning.specs.Columns.{bytes_at}
-use Rattle.office_rows.specs.Rows.{DepositRow, FileRow, Tables, files_of, with_deposit, deposit_numbered, deposit_by, has_collection, has_class}
+use Rattle.office_rows.specs.Rows.{DepositRow, FileRow, Tables, files_of, with_kept, deposit_numbered, deposit_by, has_collection, has_class}
 use Rattle.office_tables.specs.Stored.{deposit_at}
 use Rattle.office_tables.specs.Tables.{Becomes, tables_of}
 use Rattle.office_tables.specs.declared.deposits.NewDeposit.{NewDeposit}
@@ -40,9 +40,10 @@ added_row d = record {
   gone = None;
 }
 
--- a deposit came to the rows of an office: its number and its accession were new, and its collection and its class were there
-pub record IsAdded (d : DepositRow) (old new : Database) : Type 0 where
-  pub becomes : Becomes new (with_deposit d (tables_of old))
+-- a deposit came to the rows of an office, with its day and its count of holds: its number and its accession were new, and its
+-- collection and its class were there
+pub record IsAdded (d : DepositRow) (due : Option ℤ) (holds : ℤ) (old new : Database) : Type 0 where
+  pub becomes : Becomes new (with_kept d due holds (tables_of old))
   pub new_number : deposit_numbered d.number (tables_of old).deposits ≡ None
   pub new_accession : deposit_by d.accession (tables_of old).deposits ≡ None
   pub its_collection : IsTrue (has_collection d.collection (tables_of old))

@@ -4,7 +4,7 @@ ghost use Rattle.std.specs.Prelude.{◌≡◌, IsTrue, OnOk, None, pos, option_m
 ghost use Rattle.sqlite.specs.State.{HasCleanDisk};
 ghost use Rattle.sqlite.specs.Held.{state};
 ghost use Rattle.sql_meaning.specs.Columns.{int_at};
-ghost use Rattle.office_rows.specs.Rows.{deposit_numbered, deposit_by, has_class, has_collection, last_number, with_deposit, with_gone};
+ghost use Rattle.office_rows.specs.Rows.{deposit_numbered, deposit_by, has_class, has_collection, last_number, with_deposit, with_gone, with_kept};
 ghost use Rattle.office_tables.specs.Tables.{IsOffice};
 ghost use Rattle.office_tables.specs.Contents.{LeavesContents, LeavesOnce};
 ghost use Rattle.office_tables.specs.Calls.{GoesOnInside, Keeps, Shows, Tells, Writes};
@@ -237,18 +237,23 @@ pub struct NewDeposit<'a> {
     pub bytes: i64,
 }
 
-/// Adds a deposit that isn't destroyed.
-fn add_deposit<S: Alter>(tx: &mut Transaction<'_, S>, deposit: NewDeposit<'_>) -> Result<usize>
+/// Adds a deposit that isn't destroyed, with its due day and how many live holds cover it.
+fn add_deposit<S: Alter>(
+    tx: &mut Transaction<'_, S>,
+    deposit: NewDeposit<'_>,
+    due: Option<i64>,
+    holds: i64,
+) -> Result<usize>
     ensures inside { GoesOnInside S.Store tx.old.conn tx.new.conn result }
     ensures added { HasCleanDisk (state S.Store tx.new.conn.now)
         → IsOffice (state S.Store tx.old.conn.now).now
         → OnOk result
-        (IsAdded (added_row deposit.entry) (state S.Store tx.old.conn.now).now (state S.Store tx.new.conn.now).now) }
+        (IsAdded (added_row deposit.entry) due holds (state S.Store tx.old.conn.now).now (state S.Store tx.new.conn.now).now) }
     ensures contents { LeavesContents S.Store tx.old.conn.now tx.new.conn.now result }
 {
     change(
         tx,
-        "INSERT INTO deposit (number, accession, collection, class, closed, deposited, files, bytes, holds) VALUES (?1, ?2, ?3, ?4, ?5, ?6, ?7, ?8, 0)",
+        "INSERT INTO deposit (number, accession, collection, class, closed, deposited, files, bytes, due, holds) VALUES (?1, ?2, ?3, ?4, ?5, ?6, ?7, ?8, ?9, ?10)",
         params![
             deposit.number,
             deposit.accession,
@@ -257,7 +262,9 @@ fn add_deposit<S: Alter>(tx: &mut Transaction<'_, S>, deposit: NewDeposit<'_>) -
             deposit.closed,
             deposit.deposited,
             deposit.files,
-            deposit.bytes
+            deposit.bytes,
+            due,
+            holds
         ],
     )
 }
@@ -281,7 +288,36 @@ pub fn put_deposit<S: Alter>(tx: &mut Transaction<'_, S>, deposit: NewDeposit<'_
     ensures contents { LeavesContents S.Store tx.old.conn.now tx.new.conn.now result }
     ensures once { LeavesOnce S.Store tx.old.conn.now tx.new.conn.now result }
 {
-    add_deposit(tx, deposit)?;
+    add_deposit(tx, deposit, None, 0)?;
+    Ok(())
+}
+
+/// Adds a deposit, which isn't destroyed, in its place by number, with the day from which it may be destroyed, if it isn't kept
+/// permanently, and how many live holds cover it.
+///
+/// Fails with `Store` where there is no such collection or class, or where the accession or the number is taken, and with `Memory`
+/// or `Store`.
+pub fn put_deposit_and_due<S: Alter>(
+    tx: &mut Transaction<'_, S>,
+    deposit: NewDeposit<'_>,
+    due: Option<i64>,
+    holds: i64,
+) -> Result<()>
+    ensures inside { GoesOnInside S.Store tx.old.conn tx.new.conn result }
+    ensures becomes { Writes S.Store tx.old.conn.now tx.new.conn.now result
+        (with_kept (added_row deposit.entry) due holds) }
+    ensures new_number { Tells S.Store tx.old.conn.now tx.new.conn.now result (λ tables _.
+        deposit_numbered (pos deposit.entry.number) tables.deposits ≡ None) }
+    ensures new_accession { Tells S.Store tx.old.conn.now tx.new.conn.now result (λ tables _.
+        deposit_by deposit.entry.accession.now tables.deposits ≡ None) }
+    ensures its_collection { Tells S.Store tx.old.conn.now tx.new.conn.now result (λ tables _.
+        IsTrue (has_collection deposit.entry.collection.now tables)) }
+    ensures its_class { Tells S.Store tx.old.conn.now tx.new.conn.now result (λ tables _.
+        IsTrue (has_class deposit.entry.class.now tables)) }
+    ensures contents { LeavesContents S.Store tx.old.conn.now tx.new.conn.now result }
+    ensures once { LeavesOnce S.Store tx.old.conn.now tx.new.conn.now result }
+{
+    add_deposit(tx, deposit, due, holds)?;
     Ok(())
 }
 

@@ -23,7 +23,7 @@ pub use classes::{class_of, has_collection, put_class, put_collection};
 pub use creating::create;
 pub use deposits::{
     DepositRow, NewDeposit, by_accession, deposit_row, deposit_rows, last_deposit, mark_gone,
-    put_deposit,
+    put_deposit, put_deposit_and_due,
 };
 pub use dues::{
     ClosingRow, DepositAndDue, DueRow, PlaceRow, add_holds, add_holds_class, deposits_and_dues,

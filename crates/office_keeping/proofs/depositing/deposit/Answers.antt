@@ -6,6 +6,7 @@ use Rattle.office_asking.proofs.RowsTold.{office_still}
 use Rattle.office_tables.proofs.InTurn.{clean_first, inside_after, inside_failed}
 use Rattle.std.specs.Result.{result_err}
 use Rattle.std.specs.Prelude.{IfOk, option_map}
+use Rattle.bag_check.specs.Digests.{digests_of}
 use Rattle.office_history.specs.Bags.{bag_of}
 use Rattle.office_by_rows.specs.Changes.{allowed_rows, kept_as}
 use Rattle.office_by_rows.specs.Refusals.{highest_deposit, number_after}
@@ -14,6 +15,9 @@ use Rattle.office_asking.proofs.ServedBy.{allowed_by, refused_by, rewritten_as}
 use Rattle.office_keeping.specs.Asked.{request_of, row_of, visit_of}
 use Rattle.office_keeping.proofs.KeptAs.{next_kept}
 use Rattle.office_keeping.proofs.depositing.deposit.Goals as goal
+
+pub keep-requires : goal.keep-requires
+keep-requires g c = c.deref.ensures.value ∙ subst (λ new. IfOk new (λ new. new.digests.items ≡ digests_of new.bag)) c.in-Ok.is c.in_ok-new.ensures.digests
 
 pub returns-in_err-keep-clause-inside : goal.returns-in_err-keep-clause-inside
 returns-in_err-keep-clause-inside g c = inside_failed c.in_ok-new.ensures.inside c.keep.ensures.inside _ (search rules) (search rules)

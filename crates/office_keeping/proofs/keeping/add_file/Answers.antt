@@ -1,6 +1,8 @@
 use Rattle.std.proofs.Common.{pos}
+use Rattle.sqlite.specs.Held.{state}
 use Rattle.bag_text.specs.TransferReading.{file_of}
 use Rattle.office_rows.specs.Rows.{with_file}
+use Rattle.office_tables.proofs.ContentLemmas.{put_once}
 use Rattle.office_asking.specs.Contents.{with_content_of}
 use Rattle.office_keeping.proofs.Rewritten.{rewrites_by}
 use Rattle.office_keeping.proofs.keeping.add_file.Goals as goal
@@ -8,5 +10,10 @@ use Rattle.office_keeping.proofs.keeping.add_file.Goals as goal
 pub returns-clause-changes : goal.returns-clause-changes
 returns-clause-changes g c =
     let file = file_of c.args.file.now in
-    let put = c.put_file.ensures in
-    rewrites_by (with_file (record { deposit = pos c.args.number; path = file.path; content = file.content })) (λ t. with_content_of file) put.inside put.becomes put.contents put.references put.once
+    let put = c.in_ok-put_marked.ensures in
+    let old = state g.S.Store c.args.tx.now.conn.now in
+    let new = state g.S.Store c.put_marked.new.tx.conn.now in
+    let contents = rw c.requires at put.contents in
+    let references = rw c.requires at put.references in
+    rewrites_by (with_file (record { deposit = pos c.args.number; path = file.path; content = file.content })) (λ t. with_content_of file) put.inside put.becomes contents references
+    (λ clean office kept. put_once file.path file.content (pos c.args.number) old.now new.now (record { becomes = put.becomes clean office; new_path = put.new_path clean office; contents = contents clean office; references = references clean office; used = put.used clean office }) kept)

@@ -1,10 +1,12 @@
-use Rattle.std.proofs.Common.{rules, pos, ◌≡◌, refl, sym, Some, Ok}
+use Rattle.std.proofs.Common.{rules, pos, ◌≡◌, ◌∙◌, refl, sym, ap, Some, Ok}
 use Rattle.std.proofs.lemmas.Result.{on_ok_weaker}
 use Rattle.sqlite.specs.Held.{state}
 use Rattle.office_tables.specs.Tables.{tables_of}
 use Rattle.office_tables.specs.declared.fault.TableFault.{TableFault}
 use Rattle.office_tables.proofs.InTurn.{clean_first, inside_as, inside_failed, inside_then, then_in_turn}
-use Rattle.office_by_rows.specs.Changes.{kept_as, with_files, with_kept}
+use Rattle.bag_check.specs.Digests.{digests_of}
+use Rattle.office_rows.specs.Rows.{with_kept}
+use Rattle.office_by_rows.specs.Changes.{kept_as, with_files}
 use Rattle.office_asking.specs.Contents.{with_contents_of}
 use Rattle.office_asking.specs.Serving.{Changes}
 use Rattle.office_asking.proofs.RowsTold.{office_still}
@@ -12,6 +14,9 @@ use Rattle.office_asking.proofs.ServedBy.{rewritten_after, rewritten_as, rewrite
 use Rattle.office_keeping.specs.Asked.{row_of}
 use Rattle.office_keeping.proofs.KeptAs.{kept_beside}
 use Rattle.office_keeping.proofs.keeping.keep.Goals as goal
+
+pub add_files-requires : goal.add_files-requires
+add_files-requires g c = c.requires ∙ ap digests_of (sym c.files.ensures.whole)
 
 pub returns-in_err-row_count-clause-inside : goal.returns-in_err-row_count-clause-inside
 returns-in_err-row_count-clause-inside g c = inside_as c.in_ok-beside.ensures.inside _ (search rules)

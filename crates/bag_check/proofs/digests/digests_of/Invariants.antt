@@ -1,0 +1,6 @@
+use Rattle.std.proofs.Common.{◌≡◌, map, take}
+use Rattle.sha2.specs.Sha256.{sha256}
+use Rattle.bag_check.proofs.digests.digests_of.Given as goal
+
+abbrev pub invariant-loop-file : goal.invariant-loop-file
+invariant-loop-file l = l.digests.items ≡ map (λ file. sha256 file.1.now) (take l.file-index l.files)
