@@ -7,14 +7,13 @@ use crate::upgrading::upgraded;
 use anyhow::{Context, Result, bail};
 use office_core::{Answer, Day, Limits, Name, Request, Years, read_policy};
 use office_engine::Office;
-use office_history::plain;
 use sqlite::{Alter, Connection, MemStore};
 use std::alloc::Global;
 
 /// The two offices.
 #[derive(Drop)]
 struct Offices<S: Alter> {
-    plain: plain::Office,
+    plain: plain_office::Office,
     kept: Office<S>,
     known: Known,
 }
@@ -39,7 +38,7 @@ impl<S: Alter + Drop> Offices<S> {
             bail!("no office could be made");
         };
         Ok(Offices {
-            plain: plain::Office::create(alloc, limits),
+            plain: plain_office::Office::create(alloc, limits),
             kept,
             known: Known::new(alloc),
         })

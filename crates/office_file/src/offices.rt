@@ -6,8 +6,8 @@ use office_core::{
     PolicyFault, Refusal, Request, Scope, Years, read_policy,
 };
 use office_engine::Office;
-use office_history::{Stock, plain};
 use office_tables::TableFault;
+use plain_office::Stock;
 use sqlite::{Connection, MemStore};
 use std::alloc::{AllocError, Global};
 use worked_bags::BAG;
@@ -98,9 +98,9 @@ pub const NOTHING: Stock = Stock {
 };
 
 /// A new plain office.
-pub fn plain(alloc: Global) -> Option<plain::Office> {
+pub fn plain(alloc: Global) -> Option<plain_office::Office> {
     let limits = Limits::new(10, 10)?;
-    Some(plain::Office::create(alloc, limits))
+    Some(plain_office::Office::create(alloc, limits))
 }
 
 /// A new office over tables in memory. Where memory was refused to a call, it is made once more.

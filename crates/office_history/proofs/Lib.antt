@@ -8,15 +8,11 @@ pub mod OnceLemmas
 pub mod CoverLemmas
 pub mod AnsweredLemmas
 pub mod Examples
-pub mod PlainLemmas
-pub mod PlainRoom
-pub mod PlainRuns
 pub mod Alike
 pub mod AlikeAnswers
 pub mod LegalReadings
 pub mod VerdictLemmas
 pub mod AnyDay
-pub mod DistinctLemmas
 pub mod Pictured
 pub mod DisposalFacts
 pub mod RangeLemmas

@@ -1,5 +1,5 @@
 -- Each legal history: its limits hold, what is named is there, and its rows are in range.
-use Rattle.std.proofs.Common.{◌≡◌, ◌≤ℤ◌, ℕ, true, List, [], ◌∷◌, Option, Some, None, IsSome, is_some, refl, sym, ap, subst, ◌∙◌, arith}
+use Rattle.std.proofs.Common.{◌≡◌, ◌<◌, ◌≤◌, ◌≤ℤ◌, ℕ, true, List, [], ◌∷◌, ◌++◌, length, length-append, Option, Some, None, IsSome, is_some, refl, sym, ap, subst, ◌∙◌, arith}
 use Rattle.std.specs.Prelude.{bytes_eq}
 use Rattle.std.specs.List.{AllByRecursion, filter_map, list_any}
 use Rattle.std.specs.Option.{option_or}
@@ -22,16 +22,23 @@ use Rattle.office_history.proofs.HistoryLemmas.{deposit_stays}
 use Rattle.office_history.proofs.ListLemmas.{all_said}
 use Rattle.office_history.proofs.Alike.{some_behind, last_said-append}
 use Rattle.office_history.proofs.Accepted.{IsAccepted, legal_by, deposits_by, holds_by}
-use Rattle.office_history.proofs.PlainLemmas.{within_grown}
-use Rattle.office_history.proofs.PlainRoom.{has_room}
 
 -- ---- the limits
+
+one_more : {A : Type 0} (xs : List A) (x : A) (most : ℕ) → length xs < most → length (xs ++ x ∷ []) ≤ most
+one_more xs x most room = rw (length-append xs (x ∷ [])) (omega arith)
 
 pub limits_hold : (h : History) → IsLegal h → IsWithin h
 limits_hold h legal =
     legal_by IsWithin
     (λ a b a_in b_in. record { deposits_in = omega arith; holds_in = omega arith; deposits_limit = a_in; holds_limit = b_in })
-    (λ x c was ok within. within_grown x c (has_room x c ok.1) within) h legal
+    (λ x c was ok within. record {
+      deposits_in = deposits_by (λ found. length found ≤ x.max_deposits) x c ok within.deposits_in (λ day deposit ranged allowed. one_more (deposits x) (day, deposit) x.max_deposits allowed.room);
+      holds_in = holds_by (λ found. length found ≤ x.max_holds) x c ok within.holds_in (λ day hold ranged allowed. one_more (holds x) (day, hold) x.max_holds allowed.room);
+      deposits_limit = within.deposits_limit;
+      holds_limit = within.holds_limit;
+    })
+    h legal
 
 -- ---- the day of a deposit
 

@@ -8,8 +8,3 @@ pub mod Runs
 pub mod Stocks
 pub mod Pictures
 pub mod RowRanges
-pub mod PlainBags
-pub mod PlainTargets
-pub mod PlainChanges
-pub mod PlainOffices
-pub mod PlainStocks

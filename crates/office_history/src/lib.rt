@@ -3,7 +3,3 @@
 
 pub mod judging;
 pub mod laws;
-pub mod plain;
-mod plain_stock;
-
-pub use plain_stock::Stock;

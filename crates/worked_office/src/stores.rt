@@ -4,21 +4,21 @@ use crate::bodies::put_for_bodies;
 use crate::files::take_once;
 use crate::offices::{Way, equip, install_named, limits, other_stock, put};
 use crate::parts::{Part, agree, take_part};
-use office_history::plain;
+use plain_office::Office;
 use sqlite::Connection;
 use std::alloc::Global;
 use std::test::Fail;
 use worked_sessions::{Disks, MANY, empty};
 
 /// A plain office with the policy, the classes and the collections of `worked_sessions`.
-fn plain_office(alloc: Global, most: &str) -> Result<plain::Office, Fail> {
-    let mut office = plain::Office::create(alloc, limits(most).ok_or("limits")?);
+fn new_plain(alloc: Global, most: &str) -> Result<Office, Fail> {
+    let mut office = Office::create(alloc, limits(most).ok_or("limits")?);
     agree(equip(alloc, &mut office))?;
     Ok(office)
 }
 
 /// Takes a part with the plain office, which has no tables that could be altered.
-fn take_plain(alloc: Global, office: &mut plain::Office, way: Way, part: Part) -> Option<String> {
+fn take_plain(alloc: Global, office: &mut Office, way: Way, part: Part) -> Option<String> {
     let (kind, text) = part;
     match kind {
         "policy" => install_named(alloc, office, text),
@@ -32,7 +32,7 @@ fn take_plain(alloc: Global, office: &mut plain::Office, way: Way, part: Part) -
 /// Takes the parts after the first, which makes the office, with a plain office.
 fn in_plain(alloc: Global, way: Way, parts: &[Part]) -> Result<(), Fail> {
     let (first, rest) = parts.split_first().ok_or("no part")?;
-    let mut office = plain_office(alloc, first.1)?;
+    let mut office = new_plain(alloc, first.1)?;
     for part in rest {
         agree(take_plain(alloc, &mut office, way, *part))?;
     }

@@ -4,7 +4,7 @@
 use crate::offices::AnyOffice;
 use office_core::{Day, Years, due};
 use office_engine::Office;
-use office_history::Stock;
+use plain_office::Stock;
 use sha2::{Digest, Sha256};
 use sqlite::types::ValueRef;
 use sqlite::{Alter, Connection, Row};

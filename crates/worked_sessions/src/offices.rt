@@ -1,8 +1,8 @@
 //! The two offices, asked alike.
 
 use office_core::{Answer, Day, Policy, Request};
-use office_history::{Stock, plain};
 use office_tables::TableFault;
+use plain_office::Stock;
 use sqlite::Alter;
 use std::alloc::{AllocError, Global};
 
@@ -25,13 +25,13 @@ pub trait AnyOffice {
     fn stock(&mut self, alloc: Global) -> Result<Stock, TableFault>;
 }
 
-impl AnyOffice for plain::Office {
+impl AnyOffice for plain_office::Office {
     fn install(&mut self, _: Global, policy: Policy) -> Result<(), TableFault> {
-        Ok(plain::Office::install(self, policy)?)
+        Ok(plain_office::Office::install(self, policy)?)
     }
 
     fn step(&mut self, alloc: Global, day: Day, caller: &str, request: &Request<'_>) -> Answer {
-        plain::Office::step(self, alloc, day, caller, request)
+        plain_office::Office::step(self, alloc, day, caller, request)
     }
 
     fn run(
@@ -39,11 +39,11 @@ impl AnyOffice for plain::Office {
         alloc: Global,
         items: &[(Day, &str, Request<'_>)],
     ) -> Result<Vec<Answer>, AllocError> {
-        plain::Office::run(self, alloc, items)
+        plain_office::Office::run(self, alloc, items)
     }
 
     fn stock(&mut self, alloc: Global) -> Result<Stock, TableFault> {
-        Ok(plain::Office::stock(self, alloc)?)
+        Ok(plain_office::Office::stock(self, alloc)?)
     }
 }
 

@@ -1,7 +1,0 @@
-use Rattle.std.proofs.Common.{◌≡◌, ◌++◌, drop}
-use Rattle.std.specs.List.{filter_map}
-use Rattle.office_history.specs.Answers.{told_hold}
-use Rattle.office_history.proofs.plain.answering.told_holds.Given as goal
-
-abbrev pub invariant-loop-hold : goal.invariant-loop-hold
-invariant-loop-hold l = l.holds.items ++ filter_map (told_hold l.office) (drop l.hold-index l.hold-items) ≡ filter_map (told_hold l.office) l.hold-items

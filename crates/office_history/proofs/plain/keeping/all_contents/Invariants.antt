@@ -1,9 +1,0 @@
-use Rattle.std.proofs.Common.{◌≡◌, ◌++◌, drop}
-use Rattle.std.specs.List.{flat_map}
-use Rattle.office_history.specs.Stocks.{files_of}
-use Rattle.bag_text.specs.Text.{texts}
-use Rattle.office_history.specs.PlainStocks.{contents_of}
-use Rattle.office_history.proofs.plain.keeping.all_contents.Given as goal
-
-abbrev pub invariant-loop-number : goal.invariant-loop-number
-invariant-loop-number l = texts l.all.items ++ contents_of (flat_map (files_of l.office) (drop l.number-index l.number-items)) ≡ contents_of (flat_map (files_of l.office) l.number-items)

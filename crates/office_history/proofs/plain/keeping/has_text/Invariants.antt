@@ -1,7 +1,0 @@
-use Rattle.std.proofs.Common.{◌≡◌, drop, bytes_eq}
-use Rattle.std.specs.List.{list_any}
-use Rattle.bag_text.specs.Text.{texts}
-use Rattle.office_history.proofs.plain.keeping.has_text.Given as goal
-
-abbrev pub invariant-loop-other : goal.invariant-loop-other
-invariant-loop-other l = list_any (bytes_eq l.text) (texts (drop l.other-index l.others)) ≡ list_any (bytes_eq l.text) (texts l.others)

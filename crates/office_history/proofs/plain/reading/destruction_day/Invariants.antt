@@ -1,7 +1,0 @@
-use Rattle.std.proofs.Common.{◌≡◌, drop}
-use Rattle.office_history.specs.Lists.{first_said}
-use Rattle.office_history.specs.Histories.{destroyed_in}
-use Rattle.office_history.proofs.plain.reading.destruction_day.Given as goal
-
-abbrev pub invariant-loop-change : goal.invariant-loop-change
-invariant-loop-change l = first_said (destroyed_in l.deposit) (drop l.change-index l.changes) ≡ first_said (destroyed_in l.deposit) l.changes

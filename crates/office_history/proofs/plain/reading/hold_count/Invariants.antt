@@ -1,7 +1,0 @@
-use Rattle.std.proofs.Common.{◌≡◌, ◌+◌, drop, length}
-use Rattle.std.specs.List.{filter_map}
-use Rattle.office_history.specs.Histories.{hold_in}
-use Rattle.office_history.proofs.plain.reading.hold_count.Given as goal
-
-abbrev pub invariant-loop-change : goal.invariant-loop-change
-invariant-loop-change l = l.count + length (filter_map hold_in (drop l.change-index l.changes)) ≡ length (filter_map hold_in l.changes)

@@ -1,8 +1,0 @@
-use Rattle.std.proofs.Common.{◌≡◌, drop}
-use Rattle.std.specs.List.{filter_map}
-use Rattle.office_history.specs.Lists.{item_numbered}
-use Rattle.office_history.specs.Histories.{hold_in}
-use Rattle.office_history.proofs.plain.reading.hold_numbered.Given as goal
-
-abbrev pub invariant-loop-change : goal.invariant-loop-change
-invariant-loop-change l = item_numbered (filter_map hold_in (drop l.change-index l.changes)) l.left ≡ item_numbered (filter_map hold_in l.changes) l.number

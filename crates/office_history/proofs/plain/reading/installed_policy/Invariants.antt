@@ -1,8 +1,0 @@
-use Rattle.std.proofs.Common.{◌≡◌, drop, option_copied}
-use Rattle.std.specs.Option.{option_or}
-use Rattle.office_history.specs.Lists.{last_said}
-use Rattle.office_history.specs.Histories.{installed_in}
-use Rattle.office_history.proofs.plain.reading.installed_policy.Given as goal
-
-abbrev pub invariant-loop-change : goal.invariant-loop-change
-invariant-loop-change l = option_or (last_said installed_in (drop l.change-index l.changes)) (option_copied l.last) ≡ last_said installed_in l.changes

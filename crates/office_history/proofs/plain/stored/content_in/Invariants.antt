@@ -1,7 +1,0 @@
-use Rattle.std.proofs.Common.{◌≡◌, drop}
-use Rattle.bag_text.specs.TransferForm.{content_at}
-use Rattle.bag_text.specs.TransferReading.{files_of}
-use Rattle.office_history.proofs.plain.stored.content_in.Given as goal
-
-abbrev pub invariant-loop-file : goal.invariant-loop-file
-invariant-loop-file l = content_at (files_of (drop l.file-index l.files)) l.path ≡ content_at (files_of l.files) l.path

@@ -1,0 +1,4 @@
+pub mod WalkLemmas
+pub mod RoomLemmas
+pub mod RunLemmas
+pub mod DistinctLemmas

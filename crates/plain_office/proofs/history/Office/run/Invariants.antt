@@ -1,0 +1,14 @@
+use Rattle.std.proofs.Common.{◌≡◌, ◌≤◌, ◌++◌, List, length, drop, vec_len, vec_capacity}
+use Rattle.office_core.specs.declared.answer.Answer.{Answer}
+use Rattle.office_history.specs.Histories.{History}
+use Rattle.plain_office.specs.Offices.{IsWantOfMemory}
+use Rattle.office_history.specs.Runs.{IsLegal, RunFailing}
+use Rattle.plain_office.proofs.history.Office.run.Given as goal
+
+abbrev pub invariant-loop-item : goal.invariant-loop-item
+invariant-loop-item l = record {
+  count : vec_len l.answers ≡ l.item-index;
+  room : length l.items ≤ vec_capacity l.answers;
+  legal : IsLegal l.fn.self → IsLegal l.self;
+  served : (more : List Answer) (last : History) → RunFailing IsWantOfMemory l.self (drop l.item-index l.items) more last → RunFailing IsWantOfMemory l.fn.self l.items (l.answers.items ++ more) last;
+}

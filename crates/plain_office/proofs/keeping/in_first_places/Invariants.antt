@@ -1,0 +1,8 @@
+use Rattle.std.proofs.Common.{◌≡◌, ◌++◌, drop}
+use Rattle.office_history.specs.Lists.{distinct_after, in_first_places}
+use Rattle.bag_text.specs.Text.{texts}
+use Rattle.plain_office.proofs.keeping.in_first_places.Given as goal
+
+abbrev pub invariant-loop-text : goal.invariant-loop-text
+invariant-loop-text l =
+    texts l.found.items ++ distinct_after (texts l.found.items) (texts (drop l.text-index l.all)) ≡ in_first_places (texts l.all)

@@ -1,0 +1,6 @@
+use Rattle.std.proofs.Common.{◌≡◌, ◌+◌, drop, map, length, sum}
+use Rattle.bag_text.specs.Text.{texts}
+use Rattle.plain_office.proofs.keeping.total.Given as goal
+
+abbrev pub invariant-loop-text : goal.invariant-loop-text
+invariant-loop-text l = l.bytes + sum (map length (texts (drop l.text-index l.contents))) ≡ sum (map length (texts l.contents))

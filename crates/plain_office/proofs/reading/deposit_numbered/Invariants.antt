@@ -1,0 +1,8 @@
+use Rattle.std.proofs.Common.{◌≡◌, drop}
+use Rattle.std.specs.List.{filter_map}
+use Rattle.office_history.specs.Lists.{item_numbered}
+use Rattle.office_history.specs.Histories.{deposit_in}
+use Rattle.plain_office.proofs.reading.deposit_numbered.Given as goal
+
+abbrev pub invariant-loop-change : goal.invariant-loop-change
+invariant-loop-change l = item_numbered (filter_map deposit_in (drop l.change-index l.changes)) l.left ≡ item_numbered (filter_map deposit_in l.changes) l.number

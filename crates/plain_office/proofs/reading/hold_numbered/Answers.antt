@@ -1,0 +1,11 @@
+use Rattle.std.proofs.Common.{arith}
+use Rattle.std.proofs.lemmas.Grind.{common_steps}
+use Rattle.plain_office.proofs.WalkLemmas.{numbered_next}
+use Rattle.plain_office.proofs.reading.hold_numbered.Goals.{in-Some+else-left-eq1, in_default}
+use Rattle.plain_office.proofs.reading.hold_numbered.Goals as goal
+
+pub loop-change-preserved : goal.loop-change-preserved
+loop-change-preserved c = elim c.match-hold.branch [
+  | in-Some+else-left-eq1 w ↦ grind (arith, common_steps, numbered_next)
+  | in_default w ↦ grind (arith, common_steps)
+]

@@ -1,0 +1,7 @@
+use Rattle.std.proofs.Common.{◌≡◌, drop}
+use Rattle.bag_text.specs.TransferForm.{content_at}
+use Rattle.bag_text.specs.TransferReading.{files_of}
+use Rattle.plain_office.proofs.stored.content_in.Given as goal
+
+abbrev pub invariant-loop-file : goal.invariant-loop-file
+invariant-loop-file l = content_at (files_of (drop l.file-index l.files)) l.path ≡ content_at (files_of l.files) l.path
