@@ -26,6 +26,7 @@ pub mod ContentTexts
 pub mod ContentLemmas
 pub mod FileTexts
 pub mod FileLemmas
+pub mod OtherBytes
 pub mod OpenLemmas
 pub mod OrderLemmas
 pub mod HeldLemmas

@@ -1,5 +1,5 @@
 -- The contents that are kept once, and what the calls on them say. `old` is the database before a call and `new` the one after it.
-use Rattle.std.specs.Prelude.{◌≡◌, ℕ, ℤ, pos, List, [], ◌∷◌, ◌++◌, map, filter, length, true, false, bytes_eq, Bool, not, ◌||◌, if◌then◌else◌, Option, Some, None, find, option_map, slice_get, unwrap_or, ◌⊎◌, Result, IfOk, OnOk}
+use Rattle.std.specs.Prelude.{◌≡◌, ◌≢◌, ℕ, ℤ, pos, List, [], ◌∷◌, ◌++◌, map, filter, length, true, false, bytes_eq, Bool, not, ◌||◌, if◌then◌else◌, Option, Some, None, find, option_map, slice_get, unwrap_or, ◌⊎◌, Result, IfOk, OnOk}
 use Rattle.std.specs.List.{AllByRecursion, IsDistinct, list_any}
 use Rattle.sha2.specs.Sha256.{sha256}
 use Rattle.sqlite.specs.Store.{Ghosts}
@@ -11,7 +11,7 @@ use Rattle.sqlite.specs.Effect.{Database}
 use Rattle.sqlite_rules.specs.Lists.{Has}
 use Rattle.sql_meaning.specs.Columns.{bytes_at, int_at}
 use Rattle.office_rows.specs.Rows.{ContentRow, FileRow, is_content, content_numbered, bytes_under, next_id, with_content, is_alike, is_file_at, is_file_of, file_at, with_file, without_files}
-use Rattle.office_tables.specs.Schema.{file_tree}
+use Rattle.office_tables.specs.Schema.{content_tree, file_tree}
 use Rattle.office_tables.specs.Tables.{IsOffice, Becomes, tables_of, contents_of}
 
 -- the number of the content of each file
@@ -169,6 +169,17 @@ is_intact (Some c) = bytes_eq c.mark (sha256 c.bytes)
 pub record ShowsFile (n : ℤ) (db : Database) (row : Row) : Type 0 where
   pub file : file_at n (bytes_at row 0) (tables_of db).files ≡ Some (record { deposit = n; path = bytes_at row 0; content = bytes_under (contents_of db) (int_at row 1) })
   pub content : content_at n (bytes_at row 0) (tables_of db).files (references_of db) (contents_of db) ≡ content_numbered (int_at row 1) (contents_of db)
+
+-- ---- bytes that rot
+
+-- what is left of a content without its bytes: its number, its mark and its size
+abbrev pub without_bytes : ContentRow → ContentRow
+without_bytes c = record c { bytes = [] }
+
+-- the contents are the same but for their bytes, and so is every other row
+pub record DiffersInBytes (old new : Database) : Type 0 where
+  pub contents : map without_bytes (contents_of new) ≡ map without_bytes (contents_of old)
+  pub others : (tree : ℕ) → tree ≢ content_tree → new.trees tree ≡ old.trees tree
 
 -- ---- contents that nobody keeps
 
