@@ -1,14 +1,10 @@
 -- Which answers tell of a change.
 use Rattle.std.proofs.Common.{◌≡◌, ℕ, false, List, [], Option, Some, None, refl, sym, ap, ◌∙◌, true≢false}
 use Rattle.jiff.specs.Types.{Date}
-use Rattle.office_core.specs.declared.answer.Answer.{Answer}
-use Rattle.office_core.specs.declared.refusal.Refusal.{Refusal}
-use Rattle.office_core.specs.declared.request.Request.{Request}
-use Rattle.office_core.specs.declared.request.Request.TheVariants.{DefineClass, DefineCollection, Deposit as MakeDeposit, List as ListDeposits, Record, Holds, DownloadBag, DownloadFile, Audit, HoldDeposit, HoldCollection, HoldClass, Release, Dispose, DueList}
-use Rattle.office_history.specs.Histories.{History, Change}
+use Rattle.office_engine.proofs.Common.{Answer, Refusal, Request, DefineClass, DefineCollection, Record, Holds, DownloadBag, DownloadFile, Audit, HoldDeposit, HoldCollection, HoldClass, Release, Dispose, DueList, History, Change, answer_unless, changes_unless, allowed_change, answer, change, is_accepted}
+use Rattle.office_core.specs.declared.request.Request.TheVariants.{Deposit as MakeDeposit, List as ListDeposits}
 use Rattle.office_history.specs.Refusals.{refusal}
-use Rattle.office_history.specs.Answers.{answer_unless, changes_unless, allowed_answer, allowed_change, answer, change}
-use Rattle.office_engine.specs.Keeping.{is_accepted}
+use Rattle.office_history.specs.Answers.{allowed_answer}
 
 none_allowed : (h : History) (day : Date) (caller : List ℕ) (request : Request) → is_accepted (allowed_answer h day caller request) ≡ false → allowed_change h day request ≡ []
 none_allowed h day caller (DefineClass name years) e = absurd (true≢false e)

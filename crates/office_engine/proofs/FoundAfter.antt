@@ -1,25 +1,9 @@
 -- What may be found after a run.
 use Rattle.std.proofs.Common.{◌≡◌, ◌≢◌, ◌⊎◌, inl, inr, ℕ, zero, suc, List, [], ◌∷◌, ◌++◌, All, drop, refl, sym, subst, ◌∙◌}
-use Rattle.std.proofs.lemmas.List.Elements.{All-head, All-tail}
-use Rattle.office_core.specs.declared.answer.Answer.{Answer}
+use Rattle.office_engine.proofs.Common.{All-head, All-tail, Answer, History, Change, change, IsLater, Item, Run, grown_by_none, IsFoundAfter}
 use Rattle.office_core.specs.declared.answer.Answer.TheVariants.{Refused}
 use Rattle.office_core.specs.declared.refusal.Refusal.TheVariants.{Memory, Store}
-use Rattle.office_history.specs.Histories.{History, Change}
-use Rattle.office_history.specs.Answers.{change}
-use Rattle.office_history.specs.Runs.{IsFailure, IsLater, Item, Step, Run}
-use Rattle.office_history.proofs.Accepted.{grown_by_none}
-use Rattle.office_engine.specs.Keeping.{IsFoundAfter}
-
--- an item before it
-pub found_more : (h mid found : History) (item : Item) (given : Answer) (items : List Item) (told : List Answer) → Step h item given mid → IsFoundAfter mid items told found → IsFoundAfter h (item ∷ items) (given ∷ told) found
-found_more h mid found item given items told step after = record {
-  told = after.told;
-  run = (mid, step, after.run);
-  is_found = elim after.is_found [
-    | inl same ↦ inl same
-    | inr adds ↦ inr (record { count = suc adds.count; item = adds.item; rest = adds.rest; is_item = adds.is_item; failed = adds.failed; added = adds.added })
-  ];
-}
+use Rattle.office_history.specs.Runs.{IsFailure}
 
 pub failure_or : (given : Answer) → IsFailure given ⊎ (IsFailure given → ⊥)
 failure_or (Refused Memory) = inl tt

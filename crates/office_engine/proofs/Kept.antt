@@ -1,18 +1,6 @@
 -- Histories and the rows that are kept or left of them.
 use Rattle.std.proofs.Common.{◌≡◌, Some, ℕ, pos, refl, sym, subst}
-use Rattle.sqlite.specs.Tree.{Trees}
-use Rattle.sqlite.specs.State.{State, Survives}
-use Rattle.sqlite.proofs.StateLemmas.{survives_weaker}
-use Rattle.office_rows.specs.Rows.{empty_office, this_version, version_of}
-use Rattle.office_tables.specs.Opening.{IsLeft, IsMadeLeft}
-use Rattle.sqlite.specs.Effect.{Database}
-use Rattle.office_history.specs.Histories.{History}
-use Rattle.office_history.specs.Pictures.{picture}
-use Rattle.office_history.specs.Runs.{IsLegal, new_history}
-use Rattle.office_history.proofs.RangeLemmas.{limits_hold}
-use Rattle.office_tables.specs.Found.{GoesOnAs, ShowsCommitted}
-use Rattle.office_asking.specs.Pictures.{Pictures}
-use Rattle.office_engine.specs.Keeping.{IsKeptBy, IsLeftOf}
+use Rattle.office_engine.proofs.Common.{Trees, State, Survives, survives_weaker, empty_office, this_version, version_of, IsLeft, IsMadeLeft, Database, History, picture, IsLegal, new_history, limits_hold, GoesOnAs, ShowsCommitted, Pictures, IsKeptBy, IsLeftOf}
 
 pub rows_left : (h : History) (left : Trees) → IsLeftOf h left → IsLeft (picture this_version h) left
 rows_left h left it = (it.0, record { office = it.1.office; are = it.1.are }, it.2)

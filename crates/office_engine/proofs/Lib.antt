@@ -1,5 +1,7 @@
+pub mod Common
 pub mod Accepted
 pub mod Ends
+pub mod Turn
 pub mod FoundAfter
 pub mod Kept
 pub mod RunTurns

@@ -1,21 +1,10 @@
 -- An answer that tells of no change leaves the rows and the contents as they were, whichever they are.
 use Rattle.std.proofs.Common.{◌≡◌, ℕ, true, false, Option, Some, None, option_map, refl, sym, ap, ◌∙◌, true≢false}
-use Rattle.std.proofs.lemmas.Option.{same_Some}
-use Rattle.office_core.specs.FirstOf.{◌>>=◌}
-use Rattle.office_core.specs.declared.answer.Answer.{Answer}
+use Rattle.office_engine.proofs.Common.{same_Some, ◌>>=◌, Answer, Refusal, Request, DefineClass, DefineCollection, Deposit, Record, Holds, DownloadBag, DownloadFile, Audit, HoldDeposit, HoldCollection, HoldClass, Release, Dispose, DueList, Tables, Visit, allowed_rows, highest_deposit, highest_hold, number_after, serve, serve_unless, Contents, Rows, contents_after, serve_rows, is_accepted}
 use Rattle.office_core.specs.declared.answer.Answer.TheVariants as answers
-use Rattle.office_core.specs.declared.refusal.Refusal.{Refusal}
-use Rattle.office_core.specs.declared.request.Request.{Request}
-use Rattle.office_core.specs.declared.request.Request.TheVariants.{DefineClass, DefineCollection, Deposit, List as ListDeposits, Record, Holds, DownloadBag, DownloadFile, Audit, HoldDeposit, HoldCollection, HoldClass, Release, Dispose, DueList}
-use Rattle.office_rows.specs.Rows.{Tables}
+use Rattle.office_core.specs.declared.request.Request.TheVariants.{List as ListDeposits}
 use Rattle.office_by_rows.specs.Answers.{allowed_answer}
-use Rattle.office_by_rows.specs.Asking.{Visit}
-use Rattle.office_by_rows.specs.Changes.{allowed_rows}
-use Rattle.office_by_rows.specs.Refusals.{highest_deposit, highest_hold, number_after, refusal}
-use Rattle.office_by_rows.specs.Serving.{serve, serve_unless}
-use Rattle.office_asking.specs.Contents.{Contents, Rows, contents_after}
-use Rattle.office_asking.specs.Serving.{serve_rows}
-use Rattle.office_engine.specs.Keeping.{is_accepted}
+use Rattle.office_by_rows.specs.Refusals.{refusal}
 use Rattle.office_engine.proofs.ServedByRows.{served_parts}
 
 -- two, where both come to something

@@ -1,19 +1,17 @@
 -- Items of a run in turn.
-use Rattle.std.proofs.Common.{◌≡◌, ◌⊎◌, inl, inr, ◌≤◌, ◌<◌, refl, ℕ, ◌+◌, List, [], ◌∷◌, ◌++◌, take, length, get_or, Result, Ok, Err, OnErr, Bool, true, false, IsTrue, true≢false, subst, sym, ap, ◌∙◌, arith}
-use Rattle.std.proofs.lemmas.List.{take_more, take_all}
-use Rattle.std.proofs.lemmas.List.Elements.{All-nil, All-cons}
-use Rattle.sqlite.specs.Tree.{Trees}
-use Rattle.sqlite.specs.Effect.{Database}
-use Rattle.sqlite.specs.Store.{Ghosts}
-use Rattle.sqlite.specs.State.{State, HasCleanDisk, Survives}
-use Rattle.sqlite.specs.Held.{Held, state}
-use Rattle.office_core.specs.declared.answer.Answer.{Answer}
-use Rattle.office_history.specs.Histories.{History, with_changes}
-use Rattle.office_history.specs.Answers.{answer, change}
-use Rattle.office_history.specs.Runs.{IsLegal, IsFailure, Item, Run}
-use Rattle.office_history.proofs.Accepted.{grown_by_none}
-use Rattle.office_engine.specs.Keeping.{AllStayShut, CommitsRun, HasRows, IsKeptBy, IsLeftOf, IsLeftOfEither, IsLeftOfRun, IsTurn, InTurn, LeavesRun, Runs, RunsRows, after_item}
-use Rattle.office_engine.proofs.FoundAfter.{changes_or, failure_or, found_more}
+use Rattle.std.proofs.Common.{◌≡◌, ◌⊎◌, inl, inr, ◌≤◌, ◌<◌, refl, ℕ, suc, ◌+◌, List, [], ◌∷◌, ◌++◌, take, length, get_or, Some, Result, Ok, Err, OnErr, Bool, true, false, IsTrue, true≢false, subst, sym, ap, ◌∙◌, arith}
+use Rattle.office_engine.proofs.Common.{cases_Bool, take_more, take_all, All-nil, All-cons, same_Some, Trees, Ghosts, State, HasCleanDisk, Survives, Held, state, Answer, History, with_changes, change, Item, Run, grown_by_none, visit_on, Rows, RowsMake, RowsRun, AllStayShut, IsFoundBy, IsLeftOf, IsTurn, InTurn, LeavesRun, LeavesRunRows, Runs, RunsRows, after_item, is_accepted}
+use Rattle.office_history.specs.Runs.{IsFailure}
+use Rattle.office_engine.proofs.Ends.{Account, Keeps, IsSettled, Leaves, MakesHistory, MakesRows, all_rows, histories, left_settled}
+use Rattle.office_engine.proofs.FoundAfter.{changes_or, failure_or}
+use Rattle.office_engine.proofs.RowsAccepted.{rows_stay}
+
+-- a change of an item that failed
+abbrev pub AddsToHistory : History → Item → History → Type 0
+AddsToHistory h item found = found ≡ after_item item h
+
+abbrev pub AddsToRows : Rows → Item → Rows → Type 0
+AddsToRows r item found = (given : Answer) × RowsMake r item given found
 
 module _ {S : Type 0} (g : Ghosts S) where
   -- ---- the store between two items
@@ -34,140 +32,195 @@ module _ {S : Type 0} (g : Ghosts S) where
   pub turns_end : (old new : Held S) (items : List Item) (index : ℕ) (told : List Answer) → length items ≤ index → InTurn g old new (take index items) told → InTurn g old new items told
   turns_end old new items index told high turns = subst (λ (xs : List Item). InTurn g old new xs told) (take_all index items high) turns
 
-  -- ---- what requests in turn are
-
-  -- they are a run
-  pub turns_run : (old new : Held S) (items : List Item) (told : List Answer) → InTurn g old new items told → Runs (state g old) (state g new) items told
-  turns_run old new [] [] turns h legal keeps = (h, refl, record { legal = legal; kept = subst (λ (s : Held S). IsKeptBy h (state g s)) (sym turns) keeps })
-  turns_run old new [] (a ∷ told) turns h legal keeps = absurd turns
-  turns_run old new (i ∷ items) [] turns h legal keeps = absurd turns
-  turns_run old new (i ∷ items) (a ∷ told) turns h legal keeps =
-      let one = turns.1.served h legal keeps in
-      let more = turns_run turns.0 new items told turns.2 one.0 one.2.legal one.2.kept in
-      (more.0, (one.0, one.1, more.1), more.2)
-
-  -- the same of whatever rows an office has
-  pub turns_rows : (old new : Held S) (items : List Item) (told : List Answer) → InTurn g old new items told → RunsRows (state g old) (state g new) items told
-  turns_rows old new [] [] turns r has = (r, refl, subst (λ (s : Held S). HasRows r (state g s)) (sym turns) has)
-  turns_rows old new [] (a ∷ told) turns r has = absurd turns
-  turns_rows old new (i ∷ items) [] turns r has = absurd turns
-  turns_rows old new (i ∷ items) (a ∷ told) turns r has =
-      let one = turns.1.served_rows r has in
-      let more = turns_rows turns.0 new items told turns.2 one.0 one.2 in
-      (more.0, (one.0, one.1, more.1), more.2)
+  -- what is so of no requests, and of one before those of which it is so
+  turns_fold : (new : Held S) (P : Held S → List Item → List Answer → Type 0) → P new [] []
+      → ((old mid : Held S) (item : Item) (given : Answer) (items : List Item) (told : List Answer) → IsTurn (state g old) (state g mid) item given → InTurn g mid new items told → P mid items told → P old (item ∷ items) (given ∷ told))
+      → (old : Held S) (items : List Item) (told : List Answer) → InTurn g old new items told → P old items told
+  turns_fold new P none one old [] [] turns = subst (λ (s : Held S). P s [] []) turns none
+  turns_fold new P none one old [] (given ∷ told) turns = absurd turns
+  turns_fold new P none one old (item ∷ items) [] turns = absurd turns
+  turns_fold new P none one old (item ∷ items) (given ∷ told) turns = one old turns.0 item given items told turns.1 turns.2 (turns_fold new P none one turns.0 items told turns.2)
 
   -- over a store that a fault has shut, each is a failure
   pub turns_shut : (old new : Held S) (items : List Item) (told : List Answer) → InTurn g old new items told → AllStayShut (state g old) (state g new) told
-  turns_shut old new [] [] turns shut = (All-nil IsFailure, subst (λ (h : Held S). (state g h).is_open ≡ false) (sym turns) shut)
-  turns_shut old new [] (a ∷ told) turns shut = absurd turns
-  turns_shut old new (i ∷ items) [] turns shut = absurd turns
-  turns_shut old new (i ∷ items) (a ∷ told) turns shut =
-      let one = turns.1.shut shut in
-      let more = turns_shut turns.0 new items told turns.2 one.1 in
-      (All-cons IsFailure a told one.0 more.0, more.1)
-
-  -- and the history stays
-  shut_run : (old new : Held S) (items : List Item) (told : List Answer) → InTurn g old new items told → (state g old).is_open ≡ false → (h : History) → Run h items told h
-  shut_run old new [] [] turns shut h = refl
-  shut_run old new [] (a ∷ told) turns shut h = absurd turns
-  shut_run old new (i ∷ items) [] turns shut h = absurd turns
-  shut_run old new (i ∷ items) (a ∷ told) turns shut h =
-      let one = turns.1.shut shut in
-      (h, inl (one.0, refl), shut_run turns.0 new items told turns.2 one.1 h)
+  turns_shut old new = turns_fold new (λ s items told. AllStayShut (state g s) (state g new) told) (λ shut. (All-nil IsFailure, shut))
+      (λ old mid item given items told turn turns more shut. let one = turn.shut shut in let rest = more one.1 in (All-cons IsFailure given told one.0 rest.0, rest.1)) old
 
   -- ---- what a crash may leave
 
   -- a disk that is honest after requests was so before them
   turns_clean : (old new : Held S) (items : List Item) (told : List Answer) → InTurn g old new items told → HasCleanDisk (state g new) → HasCleanDisk (state g old)
-  turns_clean old new [] [] turns clean = subst (λ (s : Held S). HasCleanDisk (state g s)) turns clean
-  turns_clean old new [] (a ∷ told) turns clean = absurd turns
-  turns_clean old new (i ∷ items) [] turns clean = absurd turns
-  turns_clean old new (i ∷ items) (a ∷ told) turns clean =
-      let later : HasCleanDisk (state g turns.0) = turns_clean turns.0 new items told turns.2 clean in
-      omega (arith, later, turns.1.survives.clean)
+  turns_clean old new = turns_fold new (λ s items told. HasCleanDisk (state g new) → HasCleanDisk (state g s)) (λ clean. clean)
+      (λ old mid item given items told turn turns more clean. let later : HasCleanDisk (state g mid) = more clean in let now : HasCleanDisk (state g old) = omega (arith, later, turn.survives.clean) in now) old
 
   -- over a store that a fault has shut, nothing more
   shut_leaves : (old new : Held S) (items : List Item) (told : List Answer) → InTurn g old new items told → HasCleanDisk (state g new) → (state g old).is_open ≡ false
       → (left : Trees) → (state g new).may_leave left → (state g old).may_leave left
-  shut_leaves old new [] [] turns clean shut left may = subst (λ (s : Held S). (state g s).may_leave left) turns may
-  shut_leaves old new [] (a ∷ told) turns clean shut left may = absurd turns
-  shut_leaves old new (i ∷ items) [] turns clean shut left may = absurd turns
-  shut_leaves old new (i ∷ items) (a ∷ told) turns clean shut left may =
-      let later = shut_leaves turns.0 new items told turns.2 clean (turns.1.shut shut).1 left may in
-      elim (turns.1.survives.crash (turns_clean turns.0 new items told turns.2 clean) left later) [
+  shut_leaves old new = turns_fold new (λ s items told. HasCleanDisk (state g new) → (state g s).is_open ≡ false → (left : Trees) → (state g new).may_leave left → (state g s).may_leave left) (λ clean shut left may. may)
+      (λ old mid item given items told turn turns more clean shut left may.
+      elim (turn.survives.crash (turns_clean mid new items told turns clean) left (more clean (turn.shut shut).1 left may)) [
         | inl was ↦ was
         | inr made ↦ absurd (true≢false (sym made.0 ∙ shut))
+      ]) old
+
+  -- ---- in an account of what the office has
+
+  open_or : (is_open : Bool) → IsTrue is_open ⊎ (is_open ≡ false)
+  open_or true = inl refl
+  open_or false = inr refl
+
+  module _ {X : Type 0} (a : Account X) (Makes : Item → X → Answer → X → Type 0) (Adds : X → Item → X → Type 0) (Ran : X → List Item → List Answer → X → Type 0) where
+    abbrev Steps : Item → X → Answer → X → Type 0
+    Steps item x given y = (IsFailure given × (y ≡ x)) ⊎ Makes item x given y
+
+    -- what a request does to it
+    abbrev Moves : Type 0
+    Moves =
+        (old new : Held S) (item : Item) (given : Answer) → IsTurn (state g old) (state g new) item given → (x : X) → a.Legal x → Keeps (a.Is x) (state g old)
+        → (y : X) × Steps item x given y × a.Legal y × Keeps (a.Is y) (state g new)
+
+    -- and what a crash leaves of it
+    abbrev Crashes : Type 0
+    Crashes =
+        (old new : Held S) (item : Item) (given : Answer) → IsTurn (state g old) (state g new) item given → (x : X) → a.Legal x → IsTrue (state g old).is_open → Keeps (a.Is x) (state g old)
+        → (left : Trees) → (state g new).may_leave left → (y : X) × (Steps item x given y ⊎ (IsFailure given × Adds x item y)) × Leaves (a.Is y) left
+
+    abbrev LeftOf : X → List Item → List Answer → Trees → Type 0
+    LeftOf x items told left = (found : X) × IsFoundBy Ran Adds x items told found × Leaves (a.Is found) left
+
+    module _ (ends : (x : X) → Ran x [] [] x) (goes : (x y z : X) (item : Item) (given : Answer) (items : List Item) (told : List Answer) → Steps item x given y → Ran y items told z → Ran x (item ∷ items) (given ∷ told) z) (moves : Moves) where
+      -- requests in turn are a run
+      pub turns_ran : (old new : Held S) (items : List Item) (told : List Answer) → InTurn g old new items told → (x : X) → a.Legal x → Keeps (a.Is x) (state g old) → (y : X) × Ran x items told y × a.Legal y × Keeps (a.Is y) (state g new)
+      turns_ran old new =
+          turns_fold new (λ s items told. (x : X) → a.Legal x → Keeps (a.Is x) (state g s) → (y : X) × Ran x items told y × a.Legal y × Keeps (a.Is y) (state g new)) (λ x legal keeps. (x, ends x, legal, keeps))
+          (λ old mid item given items told turn turns more x legal keeps.
+          let one = moves old mid item given turn x legal keeps in
+          let rest = more one.0 one.2 one.3 in
+          (rest.0, goes x one.0 rest.0 item given items told one.1 rest.1, rest.2, rest.3)) old
+
+      -- over a store that a fault has shut, it stays
+      shut_ran : (old new : Held S) (items : List Item) (told : List Answer) → InTurn g old new items told → (state g old).is_open ≡ false → (x : X) → Ran x items told x
+      shut_ran old new =
+          turns_fold new (λ s items told. (state g s).is_open ≡ false → (x : X) → Ran x items told x) (λ shut x. ends x)
+          (λ old mid item given items told turn turns more shut x. let one = turn.shut shut in goes x x x item given items told (inl (one.0, refl)) (more one.1 x)) old
+
+      module _ (crashes : Crashes) (settled : (s : Held S) → IsSettled (state g s)) where
+        -- with an item a fault shut the store
+        left_shut : (old mid new : Held S) (item : Item) (given : Answer) (items : List Item) (told : List Answer) → IsTurn (state g old) (state g mid) item given → InTurn g mid new items told → (state g mid).is_open ≡ false
+            → (x : X) → a.Legal x → IsTrue (state g old).is_open → Keeps (a.Is x) (state g old) → (left : Trees) → (state g mid).may_leave left → LeftOf x (item ∷ items) (given ∷ told) left
+        left_shut old mid new item given items told turn turns shut x legal is_open keeps left may =
+            let crash = crashes old mid item given turn x legal is_open keeps left may in
+            let stays = shut_ran mid new items told turns shut in
+            elim crash.1 [
+              | inl step ↦ (crash.0, record { told = crash.0; run = goes x crash.0 crash.0 item given items told step (stays crash.0); is_found = inl refl }, crash.2)
+              | inr failed ↦ (
+                crash.0,
+                record {
+                  told = x;
+                  run = goes x x x item given items told (inl (failed.0, refl)) (stays x);
+                  is_found = inr (record { count = 0; item = item; rest = items; is_item = refl; failed = All-cons IsFailure given told failed.0 (turns_shut mid new items told turns shut).0; added = failed.1 });
+                },
+                crash.2,
+              )
+            ]
+
+        -- an item before it
+        found_more : (x y found : X) (item : Item) (given : Answer) (items : List Item) (told : List Answer) → Steps item x given y → IsFoundBy Ran Adds y items told found → IsFoundBy Ran Adds x (item ∷ items) (given ∷ told) found
+        found_more x y found item given items told step after = record {
+          told = after.told;
+          run = goes x y after.told item given items told step after.run;
+          is_found = elim after.is_found [
+            | inl same ↦ inl same
+            | inr adds ↦ inr (record { count = suc adds.count; item = adds.item; rest = adds.rest; is_item = adds.is_item; failed = adds.failed; added = adds.added })
+          ];
+        }
+
+        pub turns_left : (old new : Held S) (items : List Item) (told : List Answer) → InTurn g old new items told → HasCleanDisk (state g new)
+            → (x : X) → a.Legal x → IsTrue (state g old).is_open → Keeps (a.Is x) (state g old) → (left : Trees) → (state g new).may_leave left → LeftOf x items told left
+        turns_left old new items told turns clean =
+            turns_fold new (λ s items told. (x : X) → a.Legal x → IsTrue (state g s).is_open → Keeps (a.Is x) (state g s) → (left : Trees) → (state g new).may_leave left → LeftOf x items told left)
+            (λ x legal is_open keeps left may. (x, record { told = x; run = ends x; is_found = inl refl }, left_settled (a.Is x) (state g new) (settled new) is_open keeps left may))
+            (λ old mid item given items told turn turns more x legal is_open keeps left may. elim (open_or (state g mid).is_open) [
+              | inl still ↦
+                  let one = moves old mid item given turn x legal keeps in
+                  let rest = more one.0 one.2 still one.3 left may in
+                  (rest.0, found_more x one.0 rest.0 item given items told one.1 rest.1, rest.2)
+              | inr shut ↦ left_shut old mid new item given items told turn turns shut x legal is_open keeps left (shut_leaves mid new items told turns clean shut left may)
+            ]) old items told turns
+
+  -- ---- histories, and rows
+
+  pub history_moves : Moves histories MakesHistory AddsToHistory Run
+  history_moves old new item given turn h legal keeps = let one = turn.served h legal keeps in (one.0, one.1, one.2.legal, one.2.kept)
+
+  pub history_crashes : Crashes histories MakesHistory AddsToHistory Run
+  history_crashes old new item given turn h legal is_open keeps left may =
+      let either = turn.leaves h legal is_open keeps left may in
+      let next = after_item item h in
+      elim (failure_or given) [
+        | inl fails ↦ elim either [ inl was ↦ (h, inl (inl (fails, refl)), was) | inr made ↦ (next, inr (fails, refl), made) ]
+        | inr answered ↦ elim (turn.served h legal keeps).1 [
+          | inl failed ↦ absurd (answered failed.0)
+          | inr told ↦ (
+            next,
+            inl (inr (told.0, refl)),
+            elim either [
+              | inr made ↦ made
+              | inl was ↦ elim (changes_or (change h item.0 item.1.now item.2)) [
+                | inl none ↦ subst (λ (k : History). IsLeftOf k left) (grown_by_none h ∙ sym (ap (with_changes h) none)) was
+                | inr some ↦ turn.durable h legal keeps answered some left may
+              ]
+            ],
+          )
+        ]
       ]
 
-  -- with an item a fault shut the store
-  module _ (old mid new : Held S) (item : Item) (given : Answer) (items : List Item) (told : List Answer) (turn : IsTurn (state g old) (state g mid) item given) (turns : InTurn g mid new items told) (shut : (state g mid).is_open ≡ false)
-      (h : History) (legal : IsLegal h) (keeps : IsKeptBy h (state g old)) (left : Trees) where
-    left_failed : IsFailure given → IsLeftOfEither h (after_item item h) left → IsLeftOfRun h (item ∷ items) (given ∷ told) left
-    left_failed fails (inl was) = (h, record { told = h; run = (h, inl (fails, refl), shut_run mid new items told turns shut h); is_found = inl refl }, was)
-    left_failed fails (inr made) = (
-      after_item item h,
-      record {
-        told = h;
-        run = (h, inl (fails, refl), shut_run mid new items told turns shut h);
-        is_found = inr (record { count = 0; item = item; rest = items; is_item = refl; failed = All-cons IsFailure given told fails (turns_shut mid new items told turns shut).0; added = refl });
-      },
-      made,
-    )
+  pub rows_move : Moves all_rows MakesRows AddsToRows RowsRun
+  rows_move old new item given turn r legal has = let one = turn.served_rows r has in (one.0, one.1, tt, one.2)
 
-    left_told : given ≡ answer h item.0 item.1.now item.2 → IsLeftOf (after_item item h) left → IsLeftOfRun h (item ∷ items) (given ∷ told) left
-    left_told is made = (
-      after_item item h,
-      record { told = after_item item h; run = (after_item item h, inr (is, refl), shut_run mid new items told turns shut (after_item item h)); is_found = inl refl },
-      made,
-    )
-
-    left_answered : (IsFailure given → ⊥) → given ≡ answer h item.0 item.1.now item.2 → (state g mid).may_leave left → IsLeftOfEither h (after_item item h) left → IsLeftOfRun h (item ∷ items) (given ∷ told) left
-    left_answered answered is may (inr made) = left_told is made
-    left_answered answered is may (inl was) = elim (changes_or (change h item.0 item.1.now item.2)) [
-      | inl none ↦ left_told is (subst (λ (x : History). IsLeftOf x left) (grown_by_none h ∙ sym (ap (with_changes h) none)) was)
-      | inr some ↦ left_told is (turn.durable h legal keeps answered some left may)
-    ]
-
-    left_shut : IsTrue (state g old).is_open → (state g mid).may_leave left → IsLeftOfRun h (item ∷ items) (given ∷ told) left
-    left_shut is_open may =
-        let either = turn.leaves h legal is_open keeps left may in
-        elim (failure_or given) [
-          | inl fails ↦ left_failed fails either
-          | inr answered ↦ elim (turn.served h legal keeps).1 [
-            | inl failed ↦ absurd (answered failed.0)
-            | inr told ↦ left_answered answered told.0 may either
+  pub rows_crash : Crashes all_rows MakesRows AddsToRows RowsRun
+  rows_crash old new item given turn r legal is_open has left may =
+      let either = turn.leaves_rows r is_open has left may in
+      let visit = visit_on item.0 item.1.now in
+      elim (failure_or given) [
+        | inl fails ↦ elim either [ inl was ↦ (r, inl (inl (fails, refl)), was) | inr made ↦ (made.1, inr (fails, (made.0, made.2)), made.3) ]
+        | inr answered ↦ elim (turn.served_rows r has).1 [
+          | inl failed ↦ absurd (answered failed.0)
+          | inr makes ↦ elim either [
+            | inl was ↦ elim (cases_Bool (is_accepted given)) [
+              | inl accepted ↦ let made = turn.durable_rows r has accepted in (made.0, inl (inr made.1), made.2 left may)
+              | inr none ↦ (r, inl (inr (makes ∙ ap (λ (rows : Rows). Some (given, rows)) (rows_stay given none r (turn.served_rows r has).0 visit item.2 makes))), was)
+            ]
+            | inr made ↦ (made.1, inl (inr (makes ∙ ap (λ (p : Answer × Rows). Some (given, p.1)) (same_Some _ _ (sym makes ∙ made.2)))), made.3)
           ]
         ]
+      ]
 
-  -- an open store leaves what it has committed
-  module _ (settled : (s : Held S) (db : Trees) → IsTrue (state g s).is_open → (state g s).may_leave db → db ≡ (state g s).committed.trees) where
-    pub left_kept : (s : Held S) (h : History) → IsTrue (state g s).is_open → IsKeptBy h (state g s) → (left : Trees) → (state g s).may_leave left → IsLeftOf h left
-    left_kept s h is_open keeps left may = ((state g s).now, (keeps is_open).0, settled s left is_open may ∙ ap (λ (d : Database). d.trees) (keeps is_open).1)
+  -- ---- what requests in turn are
 
-    open_or : (is_open : Bool) → IsTrue is_open ⊎ (is_open ≡ false)
-    open_or true = inl refl
-    open_or false = inr refl
+  module _ (old new : Held S) (items : List Item) (told : List Answer) (turns : InTurn g old new items told) where
+    pub ran : Runs (state g old) (state g new) items told
+    ran h legal keeps =
+        let last = turns_ran histories MakesHistory AddsToHistory Run (λ x. refl) (λ x y z item given items told step run. (y, step, run)) history_moves old new items told turns h legal keeps in
+        (last.0, last.1, record { legal = last.2; kept = last.3 })
 
-    pub turns_left : (old new : Held S) (items : List Item) (told : List Answer) → InTurn g old new items told → HasCleanDisk (state g new) → LeavesRun (state g old) (state g new) items told
-    turns_left old new [] [] turns clean h legal is_open keeps left may =
-        (h, record { told = h; run = refl; is_found = inl refl }, left_kept old h is_open keeps left (subst (λ (s : Held S). (state g s).may_leave left) turns may))
-    turns_left old new [] (a ∷ told) turns clean h legal is_open keeps left may = absurd turns
-    turns_left old new (i ∷ items) [] turns clean h legal is_open keeps left may = absurd turns
-    turns_left old new (i ∷ items) (a ∷ told) turns clean h legal is_open keeps left may = elim (open_or (state g turns.0).is_open) [
-      | inl still ↦
-          let one = turns.1.served h legal keeps in
-          let more = turns_left turns.0 new items told turns.2 clean one.0 one.2.legal still one.2.kept left may in
-          (more.0, found_more h one.0 more.0 i a items told one.1 more.1, more.2)
-      | inr shut ↦ left_shut old turns.0 new i a items told turns.1 turns.2 shut h legal keeps left is_open (shut_leaves turns.0 new items told turns.2 clean shut left may)
-    ]
+    pub ran_rows : RunsRows (state g old) (state g new) items told
+    ran_rows r has = let last = turns_ran all_rows MakesRows AddsToRows RowsRun (λ x. refl) (λ x y z item given items told step run. (y, step, run)) rows_move old new items told turns r tt has in (last.0, last.1, last.3)
 
-    -- whichever was open
-    pub turns_survive : (old new : Held S) (items : List Item) (told : List Answer) → InTurn g old new items told → HasCleanDisk (state g new)
-        → (left : Trees) → (state g new).may_leave left → (state g old).may_leave left ⊎ CommitsRun (state g old) items told left
-    turns_survive old new items told turns clean left may = elim (open_or (state g old).is_open) [
-      | inl is_open ↦ inr (is_open, λ h legal keeps. turns_left old new items told turns clean h legal is_open keeps left may)
-      | inr shut ↦ inl (shut_leaves old new items told turns clean shut left may)
-    ]
+    module _ (settled : (s : Held S) → IsSettled (state g s)) (clean : HasCleanDisk (state g new)) where
+      pub left_run : LeavesRun (state g old) (state g new) items told
+      left_run = turns_left histories MakesHistory AddsToHistory Run (λ x. refl) (λ x y z item given items told step run. (y, step, run)) history_moves history_crashes settled old new items told turns clean
+
+      pub left_rows : LeavesRunRows (state g old) (state g new) items told
+      left_rows r is_open has = turns_left all_rows MakesRows AddsToRows RowsRun (λ x. refl) (λ x y z item given items told step run. (y, step, run)) rows_move rows_crash settled old new items told turns clean r tt is_open has
+
+      -- whichever was open
+      pub survived : (P : Trees → Type 0) → (IsTrue (state g old).is_open → (left : Trees) → (state g new).may_leave left → P left) → (left : Trees) → (state g new).may_leave left
+          → (state g old).may_leave left ⊎ (IsTrue (state g old).is_open × P left)
+      survived P leaves left may = elim (open_or (state g old).is_open) [
+        | inl is_open ↦ inr (is_open, leaves is_open left may)
+        | inr shut ↦ inl (shut_leaves old new items told turns clean shut left may)
+      ]
 
 pub on_err : {T E P : Type 0} (r : Result T E) → P → OnErr r P
 on_err (Ok x) p = tt

@@ -1,12 +1,7 @@
 -- Lists without repetitions that have the same elements differ in their order alone.
 use Rattle.std.proofs.Common.{◌≡◌, ℕ, List, [], ◌∷◌, filter, not, bytes_eq, Bool, true, false, refl, sym, ap, subst, ◌∙◌, inl, inr}
-use Rattle.std.specs.List.{AllByRecursion, IsDistinct}
-use Rattle.std.specs.List.Sorted.{IsPermutation}
-use Rattle.std.proofs.lemmas.Bool.{cases_Bool}
-use Rattle.std.proofs.lemmas.Slice.Eq.{bytes_eq-Decides}
-use Rattle.std.proofs.lemmas.List.Sorted.{IsPermutation-refl, IsPermutation-sym, IsPermutation-trans, IsPermutation-cons, IsPermutation-middle}
-use Rattle.sqlite_rules.specs.Lists.{Has}
-use Rattle.sqlite_rules.proofs.ListLemmas.{all_has, has_filtered, has_kept}
+use Rattle.office_engine.proofs.Common.{AllByRecursion, IsPermutation, cases_Bool, bytes_eq-Decides, IsPermutation-refl, IsPermutation-sym, IsPermutation-trans, IsPermutation-cons, IsPermutation-middle, Has, all_has, has_filtered, has_kept}
+use Rattle.std.specs.List.{IsDistinct}
 use Rattle.sqlite_catalog.proofs.ListFacts.{filter_all}
 
 abbrev Texts : Type 0

@@ -1,32 +1,15 @@
 -- What is made and told of the rows is made and told of the legal history that they picture.
 use Rattle.std.proofs.Common.{◌≡◌, Bool, true, false, Option, Some, None, refl, sym, ap, subst, ◌∙◌}
-use Rattle.std.specs.Prelude.{Result, OnOk}
-use Rattle.std.proofs.lemmas.Option.{same_Some}
-use Rattle.std.proofs.lemmas.Result.{IfOk-weaker, on_ok_weaker}
-use Rattle.sqlite.specs.Effect.{Database}
-use Rattle.sqlite.specs.Store.{Ghosts}
-use Rattle.sqlite.specs.State.{HasCleanDisk}
-use Rattle.sqlite.specs.Held.{Held, state}
-use Rattle.office_core.specs.FirstOf.{◌>>=◌, answer_if}
-use Rattle.office_core.specs.Policies.{PolicyValue}
-use Rattle.office_core.specs.declared.answer.Answer.{Answer}
-use Rattle.office_core.specs.declared.request.Request.{Request}
-use Rattle.office_rows.specs.Rows.{Tables, this_version}
+use Rattle.std.specs.Prelude.{Result, Ok, Err, IfOk, OnOk}
+use Rattle.office_engine.proofs.Common.{same_Some, IfOk-weaker, Ghosts, Held, state, ◌>>=◌, answer_if, Answer, Request, Tables, this_version, TableFault, after, answer, History, picture, IsItem, IsLegal, Item, Visit, installed, serve, visit_on, Rows, rows_of, serves_intact, Pictures, Changes, Serves, rows_after, serve_rows, rows_installed, Finds, after_item, after_policy}
+use Rattle.office_core.specs.Policies.{IsPolicy, PolicyValue}
 use Rattle.office_tables.specs.Calls.{Shows}
-use Rattle.office_tables.specs.declared.fault.TableFault.{TableFault}
-use Rattle.office_history.specs.Answers.{after, answer}
-use Rattle.office_history.specs.Histories.{History}
-use Rattle.office_history.specs.Pictures.{picture}
-use Rattle.office_history.specs.Runs.{IsLegal, Item}
-use Rattle.office_by_rows.specs.Asking.{Visit}
-use Rattle.office_by_rows.specs.Changes.{installed}
-use Rattle.office_by_rows.specs.Serving.{serve}
-use Rattle.office_asking.specs.Asking.{visit_on}
-use Rattle.office_asking.specs.Contents.{IsOfficeWith, Rows, rows_of, serves_intact}
-use Rattle.office_asking.specs.Pictures.{Pictures}
-use Rattle.office_asking.specs.Serving.{Changes, IsServedBy, Serves, rows_after, serve_rows}
-use Rattle.office_engine.specs.Deciding.{Decides, Finds}
-use Rattle.office_engine.specs.Keeping.{after_policy}
+use Rattle.office_history.specs.Runs as runs
+use Rattle.office_engine.proofs.Ends.{MakesHistory, MakesInside, MakesRows, all_rows, histories}
+
+ok_weaker : {T E P : Type 0} {Q : T → Type 0} (result : Result T E) → ((x : T) → P → Q x) → OnOk result P → IfOk result Q
+ok_weaker (Ok x) told is = told x is
+ok_weaker (Err e) told is = tt
 
 -- ---- a request
 
@@ -60,25 +43,28 @@ module _ (r : Rows) (visit : Visit) (request : Request) (given : Answer) (next :
       by None e = absurd cc
       by (Some served) e = told served.0 served.1 (serves_intact r request served.0) refl e
 
-pub served_decides : {S : Type 0} (g : Ghosts S) (old new : Held S) (result : Result Answer TableFault) → AreExact → (item : Item) → Serves g old new result (visit_on item.0 item.1.now) item.2 → Decides g old new result item
-served_decides g old new result exact item serves clean h legal pictured =
-    let visit : Visit = visit_on item.0 item.1.now in
-    IfOk-weaker result _ _ (λ given is.
-    let told = (served_parts (rows_of (state g old).now) visit item.2 given is.rows is.is).0 in
-    let same = same_Some _ _ (sym told ∙ ap (λ t. serve t visit item.2) pictured.are ∙ exact h visit item.2 legal) in
-    record {
-      answer = ap (λ (p : Answer × Tables). p.0) same;
-      after = record {
-        office = is.leaves.office;
-        are = ap (λ (r : Rows). r.tables) is.leaves.are ∙ ap (λ (p : Answer × Tables). p.1) same;
-        once = is.once pictured.once;
-      };
-    })
-    (serves clean pictured.office)
+module _ {S : Type 0} (g : Ghosts S) (first last : Held S) (result : Result Answer TableFault) (item : Item) (serves : Serves g (record first { in_transaction = true }) last result (visit_on item.0 item.1.now) item.2) where
+  abbrev visit : Visit
+  visit = visit_on item.0 item.1.now
 
--- by whichever rows it had
-pub serves_rows : {old new : Database} (r : Rows) (visit : Visit) (request : Request) (given : Answer) → IsOfficeWith r old → (served : IsServedBy visit request old new given) → serve_rows r visit request ≡ Some (given, served.rows)
-serves_rows r visit request given had served = ap (λ r. serve_rows r visit request) (sym had.are) ∙ served.is
+  pub served_history : AreExact → IsItem item → MakesInside histories (MakesHistory item) g first last result
+  served_history exact ranged clean h legal pictured =
+      IfOk-weaker result _ _ (λ given is.
+      let told = (served_parts (rows_of (state g first).now) visit item.2 given is.rows is.is).0 in
+      let same = same_Some _ _ (sym told ∙ ap (λ t. serve t visit item.2) pictured.are ∙ exact h visit item.2 legal) in (
+        after_item item h,
+        (ap (λ (p : Answer × Tables). p.0) same, refl),
+        runs.serve h item.0 item.1.now item.2 ranged.0 ranged.1 legal,
+        record {
+          office = is.leaves.office;
+          are = ap (λ (r : Rows). r.tables) is.leaves.are ∙ ap (λ (p : Answer × Tables). p.1) same;
+          once = is.once pictured.once;
+        },
+      ))
+      (serves clean pictured.office)
+
+  pub served_rows : MakesInside all_rows (MakesRows item) g first last result
+  served_rows clean r legal had = IfOk-weaker result _ _ (λ given is. (is.rows, ap (λ r. serve_rows r visit item.2) (sym had.are) ∙ is.is, tt, is.leaves)) (serves clean had.office)
 
 -- ---- an install
 
@@ -86,14 +72,30 @@ serves_rows r visit request given had served = ap (λ r. serve_rows r visit requ
 abbrev pub InstallsAreExact : Type 0
 InstallsAreExact = (h : History) (policy : PolicyValue) → installed policy (picture this_version h) ≡ picture this_version (after_policy policy h)
 
-pub changed_installs : {S T : Type 0} (g : Ghosts S) (first last : Held S) (result : Result T TableFault) → InstallsAreExact → (policy : PolicyValue) → Changes g (record first { in_transaction = true }) last result (λ t. Some (installed policy t))
-    → HasCleanDisk (state g last) → (h : History) → Pictures h (state g first).now → OnOk result (Pictures (after_policy policy h) (state g last).now)
-changed_installs g first last result exact policy changes clean h pictured =
-    on_ok_weaker result (λ is. record {
-      office = is.becomes.office;
-      are = is.becomes.are ∙ sym (same_Some _ _ is.is) ∙ ap (installed policy) pictured.are ∙ exact h policy;
-      once = is.once pictured.once;
-    }) (changes clean pictured.office)
+-- what it makes of a history, and of rows
+abbrev pub InstallsHistory : {T : Type 0} → PolicyValue → History → T → History → Type 0
+InstallsHistory policy h given next = next ≡ after_policy policy h
+
+abbrev pub InstallsIn : {T : Type 0} → PolicyValue → Rows → T → Rows → Type 0
+InstallsIn policy r given next = next ≡ rows_installed policy r
+
+module _ {S T : Type 0} (g : Ghosts S) (first last : Held S) (result : Result T TableFault) (policy : PolicyValue) (changes : Changes g (record first { in_transaction = true }) last result (λ t. Some (installed policy t))) where
+  pub installed_history : InstallsAreExact → IsPolicy policy → MakesInside histories (InstallsHistory policy) g first last result
+  installed_history exact sound clean h legal pictured =
+      ok_weaker result (λ given is. (
+        after_policy policy h,
+        refl,
+        runs.install h policy sound legal,
+        record { office = is.becomes.office; are = is.becomes.are ∙ sym (same_Some _ _ is.is) ∙ ap (installed policy) pictured.are ∙ exact h policy; once = is.once pictured.once },
+      )) (changes clean pictured.office)
+
+  pub installed_in : MakesInside all_rows (InstallsIn policy) g first last result
+  installed_in clean r legal had =
+      ok_weaker result (λ given is.
+      let tables = is.becomes.are ∙ sym (same_Some _ _ is.is) ∙ ap (λ (r : Rows). installed policy r.tables) had.are in
+      let contents = is.contents ∙ ap (λ (r : Rows). r.contents) had.are in
+      (rows_installed policy r, refl, tt, record { office = is.becomes.office; are = λ i. record { tables = tables i; contents = contents i } }))
+      (changes clean had.office)
 
 -- ---- what is read
 

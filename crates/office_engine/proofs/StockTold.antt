@@ -1,27 +1,12 @@
 -- The contents that are held, and how many they are with how many bytes, by the contents of the files.
-use Rattle.std.proofs.Common.{◌≡◌, nat_le, ℕ, ℤ, pos, ◌+◌, List, [], ◌∷◌, ◌++◌, map, length, bytes_eq, sum, Some, refl, sym, ap, ap₂, subst, ◌∙◌, inl, inr}
-use Rattle.std.specs.List.{IsDistinct, flat_map}
-use Rattle.std.proofs.lemmas.List.{map-append, length-map}
+use Rattle.std.proofs.Common.{◌≡◌, nat_le, ℕ, ℤ, pos, List, [], ◌∷◌, ◌++◌, map, length, bytes_eq, sum, Some, refl, sym, ap, ap₂, subst, ◌∙◌, inl, inr}
+use Rattle.office_engine.proofs.Common.{IsDistinct, flat_map, map-append, length-map, FileRow, ContentRow, Tables, Database, File, tables_of, contents_of, AreContents, History, kept_numbers, file_row, contents, Stock, stock, answer_if, same_Some, Pictures, map-map, IsPermutation, length_permutation, sum_by-IsPermutation, Has}
 use Rattle.office_rows.proofs.Order.{map_back}
-use Rattle.office_rows.specs.Rows.{FileRow, ContentRow, Tables}
-use Rattle.sqlite.specs.Effect.{Database}
-use Rattle.bag_text.specs.TransferForm.{File}
-use Rattle.office_tables.specs.Tables.{tables_of, contents_of}
-use Rattle.office_tables.specs.Contents.{AreContents}
-use Rattle.office_history.specs.Histories.{History, kept_numbers}
-use Rattle.office_history.specs.Pictures.{file_row}
-use Rattle.office_history.specs.Stocks.{files_of, contents, Stock, stock}
-use Rattle.office_core.specs.FirstOf.{◌>>=◌, answer_if}
+use Rattle.office_history.specs.Stocks.{files_of}
 use Rattle.office_core.proofs.OptionLemmas.{some_and_then, some_if}
 use Rattle.office_by_rows.specs.Stock.{max_total, stock_by, stock_in, total_by}
 use Rattle.office_by_rows.specs.Values.{all_told, count_of}
-use Rattle.std.proofs.lemmas.Option.{same_Some}
-use Rattle.office_asking.specs.Pictures.{Pictures}
-use Rattle.sqlite_keyed.proofs.ListLemmas.{map-map}
-use Rattle.std.specs.List.Sorted.{IsPermutation}
 use Rattle.std.proofs.lemmas.List.Sums.{sum-map}
-use Rattle.std.proofs.lemmas.List.Sorted.{length_permutation, sum_by-IsPermutation}
-use Rattle.sqlite_rules.specs.Lists.{Has}
 use Rattle.bag_text.proofs.ElementLemmas as texts
 use Rattle.office_history.specs.Lists.{in_first_places}
 use Rattle.office_history.proofs.MemberLemmas.{first_places_once, first_places_have, has_in_places}

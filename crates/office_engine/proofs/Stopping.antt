@@ -1,15 +1,8 @@
 -- What is found again after a stop.
 use Rattle.std.proofs.Common.{◌≡◌, ◌⊎◌, inl, inr, List, Option, Some, IfSome, Result, Ok, Err, OnErr, sym, subst}
 use Rattle.std.proofs.Math.Logic.{∥∥₁_map}
-use Rattle.sqlite.specs.Tree.{Trees}
+use Rattle.office_engine.proofs.Common.{Trees, HoldsDatabase, State, Answer, History, Item, HoldsWhere, PicksUp, IsKeptBy, IsKeptOfRun, IsLeftOf, IsLeftOfEither, IsLeftOfRun}
 use Rattle.sqlite.specs.Recovery.{Image}
-use Rattle.sqlite.specs.Files.{HoldsDatabase}
-use Rattle.sqlite.specs.State.{State}
-use Rattle.office_core.specs.declared.answer.Answer.{Answer}
-use Rattle.office_history.specs.Histories.{History}
-use Rattle.office_history.specs.Runs.{Item}
-use Rattle.office_tables.specs.Found.{HoldsWhere, PicksUp}
-use Rattle.office_engine.specs.Keeping.{IsKeptBy, IsKeptOfRun, IsLeftOf, IsLeftOfEither, IsLeftOfRun}
 use Rattle.office_engine.proofs.Kept.{shown_kept}
 
 -- what files hold of a history is picked up as that history

@@ -1,30 +1,14 @@
 -- Histories through an upgrade, from what is said of rows.
 use Rattle.std.proofs.Common.{◌≡◌, ℤ, List, [], ◌∷◌, find, option_map, None, Some, refl, sym, ap, subst, subst₂, ◌∙◌, IsTrue, inl, inr}
-use Rattle.std.proofs.lemmas.Bool.{cases_Bool}
-use Rattle.sqlite.specs.Tree.{Trees}
-use Rattle.sqlite.specs.Effect.{Database}
-use Rattle.sqlite.specs.Store.{Ghosts}
-use Rattle.sqlite.specs.State.{State, Survives}
-use Rattle.sqlite.specs.Held.{Held, state}
-use Rattle.sqlite.proofs.StateLemmas.{survives_weaker}
-use Rattle.office_rows.specs.Rows.{OfficeRow, is_known, this_version}
-use Rattle.office_tables.specs.Tables.{contents_of}
-use Rattle.office_tables.specs.Contents.{references_of, AreKeptOnce}
+use Rattle.office_engine.proofs.Common.{cases_Bool, Trees, Database, Ghosts, State, Survives, Held, state, survives_weaker, OfficeRow, is_known, this_version, contents_of, references_of, AreKeptOnce, TableFault, History, office_row, picture, IsLegal, limits_hold, Pictures, PicturesAt, IsKeptAt, IsKeptBy, IsLeftAt, IsLeftOf}
 use Rattle.office_tables.specs.Opening.{KeepsTables}
 use Rattle.office_tables.specs.Faults.{IsFailure}
-use Rattle.office_tables.specs.declared.fault.TableFault.{TableFault}
 use Rattle.office_tables.specs.Moving.{AllRows, BecomesAt, renewed}
 use Rattle.office_tables.specs.Versions.{version_number}
 use Rattle.office_tables.specs.declared.version.TableVersion.{TableVersion}
 use Rattle.office_tables.specs.declared.version.TableVersion.TheVariants.{Third, Fourth, Fifth}
 use Rattle.office_upgrade.specs.Upgrading as rows
 use Rattle.office_upgrade.proofs.Kept.{stays_once}
-use Rattle.office_history.specs.Histories.{History}
-use Rattle.office_history.specs.Pictures.{office_row, picture}
-use Rattle.office_history.specs.Runs.{IsLegal}
-use Rattle.office_history.proofs.RangeLemmas.{limits_hold}
-use Rattle.office_asking.specs.Pictures.{Pictures, PicturesAt}
-use Rattle.office_engine.specs.Keeping.{IsKeptAt, IsKeptBy, IsLeftAt, IsLeftOf}
 use Rattle.office_engine.specs.Upgrading.{Upgrades, UpgradeLasts, OpensOlder, TakesUp, StaysAt, GoesBackAt, LeavesAt, IsLeftOfUpgrade, IsUpgradeOf, StoppedInTurn}
 
 -- the rows by which a version pictures a history, with the contents of a database

@@ -1,9 +1,11 @@
 -- What requests do to the rows of an office, and to the contents that stand beside them, whichever they are.
 use Rattle.std.specs.Prelude.{◌≡◌, ◌⊎◌, List, [], ◌∷◌, Some}
+use Rattle.office_core.specs.Policies.{PolicyValue}
 use Rattle.office_core.specs.declared.answer.Answer.{Answer}
 use Rattle.office_core.specs.declared.request.Request.{Request}
 use Rattle.office_history.specs.Runs.{IsFailure, Item}
 use Rattle.office_by_rows.specs.Asking.{Visit}
+use Rattle.office_by_rows.specs.Changes.{installed}
 use Rattle.office_asking.specs.Asking.{visit_on}
 use Rattle.office_asking.specs.Contents.{Rows}
 use Rattle.office_asking.specs.Serving.{serve_rows}
@@ -25,3 +27,7 @@ abbrev pub RowsRun : Rows → List Item → List Answer → Rows → Type 0
 RowsRun r [] [] last = last ≡ r
 RowsRun r (item ∷ items) (given ∷ more) last = (next : Rows) × RowsStep r item given next × RowsRun next items more last
 RowsRun r _ _ last = ⊥
+
+-- the rows after an install: it changes no content
+abbrev pub rows_installed : PolicyValue → Rows → Rows
+rows_installed policy r = record r { tables = installed policy r.tables }

@@ -23,7 +23,7 @@ use Rattle.office_by_rows.specs.Stock.{stock_by}
 use Rattle.office_asking.specs.Asking.{visit_on}
 use Rattle.office_asking.specs.Pictures.{PicturesAt}
 use Rattle.office_asking.specs.Contents.{IsOfficeWith, Rows, rows_of}
-use Rattle.office_engine.specs.ByRows.{RowsMake, RowsRun, RowsStep, RowsTell}
+use Rattle.office_engine.specs.ByRows.{RowsMake, RowsRun, RowsStep, RowsTell, rows_installed}
 
 -- ---- a call
 
@@ -188,20 +188,24 @@ RunsRows old new items given = (r : Rows) → HasRows r old → (last : Rows) ×
 
 -- ---- what is left of a run
 
--- this is the history with the change of one item more, which was answered with a failure, as was each item after it
-pub record AddsFailed (told : History) (items : List Item) (given : List Answer) (found : History) : Type 0 where
+-- this has what one item more makes of what the answers told: an item that was answered with a failure, as was each after it
+pub record AddsFailed {X : Type 0} (Adds : X → Item → X → Type 0) (told : X) (items : List Item) (given : List Answer) (found : X) : Type 0 where
   pub count : ℕ
   pub item : Item
   pub rest : List Item
   pub is_item : drop count items ≡ item ∷ rest
   pub failed : All IsFailure (drop count given)
-  pub added : found ≡ after_item item told
+  pub added : Adds told item found
 
--- after a run that was answered so, a crash leaves this history: the one that the answers tell, or that one with the change of an item that failed
-pub record IsFoundAfter (h : History) (items : List Item) (given : List Answer) (found : History) : Type 0 where
-  pub told : History
-  pub run : Run h items given told
-  pub is_found : (found ≡ told) ⊎ AddsFailed told items given found
+-- after a run that was answered so, a crash leaves this: what the answers tell, or that with what an item that failed makes of it
+pub record IsFoundBy {X : Type 0} (Ran : X → List Item → List Answer → X → Type 0) (Adds : X → Item → X → Type 0) (first : X) (items : List Item) (given : List Answer) (found : X) : Type 0 where
+  pub told : X
+  pub run : Ran first items given told
+  pub is_found : (found ≡ told) ⊎ AddsFailed Adds told items given found
+
+-- of a history: the one that the answers tell, or that one with the change of an item that failed
+abbrev pub IsFoundAfter : History → List Item → List Answer → History → Type 0
+IsFoundAfter = IsFoundBy Run (λ told item found. found ≡ after_item item told)
 
 -- what a crash leaves of such a run
 abbrev pub IsLeftOfRun : History → List Item → List Answer → Trees → Type 0
@@ -220,6 +224,20 @@ abbrev pub LeavesRun : State → State → List Item → List Answer → Type 0
 LeavesRun old new items given =
     (h : History) → IsLegal h → IsTrue old.is_open → IsKeptBy h old → (left : Trees) → new.may_leave left → IsLeftOfRun h items given left
 
+-- of rows: those that the answers tell, or what an item that failed makes of them
+abbrev pub AreRowsAfter : Rows → List Item → List Answer → Rows → Type 0
+AreRowsAfter = IsFoundBy RowsRun (λ told item found. (given : Answer) × RowsMake told item given found)
+
+abbrev pub AreRowsLeft : Rows → List Item → List Answer → Trees → Type 0
+AreRowsLeft r items given left = (found : Rows) × AreRowsAfter r items given found × IsLeftWith found left
+
+-- the same of whichever rows an office had
+abbrev pub CommitsRunRows : State → List Item → List Answer → Trees → Type 0
+CommitsRunRows old items given left = IsTrue old.is_open × ((r : Rows) → HasRows r old → AreRowsLeft r items given left)
+
+abbrev pub LeavesRunRows : State → State → List Item → List Answer → Type 0
+LeavesRunRows old new items given = (r : Rows) → IsTrue old.is_open → HasRows r old → (left : Trees) → new.may_leave left → AreRowsLeft r items given left
+
 -- ---- an install
 
 abbrev pub after_policy : PolicyValue → History → History
@@ -232,6 +250,20 @@ Installs old new policy = (h : History) → IsLegal h → IsKeptBy h old → IsL
 -- and a crash leaves that, and nothing else
 abbrev pub InstallLasts : State → State → PolicyValue → Type 0
 InstallLasts old new policy = (h : History) → IsLegal h → IsKeptBy h old → (left : Trees) → new.may_leave left → IsLeftOf (after_policy policy h) left
+
+-- whichever rows an office had, it has these with the policy, or a crash leaves one of both; after an Ok, nothing else
+abbrev pub InstallsRows : State → State → PolicyValue → Type 0
+InstallsRows old new policy = (r : Rows) → HasRows r old → HasRows (rows_installed policy r) new
+
+abbrev pub CommitsInstalled : State → PolicyValue → Trees → Type 0
+CommitsInstalled old policy left = IsTrue old.is_open × ((r : Rows) → HasRows r old → IsLeftWith (rows_installed policy r) left)
+
+abbrev pub LeavesInstalledRows : State → State → PolicyValue → Type 0
+LeavesInstalledRows old new policy =
+    (r : Rows) → IsTrue old.is_open → HasRows r old → (left : Trees) → new.may_leave left → IsLeftWith r left ⊎ IsLeftWith (rows_installed policy r) left
+
+abbrev pub InstalledRowsLast : State → State → PolicyValue → Type 0
+InstalledRowsLast old new policy = (r : Rows) → HasRows r old → (left : Trees) → new.may_leave left → IsLeftWith (rows_installed policy r) left
 
 -- ---- the due list
 

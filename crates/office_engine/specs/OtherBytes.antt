@@ -1,5 +1,5 @@
--- Databases that differ in the bytes of contents alone, as where bytes rot on a disk, and what is told of them.
-use Rattle.std.specs.Prelude.{◌≡◌, ◌≢◌, ℕ, pos, List, [], map, Some}
+-- What is told of a database that differs in the bytes of contents alone, as where bytes rot on a disk.
+use Rattle.std.specs.Prelude.{◌≡◌, ℕ, pos, List, map, Some}
 use Rattle.std.specs.List.{AllByRecursion}
 use Rattle.sha2.specs.Sha256.{sha256}
 use Rattle.sqlite.specs.Effect.{Database}
@@ -8,20 +8,8 @@ use Rattle.jiff.specs.Types.{Date}
 use Rattle.office_rows.specs.Rows.{ContentRow}
 use Rattle.office_tables.specs.Contents as contents
 use Rattle.office_tables.specs.Contents.{references_of}
-use Rattle.office_tables.specs.Schema.{content_tree}
 use Rattle.office_tables.specs.Tables.{contents_of, tables_of}
 use Rattle.office_history.specs.Histories.{Deposit, History, deposit_numbered}
-
--- what is left of a content without its bytes: its number, its mark and its size
-abbrev pub without_bytes : ContentRow → ContentRow
-without_bytes c = record c { bytes = [] }
-
--- the contents are the same but for their bytes, and so is every other row
-pub record DiffersInBytes (old new : Database) : Type 0 where
-  pub contents : map without_bytes (contents_of new) ≡ map without_bytes (contents_of old)
-  pub others : (tree : ℕ) → tree ≢ content_tree → new.trees tree ≡ old.trees tree
-
--- ---- what is told
 
 -- a path, and the SHA-256 of the content there
 abbrev pub digested : File → List ℕ × List ℕ

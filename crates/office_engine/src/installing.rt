@@ -4,7 +4,7 @@ ghost use Rattle.std.specs.Prelude.{◌≡◌, IfErr, IfOk, IsOkAnd, IsTrue, Ok,
 ghost use Rattle.sqlite.specs.State.{HasCleanDisk, IsRolledBack, Shows, Survives};
 ghost use Rattle.sqlite.specs.Held.{state};
 ghost use Rattle.office_tables.specs.Faults.{IsFailure};
-ghost use Rattle.office_engine.specs.Keeping.{CommitsTo, IfClean, InstallLasts, Installs, KeepsTables, LeavesEither, LeavesInstalled, after_policy};
+ghost use Rattle.office_engine.specs.Keeping.{CommitsInstalled, CommitsTo, IfClean, InstallLasts, InstalledRowsLast, Installs, InstallsRows, KeepsTables, LeavesEither, LeavesInstalled, LeavesInstalledRows, after_policy};
 
 use office_core::Policy;
 use office_refines::laws::installs_are_exact;
@@ -62,6 +62,14 @@ pub fn install<S: Alter>(
         LeavesEither old new (after_policy policy.now)) }
     ensures made { IfClean S.Store conn.old conn.new (λ old new.
         LeavesInstalled old new result) }
+    ensures installed_rows { IfClean S.Store conn.old conn.new (λ old new.
+        OnOk result (InstallsRows old new policy.now)) }
+    ensures survives_rows { Survives (state S.Store conn.old) (state S.Store conn.new)
+        (CommitsInstalled (state S.Store conn.old) policy.now) }
+    ensures durable_rows { IfClean S.Store conn.old conn.new (λ old new.
+        OnOk result (InstalledRowsLast old new policy.now)) }
+    ensures leaves_rows { IfClean S.Store conn.old conn.new (λ old new.
+        LeavesInstalledRows old new policy.now) }
 {
     installs_are_exact();
     // What the type of a policy says of its callers and rules, and the connection of its state.

@@ -14,11 +14,11 @@ ghost use Rattle.office_core.specs.declared.request.Request.{Request};
 ghost use Rattle.office_core.specs.declared.request.Request.TheVariants.{DownloadBag, DownloadFile};
 ghost use Rattle.office_rows.specs.Rows.{Tables, empty_office, this_version};
 ghost use Rattle.office_tables.specs.Tables.{Becomes, IsOffice, contents_of, tables_of};
-ghost use Rattle.office_tables.specs.Contents.{IsMarked, KeepsOnce};
+ghost use Rattle.office_tables.specs.Contents.{DiffersInBytes, IsMarked, KeepsOnce};
 ghost use Rattle.office_tables.specs.declared.version.TableVersion.{TableVersion};
 ghost use Rattle.office_history.specs.Histories.{History};
-ghost use Rattle.office_history.specs.Answers.{answer};
-ghost use Rattle.office_history.specs.Pictures.{due_rows};
+ghost use Rattle.office_history.specs.Answers.{after, answer};
+ghost use Rattle.office_history.specs.Pictures.{due_rows, picture};
 ghost use Rattle.office_history.specs.Stocks.{Stock, contents};
 ghost use Rattle.office_history.specs.RowRanges.{AreInRange};
 ghost use Rattle.office_history.specs.Runs.{IsFailure, IsLater, IsLegal, Item, Run, new_history};
@@ -27,9 +27,10 @@ ghost use Rattle.office_by_rows.specs.Asking.{Visit};
 ghost use Rattle.office_by_rows.specs.Stock.{stock_by};
 ghost use Rattle.office_asking.specs.Contents.{Rows, rows_of};
 ghost use Rattle.office_asking.specs.Pictures.{Pictures};
+ghost use Rattle.office_asking.specs.Serving.{rows_after, serve_rows};
 ghost use Rattle.office_engine.specs.ByRows.{RowsTell};
 ghost use Rattle.office_engine.specs.Keeping.{IsFoundAfter, IsKeptAt, IsKeptBy, IsLeftAt};
-ghost use Rattle.office_engine.specs.OtherBytes.{AreUnderDigests, DiffersInBytes, HasDigestAt, HasDigestsOf, IsUnderDigest};
+ghost use Rattle.office_engine.specs.OtherBytes.{AreUnderDigests, HasDigestAt, HasDigestsOf, IsUnderDigest};
 ghost use Rattle.office_engine.specs.Upgrading.{IsLeftOfUpgrade, LeavesAt, StoppedInTurn, TakesUp};
 
 pub use office_history::laws::{
@@ -97,11 +98,16 @@ pub fn the_rows_tell_one_answer()
 {}
 
 /// A legal office takes none of its own contents for an altered one: its rows and contents tell the answer of the
-/// history to each request.
+/// history to each request, and the rows after it.
 pub fn no_legal_content_is_taken_for_an_altered_one()
     ensures { (db : Database) (h : History) (visit : Visit) (request : Request)
         → IsLegal h → Pictures h db
-        → RowsTell (rows_of db) visit request (answer h visit.day visit.caller request) }
+        → serve_rows (rows_of db) visit request
+        ≡ Some (
+          answer h visit.day visit.caller request,
+          rows_after (rows_of db) request (answer h visit.day visit.caller request)
+              (picture this_version (after h visit.day visit.caller request)),
+        ) }
 {
     requests_are_exact();
     files_have_their_contents();

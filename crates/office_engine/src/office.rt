@@ -26,7 +26,7 @@ ghost use Rattle.office_tables.specs.declared.version.TableVersion.{TableVersion
 ghost use Rattle.office_upgrade.specs.Upgrading as rows;
 ghost use Rattle.office_upgrade.specs.Upgrading.{HasUnknownVersion, IsOlder, IsUpgrade, NewestSurvives, TellsVersion, TellsKnown, TellsUnknown};
 ghost use Rattle.office_engine.specs.Upgrading.{GoesBackAt, IsUpgradeOf, LeavesAt, OpensOlder, StaysAt, TakesUp, UpgradeLasts, Upgrades};
-ghost use Rattle.office_engine.specs.Keeping.{AllStayShut, AreToldDue, CommitsRows, CommitsRun, CommitsTo, CountsStock, IfClean, InTurn, InstallLasts, Installs, IsKeptBy, IsKeptOfRun, IsLeftAt, IsLeftOf, IsLeftOfEither, IsLeftOfRun, IsToldByRows, IsToldStock, Lasts, LeavesEither, LeavesInstalled, LeavesKept, LeavesMade, LeavesRows, LeavesRun, ListsDue, RowsLast, Runs, RunsRows, Serves, ServesRows, StaysShut, after_item, is_accepted, after_policy};
+ghost use Rattle.office_engine.specs.Keeping.{AllStayShut, AreToldDue, CommitsInstalled, CommitsRows, CommitsRun, CommitsRunRows, CommitsTo, CountsStock, IfClean, InTurn, InstallLasts, InstalledRowsLast, Installs, InstallsRows, IsKeptBy, IsKeptOfRun, IsLeftAt, IsLeftOf, IsLeftOfEither, IsLeftOfRun, IsToldByRows, IsToldStock, Lasts, LeavesEither, LeavesInstalled, LeavesInstalledRows, LeavesKept, LeavesMade, LeavesRows, LeavesRun, LeavesRunRows, ListsDue, RowsLast, Runs, RunsRows, Serves, ServesRows, StaysShut, after_item, is_accepted, after_policy};
 
 use crate::installing::install;
 use crate::listing::{due_list, stock};
@@ -259,6 +259,15 @@ impl<S: Alter> Office<S> {
             LeavesEither old new (after_policy policy.now)) }
         ensures made { IfClean S.Store self.old self.new (λ old new.
             LeavesInstalled old new result) }
+        // Whatever rows and contents the office has.
+        ensures installed_rows { IfClean S.Store self.old self.new (λ old new.
+            OnOk result (InstallsRows old new policy.now)) }
+        ensures survives_rows { Survives (state S.Store self.old) (state S.Store self.new)
+            (CommitsInstalled (state S.Store self.old) policy.now) }
+        ensures durable_rows { IfClean S.Store self.old self.new (λ old new.
+            OnOk result (InstalledRowsLast old new policy.now)) }
+        ensures leaves_rows { IfClean S.Store self.old self.new (λ old new.
+            LeavesInstalledRows old new policy.now) }
     {
         install(alloc, &mut self.conn, policy)
     }
@@ -323,6 +332,11 @@ impl<S: Alter> Office<S> {
             (CommitsRun (state S.Store self.old) items.now answers.items)) }
         ensures leaves { IfClean S.Store self.old self.new (λ old new.
             IfOk result (λ answers. LeavesRun old new items.now answers.items)) }
+        ensures survives_rows { IfOk result (λ answers.
+            Survives (state S.Store self.old) (state S.Store self.new)
+            (CommitsRunRows (state S.Store self.old) items.now answers.items)) }
+        ensures leaves_rows { IfClean S.Store self.old self.new (λ old new.
+            IfOk result (λ answers. LeavesRunRows old new items.now answers.items)) }
     {
         let mut answers = Vec::with_capacity(alloc, items.len())?;
         for item in items {

@@ -1,52 +1,18 @@
 -- What is answered by the rows of a legal history, where nothing stands against it, is what the history answers.
 use Rattle.std.proofs.Common.{◌≡◌, ℕ, ◌+◌, ◌*◌, suc, ℤ, pos, ◌≤ℤ◌, ◌&&◌, Bool, true, false, List, [], ◌∷◌, length, Option, Some, None, IfSome, filter, find, map, slice_get, is_none, option_map, refl, sym, ap, subst, ◌∙◌, inl, inr, arith, cond, if◌then◌else◌}
 use Rattle.std.specs.Prelude.{bytes_eq}
-use Rattle.std.specs.List.{AllByRecursion, cons_option, filter_map, range_with_len}
-use Rattle.std.specs.Option.{option_map_or}
-use Rattle.jiff.specs.Types.{Date}
-use Rattle.jiff.specs.Words.{epoch_day}
+use Rattle.office_refines.proofs.Common.{AllByRecursion, cons_option, filter_map, range_with_len, option_map_or, Date, epoch_day, Has, contains_has, is_good, File, IsBag, content_at, max_content, max_files, set_text, and_parts, signed_arith, sort_by, IsDayNumber, ◌>>=◌, answer_if, first_some, IsName, is_name, denial_verdict, gone_verdict, Action, Answer, DepositRecord, Refusal, NoFile, Request, DefineClass, DefineCollection, Record, Holds, DownloadBag, DownloadFile, Audit, HoldDeposit, HoldCollection, HoldClass, Release, Dispose, DueList, ClassRow, DepositRow, DueRow, FileRow, Tables, is_disposable, is_file_of, this_version, PlaceRow, due_places, place_row, Wanted, file_answer, is_asked, live_hold, record_of, told_of, History, Deposit, Hold, covers, deposits, destruction_day, due, hold_numbered, holds, is_live, live_holds, policy, reaches, role_of, numbers, deposit_row, due_row, file_row, file_rows, hold_row, picture, AreInRange, IsClassRow, IsDepositRow, report_on, IsLegal, IsSound, all_told, count_up_to, due_of_number, things_told, Visit, hold_by, told_hold, told_holds, highest_deposit, highest_hold, number_after, allowed_answer, audit_of, audit_unless, bag_in, content_stored, file_in, has_names, holds_in, is_allowed_for, is_shown_unless, listed_records, path_cmp, place_told, record_by, record_in, stored_files, told_if, day_back, HasBagOf, refusal_before, between}
 use Rattle.bag_text.specs.BagList.{list_fault}
-use Rattle.bag_text.proofs.ElementLemmas.{Has, contains_has}
-use Rattle.bag_text.specs.Paths.{is_good}
-use Rattle.bag_text.specs.TransferForm.{File, IsBag, content_at, max_content, max_files, set_text}
 use Rattle.bag_check.specs.Validity.{payload_bytes, payload_files}
-use Rattle.std.proofs.lemmas.Bool.{and_parts}
-use Rattle.jiff_core.proofs.SignedLemmas.{signed_arith}
-use Rattle.sqlite_keyed.specs.Lists.{sort_by}
-use Rattle.office_core.specs.Days.{IsDayNumber}
-use Rattle.office_core.specs.FirstOf.{◌>>=◌, answer_if, first_some}
-use Rattle.office_core.specs.Names.{IsName, is_name}
 use Rattle.office_core.specs.Retention.{due_number}
-use Rattle.office_core.specs.Verdicts.{denial_verdict, gone_verdict}
-use Rattle.office_core.specs.declared.action.Action.{Action}
 use Rattle.office_core.specs.declared.action.Action.TheVariants as acts
-use Rattle.office_core.specs.declared.answer.Answer.{Answer}
 use Rattle.office_core.specs.declared.answer.Answer.TheVariants as answers
-use Rattle.office_core.specs.declared.answer.DepositRecord.{DepositRecord}
-use Rattle.office_core.specs.declared.refusal.Refusal.{Refusal}
-use Rattle.office_core.specs.declared.refusal.Refusal.TheVariants.{NoFile}
-use Rattle.office_core.specs.declared.request.Request.{Request}
-use Rattle.office_core.specs.declared.request.Request.TheVariants.{DefineClass, DefineCollection, Deposit as MakeDeposit, List as ListDeposits, Record, Holds, DownloadBag, DownloadFile, Audit, HoldDeposit, HoldCollection, HoldClass, Release, Dispose, DueList}
+use Rattle.office_core.specs.declared.request.Request.TheVariants.{Deposit as MakeDeposit, List as ListDeposits}
 use Rattle.office_rows.specs.Rows as rows
-use Rattle.office_rows.specs.Rows.{ClassRow, DepositRow, DueRow, FileRow, Tables, is_disposable, is_file_of, this_version}
-use Rattle.office_rows.specs.Told.{PlaceRow, due_places, place_row}
 use Rattle.office_history.specs.Answers as histories
-use Rattle.office_history.specs.Answers.{Wanted, file_answer, is_asked, live_hold, record_of, told_of}
-use Rattle.office_history.specs.Histories.{History, Deposit, Hold, covers, deposit_numbered, deposits, destruction_day, due, hold_numbered, holds, is_live, live_holds, policy, reaches}
-use Rattle.office_core.specs.Policies.{role_of}
-use Rattle.office_history.specs.Lists.{numbers}
-use Rattle.office_history.specs.Pictures.{deposit_row, due_row, file_row, file_rows, hold_row, picture}
-use Rattle.office_history.specs.RowRanges.{AreInRange, IsClassRow, IsDepositRow}
+use Rattle.office_history.specs.Histories.{deposit_numbered}
 use Rattle.office_history.specs.Refusals as refusing
-use Rattle.office_history.specs.Bags.{report_on}
-use Rattle.office_history.specs.Runs.{IsLegal, IsSound}
-use Rattle.office_by_rows.specs.Values.{all_told, count_up_to, due_of_number, things_told}
-use Rattle.office_by_rows.specs.Asking.{Visit, hold_by, told_hold, told_holds}
-use Rattle.office_by_rows.specs.Refusals.{highest_deposit, highest_hold, number_after}
-use Rattle.office_by_rows.specs.Answers.{allowed_answer, audit_of, audit_unless, bag_in, content_stored, due_list, file_in, has_names, holds_in, is_allowed_for, is_shown_unless, listed_record, listed_records, path_cmp, place_told, record_by, record_in, stored_files, told_if}
-use Rattle.office_by_rows.proofs.Days.{day_back}
-use Rattle.office_refines.specs.Refining.{HasBagOf, refusal_before}
-use Rattle.office_by_rows.proofs.ComesTo.{between}
+use Rattle.office_by_rows.specs.Answers.{due_list, listed_record}
 use Rattle.office_refines.proofs.DepositsTold.{both, rows_beside}
 use Rattle.office_refines.proofs.FilesTold.{files_at, in_path_order, no_file_there}
 use Rattle.office_refines.proofs.HoldsTold.{live_told}

@@ -1,50 +1,18 @@
 -- The rows that a request leaves of a legal history, where nothing stands against it: the picture of the history after it.
 use Rattle.std.proofs.Common.{◌≡◌, ℕ, ◌+◌, ◌≤◌, ℤ, pos, negsuc, neg_ℤ, ◌+ℤ◌, ◌&&◌, Bool, true, List, [], ◌∷◌, length, Option, Some, None, IsSome, is_some, map, filter, option_map, Result, refl, sym, ap, subst, ◌∙◌, arith, if◌then◌else◌}
-use Rattle.std.specs.List.{filter_map}
-use Rattle.std.specs.Option.{option_map_or}
-use Rattle.std.proofs.lemmas.Bool.Decides.{Decides-eqb}
-use Rattle.std.proofs.lemmas.List.{length-map, length_push}
+use Rattle.office_refines.proofs.Common.{filter_map, option_map_or, Decides-eqb, length-map, length_push, same_Some, Date, IsBetween, epoch_day, signed_arith, File, max_years, ◌>>=◌, due_of, Refusal, Request, DefineClass, DefineCollection, Record, Holds, DownloadBag, DownloadFile, Audit, HoldDeposit, HoldCollection, HoldClass, Release, Dispose, DueList, Never, ClassRow, DueRow, HoldRow, Tables, class_named, is_class, is_of_class, is_within, with_class, with_hold, with_holds, with_kept, with_released, this_version, closing_of, IsPlaceable, IsReleasable, IsThere, allowed_change, changes_unless, deposit_change, bag_of, History, Change, Deposit, Hold, Target, OnDeposit, OnCollection, OnClass, DefinedClass, Deposited, PlacedHold, ReleasedHold, covers, deposit_in, deposits, holds, is_live, live_holds, with_changes, years_in, years_of, last_said, numbers, due_rows, hold_row, picture, years_back, years_number, AreInRange, IsClassRow, IsLegal, allowed_of, depositable, disposable, grown_by_none, releasable, holds_grown, none_gone, all_numbered, HasTarget, limits_hold, placed_holds, ranged_deposits, is_between, years_of_number, Visit, target_of, allowed_rows, count_in, counted_on, counted_over, due_in, if_bag, kept_as, new_deposit, new_hold, placed, released, with_due_days, with_files, refusal_before, between}
 use Rattle.std.proofs.lemmas.List.FromFn.{length-range_with_len}
 use Rattle.std.proofs.lemmas.List.Sums.{count_by-le-length, length-filter}
-use Rattle.std.proofs.lemmas.Option.{same_Some}
-use Rattle.jiff.specs.Types.{Date}
-use Rattle.jiff.specs.Words.{IsBetween, epoch_day}
-use Rattle.jiff_core.proofs.SignedLemmas.{signed_arith}
-use Rattle.bag_text.specs.TransferForm.{File}
-use Rattle.office_core.specs.Bounds.{max_years}
-use Rattle.office_core.specs.FirstOf.{◌>>=◌}
 use Rattle.office_core.specs.Retention.{due_number}
-use Rattle.office_core.specs.RetentionReading.{due_of}
-use Rattle.office_core.specs.declared.refusal.Refusal.{Refusal}
-use Rattle.office_core.specs.declared.request.Request.{Request}
-use Rattle.office_core.specs.declared.request.Request.TheVariants.{DefineClass, DefineCollection, Deposit as MakeDeposit, List as ListDeposits, Record, Holds, DownloadBag, DownloadFile, Audit, HoldDeposit, HoldCollection, HoldClass, Release, Dispose, DueList}
-use Rattle.office_core.specs.declared.retention.Due.TheVariants.{Never}
+use Rattle.office_core.specs.declared.request.Request.TheVariants.{Deposit as MakeDeposit, List as ListDeposits}
 use Rattle.office_rows.specs.Rows as rows
-use Rattle.office_rows.specs.Rows.{ClassRow, DueRow, HoldRow, Tables, class_named, is_class, is_of_class, is_within, with_class, with_hold, with_holds, with_released, this_version}
-use Rattle.office_rows.specs.Told.{closing_of}
-use Rattle.office_history.specs.Acceptance.{IsPlaceable, IsReleasable, IsThere}
 use Rattle.office_history.specs.Answers as histories
-use Rattle.office_history.specs.Answers.{allowed_change, changes_unless, deposit_change}
-use Rattle.office_history.specs.Bags.{bag_of}
-use Rattle.office_history.specs.Histories.{History, Change, Deposit, Hold, Target, OnDeposit, OnCollection, OnClass, DefinedClass, Deposited, PlacedHold, ReleasedHold, covers, deposit_in, deposit_numbered, deposits, has_class, holds, is_live, live_holds, with_changes, years_in, years_of}
-use Rattle.office_history.specs.Lists.{last_said, numbers}
-use Rattle.office_history.specs.Pictures.{due_rows, hold_row, picture, years_back, years_number}
+use Rattle.office_history.specs.Histories.{deposit_numbered, has_class}
 use Rattle.office_history.specs.Refusals as refusing
-use Rattle.office_history.specs.RowRanges.{AreInRange, IsClassRow}
-use Rattle.office_history.specs.Runs.{IsLegal}
-use Rattle.office_history.proofs.Accepted.{allowed_of, depositable, disposable, grown_by_none, releasable}
-use Rattle.office_history.proofs.HistoryLemmas.{holds_grown}
-use Rattle.office_history.proofs.LegalReadings.{none_gone}
-use Rattle.office_history.proofs.ListLemmas.{all_numbered}
-use Rattle.office_history.proofs.RangeLemmas.{HasTarget, limits_hold, placed_holds, ranged_deposits}
-use Rattle.office_by_rows.specs.Values.{is_between, years_of_number}
-use Rattle.office_by_rows.specs.Asking.{Visit, target_of}
-use Rattle.office_by_rows.specs.Changes.{allowed_rows, count_in, counted_on, counted_over, due_in, if_bag, kept_as, new_deposit, new_hold, placed, released, with_due_days, with_files, with_kept, with_years}
-use Rattle.office_refines.specs.Refining.{refusal_before}
+use Rattle.office_by_rows.specs.Changes.{with_years}
 use Rattle.office_refines.proofs.Answers.{next_deposit, next_hold}
 use Rattle.office_refines.proofs.ClassesTold.{class_told, years_of_row}
 use Rattle.office_refines.proofs.CollectionsTold.{collection_told}
-use Rattle.office_by_rows.proofs.ComesTo.{between}
 use Rattle.office_refines.proofs.DepositedTold.{deposited_told}
 use Rattle.office_refines.proofs.DepositsTold.{deposit_rows_are}
 use Rattle.office_refines.proofs.DuesGrown.{IsCounted, counted_if, counted_released, dues_of_those, dues_on}

@@ -1,17 +1,8 @@
 -- The rows of classes and the due days of their deposits, and the history that they picture.
 use Rattle.std.proofs.Common.{◌≡◌, ℕ, Bool, true, false, List, [], ◌∷◌, Option, Some, None, option_map, is_some, refl, sym, ap, ◌∙◌, cond, if◌then◌else◌, ◌||◌, ◌++◌, map, true≢false, append-nil}
 use Rattle.std.specs.Prelude.{bytes_eq}
-use Rattle.std.specs.Option.{option_or}
-use Rattle.std.specs.List.{AllByRecursion, filter_map, cons_option, list_any}
-use Rattle.std.proofs.lemmas.Slice.Eq.{bytes_eq-Decides}
-use Rattle.std.proofs.lemmas.List.Elements.{filter_map-append}
-use Rattle.jiff.specs.Types.{Date}
-use Rattle.office_rows.specs.Rows.{ClassRow, class_named, has_class, Tables, is_class, with_class, with_years, with_new_class, this_version}
-use Rattle.office_history.specs.Lists.{first_said, in_first_places}
-use Rattle.office_history.specs.Histories.{History, years_of, DefinedClass, with_changes, deposits}
-use Rattle.office_history.specs.Pictures.{class_rows, years_back, class_in, class_row, years_number, picture}
-use Rattle.office_history.proofs.Pictured.{row_years, years_read, rows_by, HasYears, all_have_years, all_distinct}
-use Rattle.office_history.proofs.AlikeAnswers.{among_first_places}
+use Rattle.office_refines.proofs.Common.{option_or, AllByRecursion, filter_map, cons_option, list_any, bytes_eq-Decides, filter_map-append, Date, ClassRow, class_named, Tables, is_class, with_class, with_new_class, this_version, first_said, in_first_places, History, years_of, DefinedClass, with_changes, deposits, class_rows, years_back, class_in, class_row, years_number, picture, row_years, years_read, rows_by, HasYears, all_have_years, all_distinct, among_first_places}
+use Rattle.office_rows.specs.Rows.{has_class, with_years}
 use Rattle.office_refines.proofs.Unchanged.{years_grown, same_collections, same_deposit_rows, same_file_rows, same_hold_rows, pictured_by}
 use Rattle.office_refines.proofs.NumberedRows.{bytes_eq-sym}
 use Rattle.office_refines.proofs.DuesRevised.{days_from, days_revised, set_all}

@@ -1,16 +1,8 @@
 -- The rows of collections, and the history that they picture.
 use Rattle.std.proofs.Common.{◌≡◌, ℕ, ◌||◌, List, [], ◌∷◌, refl, ◌∙◌, Bool, true, false, ◌++◌, sym, ap, if◌then◌else◌}
 use Rattle.std.specs.Prelude.{bytes_eq}
-use Rattle.std.specs.List.{list_any, filter_map}
-use Rattle.std.proofs.lemmas.List.Elements.{filter_map-append}
-use Rattle.jiff.specs.Types.{Date}
-use Rattle.office_rows.specs.Rows.{this_version, with_collection, with_new_collection}
+use Rattle.office_refines.proofs.Common.{list_any, filter_map, filter_map-append, Date, this_version, with_collection, with_new_collection, History, collection_in, has_collection, Change, DefinedCollection, with_changes, picture, collection_rows, among_first_places, in_first_places, grown_by_none}
 use Rattle.office_rows.specs.Rows as rows
-use Rattle.office_history.specs.Histories.{History, collection_in, has_collection, Change, DefinedCollection, with_changes}
-use Rattle.office_history.specs.Pictures.{picture, collection_rows}
-use Rattle.office_history.proofs.AlikeAnswers.{among_first_places}
-use Rattle.office_history.specs.Lists.{in_first_places}
-use Rattle.office_history.proofs.Accepted.{grown_by_none}
 use Rattle.office_refines.proofs.NumberedRows.{bytes_eq-sym}
 use Rattle.office_refines.proofs.Unchanged.{same_classes, same_deposit_rows, same_due_rows, same_file_rows, same_hold_rows, pictured_by}
 use Rattle.office_refines.proofs.FirstPlaces.{first_places_last}

@@ -1,25 +1,10 @@
 -- What values of rows in their ranges come to.
 use Rattle.std.proofs.Common.{◌≡◌, ℕ, ℤ, pos, int_le, ◌&&◌, ◌||◌, not, ◌≤◌, ◌≤ℤ◌, true, List, [], ◌∷◌, Option, Some, None, IfSome, is_some, refl, sym, ap, ◌∙◌, inl, inr, rules}
 use Rattle.std.specs.Prelude.{bytes_eq, codes}
-use Rattle.std.specs.List.{AllByRecursion, list_all}
-use Rattle.std.proofs.lemmas.Bool.{or_right}
-use Rattle.std.proofs.lemmas.Slice.Eq.{bytes_eq-Decides}
-use Rattle.office_core.specs.Actions.{action_of, action_text}
-use Rattle.office_core.specs.Bounds.{max_rules}
-use Rattle.office_core.specs.Days.{IsDayNumber, first_day_number, last_day_number}
-use Rattle.office_core.specs.FirstOf.{answer_if}
-use Rattle.office_core.specs.Names.{IsName, is_name}
-use Rattle.office_core.specs.Policies.{or_stranger}
-use Rattle.office_core.specs.declared.action.Action.{Action}
+use Rattle.office_refines.proofs.Common.{AllByRecursion, list_all, or_right, bytes_eq-Decides, action_of, action_text, max_rules, IsDayNumber, first_day_number, last_day_number, answer_if, IsName, is_name, or_stranger, Action, HoldRow, RuleRow, Tables, effect_number, IsActionText, IsHoldRow, IsPatternText, IsRuleRow, effect_of, is_action_pattern, is_pattern, is_day_or_none, is_over, is_rule, role_by, between, place_is}
 use Rattle.office_core.specs.declared.rule.Effect.{Effect}
 use Rattle.office_core.specs.declared.rule.Effect.TheVariants.{Allow, Deny}
 use Rattle.office_core.specs.declared.action.Action.TheVariants as acts
-use Rattle.office_rows.specs.Rows.{HoldRow, RuleRow, Tables}
-use Rattle.office_history.specs.Pictures.{effect_number}
-use Rattle.office_history.specs.RowRanges.{IsActionText, IsHoldRow, IsPatternText, IsRuleRow}
-use Rattle.office_by_rows.specs.Values.{effect_of, is_action_pattern, is_pattern}
-use Rattle.office_by_rows.specs.Asking.{is_day_or_none, is_over, is_rule, role_by}
-use Rattle.office_by_rows.proofs.ComesTo.{between, place_is}
 
 -- ---- the rules
 

@@ -1,24 +1,9 @@
 -- The rows of an office after a deposit was made.
-use Rattle.std.proofs.Common.{◌≡◌, ℕ, ◌+◌, pos, Bool, true, false, List, [], ◌∷◌, ◌++◌, map, filter, length, is_none, refl, sym, ap, ◌∙◌, arith, if◌then◌else◌, zero, suc, ◌<◌, Some, None, Less, subst, cond, append-nil, append_assoc, add-one}
-use Rattle.std.specs.Option.{option_map_or}
-use Rattle.std.specs.Ordering.{int_eq, int_cmp}
-use Rattle.std.proofs.lemmas.List.{map-append, length_push}
-use Rattle.std.specs.List.{flat_map, range_with_len, AllByRecursion}
-use Rattle.std.proofs.lemmas.Option.{slice_get_within}
-use Rattle.std.proofs.lemmas.List.Elements.{filter-append}
+use Rattle.std.proofs.Common.{◌≡◌, ℕ, ◌+◌, pos, Bool, true, false, List, [], ◌∷◌, ◌++◌, map, filter, length, is_none, refl, sym, ap, ◌∙◌, arith, zero, suc, ◌<◌, Some, None, Less, subst, cond, append-nil, append_assoc, add-one}
+use Rattle.office_refines.proofs.Common.{option_map_or, int_cmp, length_push, flat_map, range_with_len, AllByRecursion, filter-append, Date, File, slice_get_last, put_by, Tables, DepositRow, FileRow, this_version, with_kept, put_last, item_numbered, numbers, History, Change, Deposit, Deposited, with_changes, deposits, due, live_holds, destruction_day, due_row, due_rows, row_by_gone, deposit_row, deposit_rows, file_row, file_rows, picture, deposits_grown, with_files}
 use Rattle.std.proofs.lemmas.List.Concat.{flat_map-append}
-use Rattle.jiff.specs.Types.{Date}
-use Rattle.bag_text.specs.TransferForm.{File}
-use Rattle.bag_text.proofs.ElementLemmas.{slice_get_last}
-use Rattle.office_rows.specs.Rows.{DueRow, put_by, new_due, is_due_of, Tables, DepositRow, FileRow, this_version}
-use Rattle.office_rows.proofs.Order.{put_last}
-use Rattle.office_history.specs.Lists.{item_numbered, numbers}
-use Rattle.office_history.specs.Histories.{History, Change, Deposit, Deposited, with_changes, deposits, due, live_holds, destruction_day}
-use Rattle.office_history.specs.Pictures.{due_number, due_row, due_rows, row_by_gone, deposit_row, deposit_rows, file_row, file_rows, picture}
-use Rattle.office_history.proofs.HistoryLemmas.{deposits_grown}
-use Rattle.office_history.proofs.Pictured.{different}
-use Rattle.office_by_rows.specs.Changes.{with_files, with_kept}
-use Rattle.office_refines.proofs.NumberedRows.{rows_from, rows_append, rows_changed, below, alike, item_front, range_last}
+use Rattle.office_history.specs.Pictures.{due_number}
+use Rattle.office_refines.proofs.NumberedRows.{rows_from, rows_append, below, item_front, range_last}
 use Rattle.office_refines.proofs.Unchanged.{same_due_row, same_classes, same_collections, same_gone, same_hold_rows, pictured_by}
 use Rattle.office_refines.proofs.DepositsTold.{due_rows_are, deposit_rows_are}
 
@@ -50,38 +35,11 @@ module _ (h : History) (day : Date) (d : Deposit) where
   abbrev next : ℕ
   next = 1 + length (deposits h)
 
-  abbrev due_set : DueRow → DueRow
-  due_set r = if is_due_of (pos next) r then record r { due = due_number (due h d) } else r
-
-  abbrev holds_set : DueRow → DueRow
-  holds_set r = if is_due_of (pos next) r then record r { holds = pos (length (live_holds h next d)) } else r
-
-  -- the rows that are there have other numbers
-  spared : (change : DueRow → DueRow) → ((r : DueRow) → int_eq r.number (pos next) ≡ false → change r ≡ r) → map change (rows_from (due_row h) 1 (deposits h)) ≡ rows_from (due_row h) 1 (deposits h)
-  spared change spares = rows_changed change (due_row h) (due_row h) (deposits h) 1 (λ i x there. spares (due_row h (1 + i) x) (different (1 + i) next (λ same. omega (arith, same, slice_get_within (deposits h) i x there))))
-
-  other_row : (b : Bool) (r s : DueRow) → b ≡ false → (if b then s else r) ≡ r
-  other_row true r s e = absurd cc
-  other_row false r s e = refl
-
-  itself : int_eq (pos next) (pos next) ≡ true
-  itself = alike next next refl
-
-  new_told : holds_set (due_set (new_due (pos next))) ≡ due_row h next (day, d)
-  new_told =
-      ap (λ b. holds_set (if b then record (new_due (pos next)) { due = due_number (due h d) } else new_due (pos next))) itself
-      ∙ ap (λ b. if b then due_row h next (day, d) else record { number = pos next; due = due_number (due h d); holds = pos 0 }) itself
-
-  dues_deposited : map holds_set (map due_set (put_by (λ r. r.number) (new_due (pos next)) (due_rows h))) ≡ due_rows longer
+  dues_deposited : put_by (λ r. r.number) (due_row h next (day, d)) (due_rows h) ≡ due_rows longer
   dues_deposited =
       let old = rows_from (due_row h) 1 (deposits h) in
-      let put : put_by (λ r. r.number) (new_due (pos next)) (due_rows h) ≡ old ++ new_due (pos next) ∷ [] =
-      ap (put_by (λ r. r.number) (new_due (pos next))) (due_rows_are h) ∙ put_last (λ r. r.number) (new_due (pos next)) old (below (due_row h) (λ r. r.number) (λ m x. refl) next (deposits h) refl) in
-      let first : map due_set (old ++ new_due (pos next) ∷ []) ≡ old ++ due_set (new_due (pos next)) ∷ [] =
-      map-append due_set old (new_due (pos next) ∷ []) ∙ ap (λ rs. rs ++ due_set (new_due (pos next)) ∷ []) (spared due_set (λ r e. other_row (is_due_of (pos next) r) r (record r { due = due_number (due h d) }) e)) in
-      let second : map holds_set (old ++ due_set (new_due (pos next)) ∷ []) ≡ old ++ holds_set (due_set (new_due (pos next))) ∷ [] =
-      map-append holds_set old (due_set (new_due (pos next)) ∷ []) ∙ ap (λ rs. rs ++ holds_set (due_set (new_due (pos next))) ∷ []) (spared holds_set (λ r e. other_row (is_due_of (pos next) r) r (record r { holds = pos (length (live_holds h next d)) }) e)) in
-      ap (λ rs. map holds_set (map due_set rs)) put ∙ ap (map holds_set) first ∙ second ∙ ap (λ r. old ++ r ∷ []) new_told
+      ap (put_by (λ r. r.number) (due_row h next (day, d))) (due_rows_are h)
+      ∙ put_last (λ r. r.number) (due_row h next (day, d)) old (below (due_row h) (λ r. r.number) (λ m x. refl) next (deposits h) refl)
       ∙ sym (rows_append (due_row h) (deposits h) ((day, d) ∷ []) 1)
       ∙ (λ i. rows_from (λ m x. sym (same_due_row h more (λ name. refl) refl (λ k. refl) m x) i) 1 (deposits h ++ (day, d) ∷ []))
       ∙ ap (rows_from (due_row longer) 1) (sym (deposits_grown h more))

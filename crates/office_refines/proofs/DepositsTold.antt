@@ -1,12 +1,9 @@
 -- The rows of deposits and what is kept beside them, and the history that they picture.
 use Rattle.std.proofs.Common.{◌≡◌, ℕ, pos, option_map, refl, ap, ◌∙◌, ◌+◌, List, [], ◌∷◌, Some, ap₂, arith}
 use Rattle.std.specs.Prelude.{bytes_eq}
-use Rattle.jiff.specs.Types.{Date}
-use Rattle.office_rows.specs.Rows.{DepositRow, deposit_numbered, DueRow, due_numbered, deposit_by, has_accession, beside}
-use Rattle.office_history.specs.Histories.{History, Deposit, deposits, accession_of}
-use Rattle.office_history.specs.Pictures.{deposit_row, deposit_rows, due_row, due_rows}
+use Rattle.office_refines.proofs.Common.{Date, DepositRow, DueRow, due_numbered, deposit_by, has_accession, beside, History, Deposit, deposits, accession_of, deposit_row, deposit_rows, due_row, due_rows, each}
+use Rattle.office_rows.specs.Rows.{deposit_numbered}
 use Rattle.office_history.specs.Histories as histories
-use Rattle.office_history.proofs.ListLemmas.{each}
 use Rattle.office_refines.proofs.NumberedRows.{rows_from, rows_are, found_at, first_told}
 
 pub deposit_rows_are : (h : History) → deposit_rows h ≡ rows_from (deposit_row h) 1 (deposits h)

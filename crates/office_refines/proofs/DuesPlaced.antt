@@ -1,15 +1,6 @@
 -- What is kept of deposits, after a hold was placed.
 use Rattle.std.proofs.Common.{◌≡◌, ℕ, suc, ◌+◌, ◌&&◌, pos, Bool, true, false, List, [], ◌∷◌, ◌++◌, filter, length, None, is_none, refl, ap, ◌∙◌, add-one, append-nil, arith, cond, if◌then◌else◌}
-use Rattle.std.specs.List.{range_with_len}
-use Rattle.std.specs.Option.{option_map_or}
-use Rattle.std.proofs.lemmas.Int.{ints}
-use Rattle.std.proofs.lemmas.List.{length_push}
-use Rattle.std.proofs.lemmas.List.Elements.{filter-append}
-use Rattle.jiff.specs.Types.{Date}
-use Rattle.bag_text.proofs.ElementLemmas.{slice_get_last}
-use Rattle.office_history.specs.Lists.{item_numbered, numbers}
-use Rattle.office_history.specs.Histories.{History, Change, Deposit, Hold, PlacedHold, with_changes, holds, release_day, reaches, live_holds}
-use Rattle.office_history.proofs.HistoryLemmas.{holds_grown}
+use Rattle.office_refines.proofs.Common.{range_with_len, option_map_or, ints, length_push, filter-append, Date, slice_get_last, item_numbered, numbers, History, Change, Deposit, Hold, PlacedHold, with_changes, holds, release_day, reaches, live_holds, holds_grown}
 use Rattle.office_refines.proofs.NumberedRows.{item_front, range_last}
 use Rattle.office_refines.proofs.Unchanged.{same_released}
 use Rattle.office_refines.proofs.DuesGrown.{IsCounted, counted_if, same_passing}

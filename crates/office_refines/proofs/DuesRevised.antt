@@ -1,23 +1,8 @@
 -- The due days of the deposits of a class that is revised, set one after another.
 use Rattle.std.proofs.Common.{◌≡◌, ℕ, ◌+◌, ◌<◌, ℤ, pos, Bool, true, false, List, [], ◌∷◌, map, filter, length, Option, Some, None, bytes_eq, refl, sym, ap, ap₂, ◌∙◌, arith, cond, if◌then◌else◌}
-use Rattle.std.specs.List.{AllByRecursion}
-use Rattle.std.specs.Ordering.{int_eq}
-use Rattle.std.specs.Option.{option_or, option_map_or}
-use Rattle.jiff.specs.Types.{Date}
-use Rattle.jiff.specs.Words.{epoch_day}
-use Rattle.office_core.specs.FirstOf.{◌>>=◌}
+use Rattle.office_refines.proofs.Common.{AllByRecursion, int_eq, option_or, option_map_or, Date, epoch_day, ◌>>=◌, due_of, Never, DueRow, Tables, is_due_of, is_of_class, with_due, closing_of, History, Change, Deposit, DefinedClass, with_changes, years_of, deposits, due, deposit_row, due_row, due_rows, different, IsDeposited, with_due_days, day_back}
 use Rattle.office_core.specs.Retention.{due_number}
-use Rattle.office_core.specs.RetentionReading.{due_of}
-use Rattle.office_core.specs.declared.retention.Due.TheVariants.{Never}
 use Rattle.office_core.proofs.DayLemmas.{day_number}
-use Rattle.office_rows.specs.Rows.{DueRow, Tables, is_due_of, is_of_class, with_due}
-use Rattle.office_rows.specs.Told.{closing_of}
-use Rattle.office_history.specs.Histories.{History, Change, Deposit, DefinedClass, with_changes, years_of, deposits, due}
-use Rattle.office_history.specs.Pictures.{deposit_row, due_row, due_rows}
-use Rattle.office_history.proofs.Pictured.{different}
-use Rattle.office_history.proofs.RangeLemmas.{IsDeposited}
-use Rattle.office_by_rows.specs.Changes.{with_due_days}
-use Rattle.office_by_rows.proofs.Days.{day_back}
 use Rattle.office_refines.proofs.DepositsTold.{due_rows_are}
 use Rattle.office_refines.proofs.NumberedRows.{alike, bytes_eq-sym, rows_changed, rows_from}
 use Rattle.office_refines.proofs.Unchanged.{years_grown, same_deposits, same_live}

@@ -1,25 +1,11 @@
 -- The rows of files, and the bags of the history that they picture.
 use Rattle.std.proofs.Common.{◌≡◌, ℕ, Bool, true, false, List, [], ◌∷◌, ◌++◌, map, filter, refl, cond, zero, suc, ◌+◌, ◌<◌, pos, length, Some, None, option_map, is_none, sym, ap, ◌∙◌, arith, append-nil, true≢false, if◌then◌else◌}
-use Rattle.std.specs.List.{flat_map, range_with_len, AllByRecursion}
-use Rattle.std.proofs.lemmas.List.Elements.{filter-append}
-use Rattle.std.specs.Option.{option_map_or}
-use Rattle.std.specs.Ordering.{nat_cmp, int_eq, is_gt, is_lt}
+use Rattle.office_refines.proofs.Common.{flat_map, range_with_len, AllByRecursion, filter-append, option_map_or, nat_cmp, int_eq, is_gt, is_lt, slice_get_within, bytes_eq-Decides, Date, File, Ascends, content_at, Fits, is_good, sort_by, insert_sorted, FileRow, is_file_of, History, Deposit, deposits, destruction_day, files_of, file_row, file_rows, different, path_cmp}
 use Rattle.std.specs.declared.cmp.Ordering.{Ordering}
 use Rattle.std.specs.declared.cmp.Ordering.TheVariants.{Less, Equal, Greater}
 use Rattle.std.specs.Cmp.Lexicographic.{slice_cmp}
-use Rattle.std.proofs.lemmas.Option.{slice_get_within}
 use Rattle.std.specs.Prelude.{bytes_eq, find}
-use Rattle.std.proofs.lemmas.Slice.Eq.{bytes_eq-Decides}
-use Rattle.jiff.specs.Types.{Date}
-use Rattle.bag_text.specs.TransferForm.{File, Ascends, content_at, Fits}
-use Rattle.bag_text.specs.Paths.{is_good}
-use Rattle.sqlite_keyed.specs.Lists.{sort_by, insert_sorted}
-use Rattle.office_rows.specs.Rows.{FileRow, is_file_of}
-use Rattle.office_history.specs.Histories.{History, Deposit, deposits, deposit_numbered, destruction_day}
-use Rattle.office_history.specs.Stocks.{files_of}
-use Rattle.office_history.specs.Pictures.{file_row, file_rows}
-use Rattle.office_history.proofs.Pictured.{different}
-use Rattle.office_by_rows.specs.Answers.{path_cmp}
+use Rattle.office_history.specs.Histories.{deposit_numbered}
 use Rattle.office_refines.proofs.NumberedRows.{alike}
 
 -- ---- those of one deposit after those of another

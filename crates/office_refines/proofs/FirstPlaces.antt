@@ -1,9 +1,7 @@
 -- Texts once, where they stand first, when one more comes last.
 use Rattle.std.proofs.Common.{◌≡◌, ℕ, Bool, true, false, ◌||◌, List, [], ◌∷◌, ◌++◌, refl, sym, ap, subst, ◌∙◌, true≢false, cond, if◌then◌else◌}
 use Rattle.std.specs.Prelude.{bytes_eq}
-use Rattle.std.specs.List.{list_any}
-use Rattle.std.proofs.lemmas.Slice.Eq.{bytes_eq-Decides}
-use Rattle.office_history.specs.Lists.{distinct_after, in_first_places}
+use Rattle.office_refines.proofs.Common.{list_any, bytes_eq-Decides, distinct_after, in_first_places}
 
 -- a text that comes last is kept where it wasn't there
 distinct_last : (seen xs : List (List ℕ)) (x : List ℕ) → distinct_after seen (xs ++ x ∷ []) ≡ distinct_after seen xs ++ (if list_any (bytes_eq x) seen || list_any (bytes_eq x) xs then [] else x ∷ [])

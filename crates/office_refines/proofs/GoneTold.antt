@@ -1,17 +1,6 @@
 -- The rows of an office after a deposit was destroyed.
 use Rattle.std.proofs.Common.{◌≡◌, ℕ, ◌+◌, ◌==◌, pos, Bool, true, false, not, List, [], ◌∷◌, ◌++◌, length, map, filter, Some, None, is_none, refl, sym, ap, ◌∙◌, cond, if◌then◌else◌}
-use Rattle.std.specs.List.{flat_map}
-use Rattle.std.specs.Option.{option_or, option_map_or}
-use Rattle.std.specs.Ordering.{int_eq}
-use Rattle.jiff.specs.Types.{Date}
-use Rattle.jiff.specs.Words.{epoch_day}
-use Rattle.bag_text.specs.TransferForm.{File}
-use Rattle.office_rows.specs.Rows.{DepositRow, FileRow, is_deposit, is_file_of, with_gone, without_files, this_version}
-use Rattle.office_history.specs.Lists.{item_numbered, numbers}
-use Rattle.office_history.specs.Histories.{History, Change, Destroyed, Deposit, with_changes, deposits, destruction_day}
-use Rattle.office_history.specs.Stocks.{files_of}
-use Rattle.office_history.specs.Pictures.{row_by_gone, deposit_row, deposit_rows, file_row, file_rows, picture}
-use Rattle.office_history.proofs.Alike.{gone_grown, or_none}
+use Rattle.office_refines.proofs.Common.{flat_map, option_or, option_map_or, int_eq, Date, epoch_day, File, DepositRow, FileRow, is_deposit, is_file_of, with_gone, without_files, this_version, item_numbered, numbers, History, Change, Destroyed, Deposit, with_changes, deposits, destruction_day, files_of, row_by_gone, deposit_row, deposit_rows, file_row, file_rows, picture, gone_grown, or_none}
 use Rattle.office_refines.proofs.FilesTold.{file_rows_at, filter_gathered}
 use Rattle.office_refines.proofs.NumberedRows.{rows_from, rows_changed, itself, another, mark}
 use Rattle.office_refines.proofs.DepositsTold.{deposit_rows_are}

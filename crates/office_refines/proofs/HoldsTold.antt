@@ -1,21 +1,9 @@
 -- The rows of holds, and the history that they picture.
 use Rattle.std.proofs.Common.{◌≡◌, ℕ, suc, ◌+◌, ℤ, pos, Bool, false, not, ◌&&◌, ◌||◌, List, [], ◌∷◌, length, map, filter, Option, Some, None, option_map, unwrap_or, slice_get, is_none, is_some, refl, sym, ap, subst, ◌∙◌, arith, ◌++◌, Less, ◌==◌, if◌then◌else◌}
 use Rattle.std.specs.Prelude.{bytes_eq}
-use Rattle.std.specs.Option.{option_map_or, option_or}
-use Rattle.std.specs.Ordering.{int_eq, int_cmp}
+use Rattle.office_refines.proofs.Common.{option_map_or, option_or, int_eq, int_cmp, AllByRecursion, Date, epoch_day, HoldRow, is_live_over, this_version, DueRow, with_hold, put_by, is_hold, with_released, put_last, History, Hold, Target, OnDeposit, OnCollection, OnClass, Deposit, holds, release_day, reaches, covers, Change, PlacedHold, with_changes, ReleasedHold, held_deposit, held_collection, held_class, hold_row, hold_rows, picture, row_by_release, due_rows, IsLegal, holds_grown, none_released, or_none, released_grown}
 use Rattle.std.proofs.Math.Bool.{or-false}
-use Rattle.std.specs.List.{AllByRecursion}
-use Rattle.jiff.specs.Types.{Date}
-use Rattle.jiff.specs.Words.{epoch_day}
-use Rattle.office_rows.specs.Rows.{HoldRow, is_live_over, this_version, DueRow, with_hold, put_by, is_hold, with_released}
-use Rattle.office_rows.proofs.Order.{put_last}
 use Rattle.office_rows.specs.Rows as rows
-use Rattle.office_history.specs.Histories.{History, Hold, Target, OnDeposit, OnCollection, OnClass, Deposit, holds, release_day, reaches, covers, Change, PlacedHold, with_changes, ReleasedHold}
-use Rattle.office_history.specs.Pictures.{held_deposit, held_collection, held_class, hold_row, hold_rows, picture, row_by_release, due_rows}
-use Rattle.office_history.specs.Runs.{IsLegal}
-use Rattle.office_history.proofs.HistoryLemmas.{holds_grown}
-use Rattle.office_history.proofs.LegalReadings.{none_released}
-use Rattle.office_history.proofs.Alike.{or_none, released_grown}
 use Rattle.office_history.specs.Histories as histories
 use Rattle.office_refines.proofs.NumberedRows.{rows_from, rows_are, same_number, rows_append, below, none_next, rows_changed, mark, numbers_passing}
 use Rattle.office_refines.proofs.Unchanged.{same_classes, same_collections, same_deposit_rows, same_file_rows, same_released, pictured_by, same_holds}

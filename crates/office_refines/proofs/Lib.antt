@@ -1,3 +1,4 @@
+pub mod Common
 pub mod NumberedRows
 pub mod Unchanged
 pub mod FirstPlaces

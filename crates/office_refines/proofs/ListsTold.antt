@@ -1,33 +1,16 @@
 -- Which deposits are listed by the rows, and which are due: those that a disposal would destroy.
 use Rattle.std.proofs.Common.{◌≡◌, ℕ, suc, ◌+◌, ℤ, pos, Bool, true, false, not, ◌&&◌, List, [], ◌∷◌, length, map, filter, Option, Some, None, slice_get, is_none, refl, sym, ap, ap₂, subst, ◌∙◌, arith, cond, if◌then◌else◌}
-use Rattle.std.specs.Prelude.{int_lt}
-use Rattle.std.specs.Ordering.{int_eq, int_cmp, is_le, is_ge}
-use Rattle.std.proofs.lemmas.Int.{ints}
-use Rattle.std.specs.List.{filter_map, cons_option}
-use Rattle.jiff.specs.Types.{Date}
-use Rattle.jiff.specs.Words.{epoch_day, IsEpochDay}
-use Rattle.jiff_core.proofs.SignedLemmas.{signed_arith}
+use Rattle.office_refines.proofs.Common.{int_lt, int_eq, int_cmp, is_le, is_ge, ints, filter_map, cons_option, Date, epoch_day, IsEpochDay, signed_arith, first_some, answer_if, Refusal, Dispose, On, Never, DepositRecord, map_back, DepositRow, DueRow, beside, least_number, is_by, is_disposable, this_version, PlaceRow, place_row, due_places, numbers, History, Deposit, deposits, destruction_day, due, live_holds, least_hold, picture, refusal_in, denial_at, held_refusal, not_due_refusal, disposal_refusals, denial, Wanted, different, Visit}
 use Rattle.jiff_core.proofs.DateLemmas.{epoch_day_range}
 use Rattle.sqlite_keyed.proofs.ListLemmas.{map-map, filter-map}
-use Rattle.office_core.specs.FirstOf.{first_some, answer_if}
 use Rattle.office_core.specs.declared.facts.Verdict.TheVariants.{NotDue}
-use Rattle.office_core.specs.declared.refusal.Refusal.{Refusal}
-use Rattle.office_core.specs.declared.request.Request.TheVariants.{Dispose}
 use Rattle.office_core.specs.declared.retention.Due.{Due}
-use Rattle.office_core.specs.declared.retention.Due.TheVariants.{On, Never}
-use Rattle.office_core.specs.declared.answer.DepositRecord.{DepositRecord}
 use Rattle.office_core.specs.Verdicts as deciding
 use Rattle.office_core.specs.declared.action.Action.TheVariants as acts
-use Rattle.office_rows.proofs.Order.{map_back}
-use Rattle.office_rows.specs.Rows.{DepositRow, DueRow, beside, least_number, is_by, is_disposable, this_version}
-use Rattle.office_rows.specs.Told.{PlaceRow, place_row, due_places}
-use Rattle.office_history.specs.Lists.{numbers}
-use Rattle.office_history.specs.Histories.{History, Deposit, deposits, deposit_numbered, destruction_day, due, live_holds, least_hold}
-use Rattle.office_history.specs.Pictures.{due_number, picture}
-use Rattle.office_history.specs.Refusals.{refusal, refusal_in, denial_at, gone_refusal, held_refusal, not_due_refusal, disposal_refusals, of_deposit, denial}
-use Rattle.office_history.specs.Answers.{due_list, Wanted, listed_record}
-use Rattle.office_history.proofs.Pictured.{different}
-use Rattle.office_by_rows.specs.Asking.{Visit}
+use Rattle.office_history.specs.Histories.{deposit_numbered}
+use Rattle.office_history.specs.Pictures.{due_number}
+use Rattle.office_history.specs.Refusals.{refusal, gone_refusal, of_deposit}
+use Rattle.office_history.specs.Answers.{due_list, listed_record}
 use Rattle.office_refines.proofs.NumberedRows.{same_count, numbers_passing}
 use Rattle.office_refines.proofs.HoldsTold.{live_same}
 use Rattle.office_refines.proofs.DepositsTold.{both, rows_beside}

@@ -1,18 +1,9 @@
 -- Rows that stand for the items of a list, numbered from 1.
 use Rattle.std.proofs.Common.{◌≡◌, ℕ, zero, suc, ◌+◌, ◌==◌, ◌<◌, ◌≤◌, ℤ, pos, Bool, true, false, List, [], ◌∷◌, ◌++◌, length, map, Option, Some, None, Less, option_map, unwrap_or, slice_get, rules, refl, sym, ap, ap₂, subst, ◌∙◌, arith, cond, if◌then◌else◌, true≢false, not, filter}
-use Rattle.std.specs.Prelude.{bytes_eq, find, position, nat_lt}
+use Rattle.office_refines.proofs.Common.{position, nat_lt, filter_map, range_with_len, AllByRecursion, position_or_len, option_or, int_cmp, int_eq, Decides-int_eq, Decides-eqb, nat_tests, slice_get_past, bytes_eq-Decides, last_number, item_numbered, numbers, or_none, told_at, same_list, different, there_is}
+use Rattle.std.specs.Prelude.{bytes_eq, find}
 use Rattle.std.specs.Cmp.{int_cmp_is}
-use Rattle.std.specs.List.{filter_map, range_with_len, AllByRecursion, position_or_len}
-use Rattle.std.specs.Option.{option_or}
-use Rattle.std.specs.Ordering.{int_cmp, int_eq}
-use Rattle.std.proofs.lemmas.Bool.Decides.{Decides-int_eq, Decides-eqb, nat_tests}
 use Rattle.std.proofs.lemmas.List.Folds.{find_at}
-use Rattle.std.proofs.lemmas.Option.{slice_get_past}
-use Rattle.std.proofs.lemmas.Slice.Eq.{bytes_eq-Decides}
-use Rattle.office_rows.specs.Rows.{last_number}
-use Rattle.office_history.specs.Lists.{item_numbered, numbers}
-use Rattle.office_history.proofs.Alike.{or_none}
-use Rattle.office_history.proofs.Pictured.{told_at, same_list, different, there_is}
 
 -- each item's row, by its number, the first of which is this one
 abbrev pub rows_from : {A R : Type 0} → (ℕ → A → R) → ℕ → List A → List R

@@ -1,16 +1,8 @@
 -- The rows of callers, and those of a policy that is installed.
 use Rattle.std.proofs.Common.{◌≡◌, ℕ, ◌+◌, Bool, true, false, List, [], ◌∷◌, map, Some, option_map, refl, ap, ◌∙◌, cond, arith, ◌<◌, pos, Less, sym}
 use Rattle.std.specs.Prelude.{bytes_eq, find}
-use Rattle.std.specs.Ordering.{int_cmp}
-use Rattle.std.specs.List.{AllByRecursion}
-use Rattle.office_core.specs.Policies.{PolicyValue, or_stranger}
+use Rattle.office_refines.proofs.Common.{int_cmp, AllByRecursion, PolicyValue, or_stranger, Rule, CallerRow, RuleRow, caller_named, PlacesRise, with_policy, this_version, sorted_already, caller_row, rule_rows, office_row, picture, History, Change, Installed, with_changes, policy, policy_grown}
 use Rattle.office_core.specs.declared.caller.Caller.{Caller}
-use Rattle.office_core.specs.declared.rule.Rule.{Rule}
-use Rattle.office_rows.specs.Rows.{CallerRow, RuleRow, caller_named, PlacesRise, with_policy, this_version}
-use Rattle.office_rows.proofs.Order.{sorted_already}
-use Rattle.office_history.specs.Pictures.{caller_row, rule_rows, office_row, picture}
-use Rattle.office_history.specs.Histories.{History, Change, Installed, with_changes, policy}
-use Rattle.office_history.proofs.Alike.{policy_grown}
 use Rattle.office_refines.proofs.NumberedRows.{is_less}
 use Rattle.office_refines.proofs.Unchanged.{same_classes, same_collections, same_deposit_rows, same_due_rows, same_file_rows, same_hold_rows}
 

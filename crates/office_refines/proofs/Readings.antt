@@ -1,44 +1,18 @@
 -- What the rows of a legal history come to, forwards: since they are in their ranges, each is read, and what is read is the history's.
 use Rattle.std.proofs.Common.{◌≡◌, ℕ, ◌+◌, ◌<◌, ◌≤◌, ℤ, pos, Bool, true, false, List, [], ◌∷◌, length, Option, Some, None, ◌≤ℤ◌, ◌&&◌, IfSome, filter, find, map, slice_get, option_map, refl, sym, ap, subst, ◌∙◌, arith, if◌then◌else◌}
-use Rattle.std.specs.List.{AllByRecursion}
-use Rattle.std.specs.Option.{option_map_or}
-use Rattle.std.proofs.lemmas.Bool.{and_parts}
-use Rattle.std.proofs.lemmas.Option.{same_Some}
-use Rattle.std.proofs.lemmas.Slice.Eq.{bytes_eq-Decides}
-use Rattle.jiff.specs.Types.{Date}
-use Rattle.jiff.specs.Words.{epoch_day}
-use Rattle.office_core.specs.Actions.{action_text}
-use Rattle.jiff_core.proofs.SignedLemmas.{signed_arith}
-use Rattle.office_core.specs.FirstOf.{◌>>=◌, answer_if}
-use Rattle.office_core.specs.Names.{IsName}
-use Rattle.office_core.specs.Policies.{role_of}
-use Rattle.office_core.specs.Verdicts.{denial_verdict}
-use Rattle.office_core.specs.declared.action.Action.{Action}
+use Rattle.office_refines.proofs.Common.{AllByRecursion, option_map_or, and_parts, same_Some, bytes_eq-Decides, Date, epoch_day, action_text, signed_arith, ◌>>=◌, answer_if, IsName, role_of, denial_verdict, Action, matching_rule, CallerRow, OfficeRow, RuleRow, Tables, caller_named, due_numbered, is_caller, this_version, History, Deposit, Hold, Target, OnDeposit, OnCollection, OnClass, covers, destruction_day, due, hold_numbered, holds, is_live, least_hold, live_holds, policy, reaches, numbers, live_hold, scope_of, deposit_row, due_row, held_class, held_collection, held_deposit, hold_row, picture, deciding_rule, deciding_rule_at, denial, facts_of, refusal_in, AreInRange, AreNumbered, IsCallerRow, IsDepositRow, IsDueRow, IsHoldRow, IsRuleRow, IsLegal, legal_policy, due_of_number, if_any, Days, Visit, are_released_on_days, counted_hold_in, days_of, decision_by, decision_for, denial_in, hold_by, or_empty, role_in, disposal_facts, day_back, days_back, due_back, between, counted_read, days_read, decision_is, facts_told, least_read, place_and_effect, rule_and_effect}
 use Rattle.office_core.specs.declared.action.Action.TheVariants as acts
 use Rattle.office_core.specs.declared.rule.Decision.{Decision}
 use Rattle.office_core.proofs.OptionLemmas.{find_some}
-use Rattle.office_rows.specs.Matching.{matching_rule}
 use Rattle.office_rows.specs.Rows as rows
-use Rattle.office_rows.specs.Rows.{CallerRow, OfficeRow, RuleRow, Tables, caller_named, due_numbered, is_caller, this_version}
-use Rattle.office_history.specs.Histories.{History, Deposit, Hold, Target, OnDeposit, OnCollection, OnClass, covers, deposit_numbered, destruction_day, due, hold_numbered, holds, is_live, least_hold, live_holds, policy, reaches}
-use Rattle.office_history.specs.Lists.{numbers}
-use Rattle.office_history.specs.Answers.{live_hold, scope_of}
-use Rattle.office_history.specs.Pictures.{deposit_row, due_number, due_row, held_class, held_collection, held_deposit, hold_row, picture}
-use Rattle.office_history.specs.Refusals.{deciding_rule, deciding_rule_at, denial, facts_of, refusal_in}
-use Rattle.office_history.specs.RowRanges.{AreInRange, AreNumbered, IsCallerRow, IsDepositRow, IsDueRow, IsHoldRow, IsRuleRow}
-use Rattle.office_history.specs.Runs.{IsLegal}
-use Rattle.office_history.proofs.LegalReadings.{legal_policy}
-use Rattle.office_by_rows.specs.Values.{due_of_number, if_any}
-use Rattle.office_by_rows.specs.Asking.{Days, Visit, are_released_on_days, counted_hold_in, days_of, decision_by, decision_for, denial_in, hold_by, or_empty, role_in, scope_of as scope_in}
-use Rattle.office_by_rows.specs.Refusals.{disposal_facts}
-use Rattle.office_by_rows.proofs.Days.{day_back, days_back, due_back}
-use Rattle.office_by_rows.proofs.ComesTo.{between, counted_read, days_read, decision_is, facts_told, least_read}
+use Rattle.office_history.specs.Histories.{deposit_numbered}
+use Rattle.office_history.specs.Pictures.{due_number}
+use Rattle.office_by_rows.specs.Asking.{scope_of as scope_in}
 use Rattle.office_refines.proofs.ComesTo.{effect_is, on_days, role_is, rule_is}
 use Rattle.office_refines.proofs.DepositsTold.{deposit_told, due_told}
 use Rattle.office_refines.proofs.HoldsTold.{hold_rows_are, live_told}
 use Rattle.office_refines.proofs.NumberedRows.{found_at, same_count}
 use Rattle.office_refines.proofs.PolicyTold.{role_told}
-use Rattle.office_refines.specs.Refining.{place_and_effect, rule_and_effect}
 use Rattle.office_refines.proofs.RulesTold.{rule_told}
 
 -- what is so of all is so of what is found

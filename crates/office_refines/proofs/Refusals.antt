@@ -1,34 +1,14 @@
 -- The refusals that the rows of a legal history tell are those of the history, in the same order.
 use Rattle.std.proofs.Common.{◌≡◌, ℕ, ◌+◌, pos, Bool, not, List, [], ◌∷◌, ◌++◌, length, Option, Some, None, IsSome, map, is_none, is_some, option_map, refl, sym, ap, ◌∙◌, cond, if◌then◌else◌}
-use Rattle.std.specs.Prelude.{nat_le}
-use Rattle.jiff.specs.Types.{Date}
-use Rattle.jiff.specs.Words.{epoch_day}
-use Rattle.office_core.specs.FirstOf.{◌>>=◌, answer_if, first_some}
-use Rattle.office_core.specs.Verdicts.{gone_verdict, verdict_of}
-use Rattle.office_core.specs.declared.action.Action.{Action}
+use Rattle.office_refines.proofs.Common.{nat_le, Date, epoch_day, ◌>>=◌, answer_if, first_some, gone_verdict, verdict_of, Action, Refusal, Full, Gone, NoSuch, Released, Taken, Request, DefineClass, DefineCollection, Record, Holds, DownloadBag, DownloadFile, Audit, HoldDeposit, HoldCollection, HoldClass, Release, Dispose, DueList, ClassRow, DepositRow, HoldRow, Tables, class_named, this_version, History, Deposit, Hold, accession_of, deposits, destruction_day, hold_numbered, holds, release_day, years_of, Target, OnDeposit, OnCollection, OnClass, IsThere, class_rows, deposit_row, held_class, held_collection, held_deposit, hold_row, picture, years_back, HasTarget, placed_holds, refusal_in, refusal_of, AreInRange, IsLegal, count_of, day_numbered, if_any, Visit, denial_in, target_named, target_of, days_back, disposal_facts, disposal_refusal, full_after, full_of_deposits, full_of_holds, highest_deposit, highest_hold, hold_refusals, no_such_class, no_such_collection, number_after, of_hold, refusals, refusals_before_the_bag, refusals_of_the_bag, release_denial, release_denial_at, release_denial_on, released_refusal, taken_refusal, all_numbered, refusal_before}
 use Rattle.office_core.specs.declared.action.Action.TheVariants as acts
-use Rattle.office_core.specs.declared.refusal.Refusal.{Refusal}
-use Rattle.office_core.specs.declared.refusal.Refusal.TheVariants.{Full, Gone, NoSuch, Released, Taken}
 use Rattle.office_core.specs.declared.refusal.Subject.TheVariants as subjects
-use Rattle.office_core.specs.declared.request.Request.{Request}
-use Rattle.office_core.specs.declared.request.Request.TheVariants.{DefineClass, DefineCollection, Deposit as MakeDeposit, List as ListDeposits, Record, Holds, DownloadBag, DownloadFile, Audit, HoldDeposit, HoldCollection, HoldClass, Release, Dispose, DueList}
+use Rattle.office_core.specs.declared.request.Request.TheVariants.{Deposit as MakeDeposit, List as ListDeposits}
 use Rattle.office_rows.specs.Rows as rows
-use Rattle.office_rows.specs.Rows.{ClassRow, DepositRow, HoldRow, Tables, class_named, this_version}
-use Rattle.office_history.specs.Histories.{History, Deposit, Hold, accession_of, deposit_numbered, deposits, destruction_day, has_class, hold_numbered, holds, release_day, years_of, Target, OnDeposit, OnCollection, OnClass}
-use Rattle.office_history.specs.Acceptance.{IsThere}
-use Rattle.office_history.specs.Pictures.{class_rows, deposit_row, held_class, held_collection, held_deposit, hold_row, picture, years_back}
-use Rattle.office_history.proofs.RangeLemmas.{HasTarget, placed_holds}
+use Rattle.office_history.specs.Histories.{deposit_numbered, has_class}
 use Rattle.office_history.specs.Refusals as histories
-use Rattle.office_history.specs.Refusals.{refusal_in, refusal_of}
 use Rattle.office_history.proofs.VerdictLemmas.{disposal_verdict}
-use Rattle.office_history.specs.RowRanges.{AreInRange}
-use Rattle.office_history.specs.Runs.{IsLegal}
-use Rattle.office_by_rows.specs.Values.{count_of, day_numbered, if_any}
-use Rattle.office_by_rows.specs.Asking.{Visit, denial_in, target_named, target_of}
-use Rattle.office_by_rows.proofs.Days.{days_back}
-use Rattle.office_by_rows.specs.Refusals.{disposal_facts, disposal_refusal, first_told, full_after, full_of_deposits, full_of_holds, gone_refusal, highest_deposit, highest_hold, hold_refusals, kept_refusals, no_such_class, no_such_collection, number_after, of_deposit, of_hold, refusal, refusals, refusals_before_the_bag, refusals_of_the_bag, release_denial, release_denial_at, release_denial_on, released_refusal, taken_refusal}
-use Rattle.office_history.proofs.ListLemmas.{all_numbered}
-use Rattle.office_refines.specs.Refining.{refusal_before}
+use Rattle.office_by_rows.specs.Refusals.{first_told, gone_refusal, kept_refusals, of_deposit, refusal}
 use Rattle.office_refines.proofs.ClassesTold.{years_of_row}
 use Rattle.office_refines.proofs.CollectionsTold.{collection_there}
 use Rattle.office_refines.proofs.DepositsTold.{accession_told, deposit_rows_are, deposit_told}

@@ -1,27 +1,13 @@
 -- The rule row of the least place that matches, and the rule that decides.
 use Rattle.std.proofs.Common.{◌≡◌, ℕ, ℤ, ◌+◌, codes, Bool, true, false, ◌||◌, ◌&&◌, List, [], ◌∷◌, Option, Some, None, is_some, option_map, slice_get, refl, ap, ◌∙◌, arith, pos, sym, true≢false}
-use Rattle.std.specs.Prelude.{bytes_eq, find, int_le, option_and_then}
-use Rattle.std.specs.Ordering.{int_cmp, is_ge, is_le}
-use Rattle.std.proofs.lemmas.Int.{ints}
-use Rattle.std.proofs.lemmas.Slice.Eq.{bytes_eq-Decides}
-use Rattle.std.specs.List.{AllByRecursion}
-use Rattle.jiff.specs.Words.{epoch_day}
-use Rattle.office_core.specs.Actions.{action_of, action_text}
-use Rattle.office_core.specs.Policies.{PolicyValue, IsPolicy, IsNamed, HasNames}
+use Rattle.office_refines.proofs.Common.{option_and_then, int_cmp, is_ge, is_le, ints, bytes_eq-Decides, AllByRecursion, epoch_day, action_of, action_text, PolicyValue, IsPolicy, IsNamed, HasNames, Action, Rule, fits_attempt, fits_name, matching_rule, RuleRow, effect_number, pattern_text, action_pattern_text, rule_row, rule_rows, not_star, or_empty, place_and_effect, rule_and_effect}
+use Rattle.std.specs.Prelude.{bytes_eq, find, int_le}
 use Rattle.office_core.specs.Rules as core
 use Rattle.office_core.specs.Rules.{Question, matches_name, matches_action, matches_optional, matches, decision_at, decision_of}
-use Rattle.office_core.specs.declared.action.Action.{Action}
 use Rattle.office_core.specs.declared.rule.ActionPattern.{ActionPattern}
 use Rattle.office_core.specs.declared.rule.Pattern.{Pattern}
-use Rattle.office_core.specs.declared.rule.Rule.{Rule}
 use Rattle.office_core.specs.declared.rule.ActionPattern.TheVariants as action_patterns
 use Rattle.office_core.specs.declared.rule.Pattern.TheVariants as patterns
-use Rattle.office_rows.specs.Matching.{fits_attempt, fits_name, matching_rule}
-use Rattle.office_rows.specs.Rows.{RuleRow}
-use Rattle.office_history.specs.Pictures.{effect_number, pattern_text, action_pattern_text, rule_row, rule_rows}
-use Rattle.office_history.proofs.Pictured.{not_star}
-use Rattle.office_by_rows.specs.Asking.{or_empty}
-use Rattle.office_refines.specs.Refining.{place_and_effect, rule_and_effect}
 use Rattle.office_refines.proofs.ComesTo.{action_known}
 use Rattle.office_refines.proofs.NumberedRows.{PassAlike, first_told, rows_from}
 

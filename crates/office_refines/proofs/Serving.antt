@@ -1,26 +1,12 @@
 -- What a request does to the rows of a legal history, by what stands against it, what it answers, and the rows that it leaves.
 use Rattle.std.proofs.Common.{◌≡◌, ℕ, List, [], ◌∷◌, Option, Some, None, refl, sym, ap, ◌∙◌}
-use Rattle.jiff.specs.Types.{Date}
-use Rattle.office_core.specs.FirstOf.{◌>>=◌, first_some}
+use Rattle.office_refines.proofs.Common.{Date, ◌>>=◌, first_some, Answer, Refusal, Request, DownloadFile, Tables, this_version, allowed_change, answer_unless, changes_unless, History, Deposit, with_changes, picture, denial_at, file_refusals, no_file, grown_by_none, Visit, allowed_answer, allowed_rows, serve, serve_unless, refusal_before}
 use Rattle.office_core.specs.declared.action.Action.TheVariants as acts
-use Rattle.office_core.specs.declared.answer.Answer.{Answer}
-use Rattle.office_core.specs.declared.refusal.Refusal.{Refusal}
-use Rattle.office_core.specs.declared.request.Request.{Request}
-use Rattle.office_core.specs.declared.request.Request.TheVariants.{DownloadFile}
-use Rattle.office_rows.specs.Rows.{Tables, this_version}
 use Rattle.office_history.specs.Answers as histories
-use Rattle.office_history.specs.Answers.{allowed_change, answer_unless, changes_unless}
-use Rattle.office_history.specs.Histories.{History, Deposit, deposit_numbered, with_changes}
-use Rattle.office_history.specs.Pictures.{picture}
+use Rattle.office_history.specs.Histories.{deposit_numbered}
 use Rattle.office_history.specs.Refusals as refusing
-use Rattle.office_history.specs.Refusals.{denial_at, file_refusals, gone_refusal, kept_refusals, no_file, of_deposit}
-use Rattle.office_history.proofs.Accepted.{grown_by_none}
-use Rattle.office_by_rows.specs.Asking.{Visit}
-use Rattle.office_by_rows.specs.Answers.{allowed_answer}
-use Rattle.office_by_rows.specs.Changes.{allowed_rows}
+use Rattle.office_history.specs.Refusals.{gone_refusal, kept_refusals, of_deposit}
 use Rattle.office_by_rows.specs.Refusals.{refusal}
-use Rattle.office_by_rows.specs.Serving.{serve, serve_unless}
-use Rattle.office_refines.specs.Refining.{refusal_before}
 
 module _ (h : History) (day : Date) (caller : List ℕ) where
   -- what stands against the download of a bag stands against that of each of its files

@@ -1,16 +1,7 @@
 -- Which rows a longer history leaves as they were.
 use Rattle.std.proofs.Common.{◌≡◌, ℕ, List, [], ◌∷◌, ◌++◌, map, filter, length, Option, None, option_map, unwrap_or, is_none, sym, ap, ◌∙◌, append-nil, pos, ◌&&◌, false}
-use Rattle.std.specs.List.{filter_map, flat_map}
-use Rattle.std.specs.Option.{option_or, option_map_or}
-use Rattle.std.proofs.lemmas.List.Elements.{filter_map-append}
-use Rattle.jiff.specs.Types.{Date}
-use Rattle.office_core.specs.RetentionReading.{due_of}
-use Rattle.office_core.specs.declared.retention.Due.TheVariants.{Never}
-use Rattle.office_rows.specs.Rows.{ClassRow, DepositRow, DueRow, FileRow, HoldRow, this_version}
-use Rattle.office_history.specs.Lists.{first_said, last_said, item_numbered, numbers, in_first_places}
-use Rattle.office_history.specs.Histories.{History, Change, Deposit, with_changes, installed_in, policy, years_in, years_of, collection_in, deposit_in, deposits, destroyed_in, destruction_day, due, hold_in, holds, released_in, release_day, reaches, live_holds}
-use Rattle.office_history.specs.Pictures.{class_in, class_row, class_rows, caller_row, rule_rows, office_row, collection_rows, row_by_gone, deposit_rows, due_number, due_row, due_rows, file_row, file_rows, row_by_release, hold_rows, picture}
-use Rattle.office_history.proofs.Alike.{or_none, last_said-append, policy_grown, gone_grown, released_grown}
+use Rattle.office_refines.proofs.Common.{filter_map, flat_map, option_or, option_map_or, filter_map-append, Date, due_of, Never, ClassRow, DepositRow, DueRow, FileRow, HoldRow, this_version, first_said, last_said, item_numbered, numbers, in_first_places, History, Change, Deposit, with_changes, installed_in, policy, years_in, years_of, collection_in, deposit_in, deposits, destroyed_in, destruction_day, due, hold_in, holds, released_in, release_day, reaches, live_holds, class_in, class_row, class_rows, caller_row, rule_rows, office_row, collection_rows, row_by_gone, deposit_rows, due_row, due_rows, file_row, file_rows, row_by_release, hold_rows, picture, or_none, last_said-append, policy_grown, gone_grown, released_grown}
+use Rattle.office_history.specs.Pictures.{due_number}
 
 module _ (h : History) (more : List Change) where
   -- what says of a history: none of `more`

@@ -1,7 +1,5 @@
 use Rattle.std.proofs.Common.{sym, ap, ◌∙◌}
-use Rattle.std.proofs.lemmas.Option.{same_Some}
-use Rattle.office_core.specs.declared.answer.Answer.{Answer}
-use Rattle.office_asking.specs.Contents.{Rows}
+use Rattle.office_engine.proofs.Common.{same_Some, Answer, Rows}
 use Rattle.office_engine.proofs.laws.the_rows_tell_one_answer.Goals as goal
 
 pub returns : goal.returns

@@ -1,12 +1,6 @@
 use Rattle.std.proofs.Common.{◌≡◌, ◌∙◌, Some, not, ap, sym, arith, rules}
-use Rattle.std.proofs.lemmas.Option.{same_Some}
-use Rattle.std.proofs.lemmas.Result.{IfOk-weaker}
-use Rattle.sqlite.specs.State.{HasCleanDisk}
-use Rattle.sqlite.specs.Held.{state}
-use Rattle.office_history.specs.Answers.{due_list}
+use Rattle.office_engine.proofs.Common.{same_Some, IfOk-weaker, HasCleanDisk, state, due_list, Visit, visit_on}
 use Rattle.office_by_rows.specs.Answers as by_rows
-use Rattle.office_by_rows.specs.Asking.{Visit}
-use Rattle.office_asking.specs.Asking.{visit_on}
 use Rattle.office_engine.proofs.Ends.{found_kept, under}
 use Rattle.office_engine.proofs.ServedByRows.{shown_found}
 use Rattle.office_engine.proofs.listing.due_list.Goals as goal

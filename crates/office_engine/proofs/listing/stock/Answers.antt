@@ -1,10 +1,5 @@
 use Rattle.std.proofs.Common.{◌≡◌, ◌∙◌, not, true, ap, subst, sym, arith, rules}
-use Rattle.std.proofs.lemmas.Result.{IfOk-weaker}
-use Rattle.sqlite.specs.State.{HasCleanDisk}
-use Rattle.sqlite.specs.Held.{state}
-use Rattle.office_history.specs.Stocks.{stock}
-use Rattle.office_asking.specs.Pictures.{Pictures}
-use Rattle.office_engine.specs.Deciding.{Finds}
+use Rattle.office_engine.proofs.Common.{IfOk-weaker, HasCleanDisk, state, stock, Pictures, Finds}
 use Rattle.office_engine.proofs.Ends.{found_kept, under}
 use Rattle.office_engine.proofs.StockTold.{stock_is}
 use Rattle.office_engine.proofs.listing.stock.Goals as goal

@@ -1,4 +1,4 @@
-use Rattle.sqlite.specs.Files.{image_of, file_state}
+use Rattle.office_engine.proofs.Common.{image_of, file_state}
 use Rattle.office_engine.proofs.Stopping.{either_found, run_found}
 use Rattle.office_engine.proofs.office.reopen.Goals as goal
 

@@ -1,11 +1,5 @@
 use Rattle.std.proofs.Common.{IfOk, arith, sym, subst, ◌∙◌}
-use Rattle.std.proofs.lemmas.Result.{IfOk-weaker}
-use Rattle.sqlite.specs.Tree.{Trees}
-use Rattle.sqlite.specs.State.{HasCleanDisk}
-use Rattle.sqlite.specs.Files.{file_state}
-use Rattle.office_history.specs.Answers.{after}
-use Rattle.office_history.specs.Runs.{Item}
-use Rattle.office_engine.specs.Keeping.{IsLeftOf, IsLeftOfEither, IsLeftOfRun, LeavesEither, LeavesKept, LeavesRun, after_item}
+use Rattle.office_engine.proofs.Common.{IfOk-weaker, Trees, HasCleanDisk, file_state, after, Item, IsLeftOf, IsLeftOfEither, IsLeftOfRun, LeavesEither, LeavesKept, LeavesRun, after_item}
 use Rattle.office_engine.proofs.Stopping.{holds_all, if_some, on_err_both}
 use Rattle.office_engine.proofs.office.stop_after.Goals as goal
 

@@ -1,14 +1,6 @@
 use Rattle.std.proofs.Common.{◌≡◌, sym, subst, rules}
 use Rattle.std.specs.Prelude.{Result, IfOk}
-use Rattle.std.proofs.lemmas.Result.{IfOk-weaker}
-use Rattle.sqlite.specs.Effect.{Database}
-use Rattle.sqlite.specs.Held.{state}
-use Rattle.office_core.specs.declared.answer.Answer.{Answer}
-use Rattle.office_core.specs.declared.request.Request.{Request}
-use Rattle.office_tables.specs.declared.fault.TableFault.{TableFault}
-use Rattle.office_by_rows.specs.Asking.{Visit}
-use Rattle.office_asking.specs.Asking.{visit_on}
-use Rattle.office_asking.specs.Serving.{IsServedBy}
+use Rattle.office_engine.proofs.Common.{IfOk-weaker, Database, state, Answer, Request, TableFault, Visit, visit_on, IsServedBy}
 use Rattle.office_engine.proofs.serving.decide.Goals as goal
 
 -- what reads alone is served, by whichever name the request has

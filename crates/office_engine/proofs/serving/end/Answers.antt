@@ -1,4 +1,4 @@
-use Rattle.sqlite.specs.Held.{state}
+use Rattle.office_engine.proofs.Common.{state}
 use Rattle.office_engine.proofs.Ends.{failed_back}
 use Rattle.office_engine.proofs.serving.end.Goals as goal
 

@@ -1,6 +1,5 @@
 use Rattle.std.proofs.Common.{ap, sym, ◌∙◌}
-use Rattle.std.proofs.lemmas.Option.{same_Some}
-use Rattle.office_by_rows.specs.Serving.{serve}
+use Rattle.office_refines.proofs.Common.{same_Some, serve}
 use Rattle.office_refines.proofs.laws.alike_rows_are_served_alike.Goals as goal
 
 pub returns-clause-answers : goal.returns-clause-answers

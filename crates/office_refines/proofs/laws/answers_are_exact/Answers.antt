@@ -1,4 +1,4 @@
-use Rattle.office_rows.specs.Rows.{this_version}
+use Rattle.office_refines.proofs.Common.{this_version}
 use Rattle.office_refines.proofs.Answers.{answer_exact}
 use Rattle.office_refines.proofs.laws.answers_are_exact.Goals as goal
 

@@ -1,4 +1,4 @@
-use Rattle.office_rows.specs.Rows.{this_version}
+use Rattle.office_refines.proofs.Common.{this_version}
 use Rattle.office_refines.proofs.Refusals.{refusal_exact}
 use Rattle.office_refines.proofs.laws.refusals_are_exact.Goals as goal
 

@@ -1,6 +1,4 @@
-use Rattle.sqlite.specs.Held.{state}
-use Rattle.office_rows.specs.Rows.{this_version}
-use Rattle.office_history.specs.Pictures.{picture}
+use Rattle.office_engine.proofs.Common.{state, this_version, picture}
 use Rattle.office_engine.proofs.Kept.{history_goes_on, known_version, rows_left}
 use Rattle.office_engine.proofs.office.Office.adopt.Goals as goal
 

@@ -1,4 +1,4 @@
-use Rattle.sqlite.specs.Held.{state}
+use Rattle.office_engine.proofs.Common.{state}
 use Rattle.office_engine.proofs.Kept.{new_survives}
 use Rattle.office_engine.proofs.office.Office.create.Goals as goal
 

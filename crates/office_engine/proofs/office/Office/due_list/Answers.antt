@@ -1,7 +1,5 @@
 use Rattle.std.proofs.Common.{IfOk, subst}
-use Rattle.sqlite.specs.State.{HasCleanDisk}
-use Rattle.sqlite.specs.Held.{state}
-use Rattle.office_engine.specs.Keeping.{AreToldDue}
+use Rattle.office_engine.proofs.Common.{HasCleanDisk, state, AreToldDue}
 use Rattle.office_engine.proofs.office.Office.due_list.Goals as goal
 
 pub returns-clause-rows : goal.returns-clause-rows

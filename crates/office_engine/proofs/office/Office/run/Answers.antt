@@ -1,10 +1,7 @@
 use Rattle.std.proofs.Common.{arith, rules}
-use Rattle.std.specs.Prelude.{⊤}
-use Rattle.sqlite.specs.State.{HasCleanDisk}
-use Rattle.sqlite.specs.Held.{state}
-use Rattle.sqlite.proofs.StateLemmas.{survives_then}
-use Rattle.office_engine.specs.Keeping.{CommitsRun, IsTurn}
-use Rattle.office_engine.proofs.RunTurns.{left_kept, on_err, survives_run, turns_end, turns_left, turns_next, turns_rows, turns_run, turns_shut, turns_survive}
+use Rattle.office_engine.proofs.Common.{⊤, HasCleanDisk, state, survives_then, Pictures, IsTurn}
+use Rattle.office_engine.proofs.Ends.{left_settled}
+use Rattle.office_engine.proofs.RunTurns.{left_rows, left_run, on_err, ran, ran_rows, survived, survives_run, turns_end, turns_next, turns_shut}
 use Rattle.office_engine.proofs.office.Office.run.Goals as goal
 
 pub loop-item-preserved : goal.loop-item-preserved
@@ -31,36 +28,39 @@ loop-item-preserved g c = record {
   survives = survives_then (state g.S.Store c.args.self.now) (state g.S.Store c.loop-item.self) (state g.S.Store c.step.new.self) _ _ (λ _. ⊤) (λ _ db made. made) (λ _ db made. tt) c.loop-item.invariant.survives c.step.ensures.survives;
 }
 
-pub returns-clause-ran : goal.returns-clause-ran
-returns-clause-ran g c clean =
-    turns_run g.S.Store c.args.self.now c.loop-item.self c.args.items.now c.loop-item.answers.items
-    (turns_end g.S.Store c.args.self.now c.loop-item.self c.args.items.now c.loop-item.item-index c.loop-item.answers.items c.loop-item-test.false (c.loop-item.invariant.in_turn clean))
-
-pub returns-clause-ran_rows : goal.returns-clause-ran_rows
-returns-clause-ran_rows g c clean =
-    turns_rows g.S.Store c.args.self.now c.loop-item.self c.args.items.now c.loop-item.answers.items
-    (turns_end g.S.Store c.args.self.now c.loop-item.self c.args.items.now c.loop-item.item-index c.loop-item.answers.items c.loop-item-test.false (c.loop-item.invariant.in_turn clean))
-
 pub returns-clause-in_turn : goal.returns-clause-in_turn
 returns-clause-in_turn g c clean =
     turns_end g.S.Store c.args.self.now c.loop-item.self c.args.items.now c.loop-item.item-index c.loop-item.answers.items c.loop-item-test.false (c.loop-item.invariant.in_turn clean)
 
-pub returns-clause-shut : goal.returns-clause-shut
-returns-clause-shut g c clean =
-    turns_shut g.S.Store c.args.self.now c.loop-item.self c.args.items.now c.loop-item.answers.items
-    (turns_end g.S.Store c.args.self.now c.loop-item.self c.args.items.now c.loop-item.item-index c.loop-item.answers.items c.loop-item-test.false (c.loop-item.invariant.in_turn clean))
+pub returns-clause-ran : goal.returns-clause-ran
+returns-clause-ran g c clean = ran g.S.Store c.args.self.now c.loop-item.self c.args.items.now c.loop-item.answers.items (returns-clause-in_turn g c clean)
 
-pub returns-clause-survives : goal.returns-clause-survives
-returns-clause-survives g c =
-    survives_run (state g.S.Store c.args.self.now) (state g.S.Store c.loop-item.self) (λ _. ⊤) (CommitsRun (state g.S.Store c.args.self.now) c.args.items.now c.loop-item.answers.items) c.loop-item.invariant.survives (λ clean.
-    turns_survive g.S.Store (λ s db is_open left. g.met.S.Store.settled s.store db is_open left) c.args.self.now c.loop-item.self c.args.items.now c.loop-item.answers.items
-    (turns_end g.S.Store c.args.self.now c.loop-item.self c.args.items.now c.loop-item.item-index c.loop-item.answers.items c.loop-item-test.false (c.loop-item.invariant.in_turn clean)) clean)
+pub returns-clause-ran_rows : goal.returns-clause-ran_rows
+returns-clause-ran_rows g c clean = ran_rows g.S.Store c.args.self.now c.loop-item.self c.args.items.now c.loop-item.answers.items (returns-clause-in_turn g c clean)
+
+pub returns-clause-shut : goal.returns-clause-shut
+returns-clause-shut g c clean = turns_shut g.S.Store c.args.self.now c.loop-item.self c.args.items.now c.loop-item.answers.items (returns-clause-in_turn g c clean)
 
 pub returns-clause-leaves : goal.returns-clause-leaves
 returns-clause-leaves g c clean =
-    turns_left g.S.Store (λ s db is_open left. g.met.S.Store.settled s.store db is_open left) c.args.self.now c.loop-item.self c.args.items.now c.loop-item.answers.items
-    (turns_end g.S.Store c.args.self.now c.loop-item.self c.args.items.now c.loop-item.item-index c.loop-item.answers.items c.loop-item-test.false (c.loop-item.invariant.in_turn clean)) clean
+    left_run g.S.Store c.args.self.now c.loop-item.self c.args.items.now c.loop-item.answers.items (returns-clause-in_turn g c clean) (λ s db is_open left. g.met.S.Store.settled s.store db is_open left) clean
+
+pub returns-clause-leaves_rows : goal.returns-clause-leaves_rows
+returns-clause-leaves_rows g c clean =
+    left_rows g.S.Store c.args.self.now c.loop-item.self c.args.items.now c.loop-item.answers.items (returns-clause-in_turn g c clean) (λ s db is_open left. g.met.S.Store.settled s.store db is_open left) clean
+
+pub returns-clause-survives : goal.returns-clause-survives
+returns-clause-survives g c =
+    survives_run (state g.S.Store c.args.self.now) (state g.S.Store c.loop-item.self) (λ _. ⊤) _ c.loop-item.invariant.survives (λ clean.
+    survived g.S.Store c.args.self.now c.loop-item.self c.args.items.now c.loop-item.answers.items (returns-clause-in_turn g c clean) (λ s db is_open left. g.met.S.Store.settled s.store db is_open left) clean _
+    (λ is_open left may h legal keeps. returns-clause-leaves g c clean h legal is_open keeps left may))
+
+pub returns-clause-survives_rows : goal.returns-clause-survives_rows
+returns-clause-survives_rows g c =
+    survives_run (state g.S.Store c.args.self.now) (state g.S.Store c.loop-item.self) (λ _. ⊤) _ c.loop-item.invariant.survives (λ clean.
+    survived g.S.Store c.args.self.now c.loop-item.self c.args.items.now c.loop-item.answers.items (returns-clause-in_turn g c clean) (λ s db is_open left. g.met.S.Store.settled s.store db is_open left) clean _
+    (λ is_open left may r has. returns-clause-leaves_rows g c clean r is_open has left may))
 
 pub returns-in_err-answers-clause-failed_leaves : goal.returns-in_err-answers-clause-failed_leaves
 returns-in_err-answers-clause-failed_leaves g c =
-    on_err c.from_residual.result (left_kept g.S.Store (λ s db is_open left. g.met.S.Store.settled s.store db is_open left) c.args.self.now)
+    on_err c.from_residual.result (λ h is_open keeps. left_settled (Pictures h) (state g.S.Store c.args.self.now) (λ db opened left. g.met.S.Store.settled c.args.self.now.store db opened left) is_open keeps)

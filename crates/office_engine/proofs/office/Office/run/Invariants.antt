@@ -1,8 +1,5 @@
 use Rattle.std.proofs.Common.{◌≡◌, ◌≤◌, take, length, vec_len, vec_capacity}
-use Rattle.std.specs.Prelude.{⊤}
-use Rattle.sqlite.specs.State.{HasCleanDisk, Survives}
-use Rattle.sqlite.specs.Held.{state}
-use Rattle.office_engine.specs.Keeping.{InTurn}
+use Rattle.office_engine.proofs.Common.{⊤, HasCleanDisk, Survives, state, InTurn}
 use Rattle.office_engine.proofs.office.Office.run.Given as goal
 
 abbrev pub invariant-loop-item : goal.invariant-loop-item

@@ -1,8 +1,5 @@
 use Rattle.std.proofs.Common.{subst}
-use Rattle.sqlite.specs.State.{HasCleanDisk, Survives}
-use Rattle.sqlite.specs.Held.{state}
-use Rattle.office_history.specs.Runs.{Item}
-use Rattle.office_engine.specs.Keeping.{CommitsRows, CommitsTo, IsTurn, after_item}
+use Rattle.office_engine.proofs.Common.{HasCleanDisk, Survives, state, Item, CommitsRows, CommitsTo, IsTurn, after_item}
 use Rattle.office_engine.proofs.office.Office.step.Goals as goal
 
 pub returns : goal.returns

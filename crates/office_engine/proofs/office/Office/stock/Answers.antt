@@ -1,7 +1,5 @@
 use Rattle.std.proofs.Common.{IfOk, subst}
-use Rattle.sqlite.specs.State.{HasCleanDisk}
-use Rattle.sqlite.specs.Held.{state}
-use Rattle.office_engine.specs.Keeping.{IsToldStock}
+use Rattle.office_engine.proofs.Common.{HasCleanDisk, state, IsToldStock}
 use Rattle.office_engine.proofs.office.Office.stock.Goals as goal
 
 pub returns-clause-rows : goal.returns-clause-rows

@@ -1,4 +1,4 @@
-use Rattle.sqlite.specs.Held.{state}
+use Rattle.office_engine.proofs.Common.{state}
 use Rattle.office_engine.proofs.Upgraded.{upgrades, takes_up, lasts, opens_older, leaves, stays, goes_back, upgrade_survives, left_fails}
 use Rattle.office_engine.proofs.office.Office.upgrade.Goals as goal
 
