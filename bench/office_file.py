@@ -25,10 +25,10 @@ RECORD = b"r" * 10_108
 MANIFEST = hashlib.sha256(RECORD).hexdigest().encode() + b"  data/record\n"
 FILES = [("bagit.txt", DECLARATION), ("data/record", RECORD), ("manifest-sha256.txt", MANIFEST)]
 PUT_DEPOSIT = (
-    "INSERT INTO deposit (number, accession, collection, class, closed, deposited, files, bytes, holds)"
-    " VALUES (?1, ?2, ?3, ?4, ?5, ?6, ?7, ?8, 0)"
+    "INSERT INTO deposit (number, accession, collection, class, closed, deposited, files, bytes, due, holds)"
+    " VALUES (?1, ?2, ?3, ?4, ?5, ?6, ?7, ?8, ?9, ?10)"
 )
-SET_DUE = "UPDATE deposit SET due = ?2 WHERE number = ?1"
+SET_DUES = "UPDATE deposit SET due = ?3 WHERE number BETWEEN ?1 AND ?2"
 SET_HOLDS = "UPDATE deposit SET holds = ?2 WHERE number = ?1"
 # Each deposit's count of the live holds that cover it.
 COUNT_HOLDS = (
@@ -125,9 +125,10 @@ def intact_file_of(conn, number, path):
     return content
 
 
-def put_row(conn, number):
-    """The row of a deposit of a bag of 10 KiB."""
-    conn.execute(PUT_DEPOSIT, (number, f"2026-{number:07}", "tax", "y10", 20454, 20500, 1, 10108))
+def put_row(conn, number, due=None, holds=0):
+    """The row of a deposit of a bag of 10 KiB, with its due day and its count of holds."""
+    row = (number, f"2026-{number:07}", "tax", "y10", 20454, 20500, 1, 10108, due, holds)
+    conn.execute(PUT_DEPOSIT, row)
 
 
 def put_files(conn, number, files):
@@ -168,8 +169,7 @@ def filled(folder, rows):
     conn = opened(file)
     conn.execute("BEGIN")
     for number in range(1, rows + 1):
-        put_row(conn, number)
-        conn.execute(SET_DUE, (number, DUE))
+        put_row(conn, number, DUE)
         put_files(conn, number, own_files(number))
     few = {rows // 4: (1, None, None), rows // 2: (None, "tax", None), rows: (None, None, "y10")}
     for number in range(1, rows + 1):

@@ -153,7 +153,7 @@ def peak_of(folder, name, count):
     conn.execute("DELETE FROM file")
     conn.execute("DELETE FROM content")
     conn.execute("DELETE FROM deposit")
-    conn.execute(PUT_DEPOSIT, (1, "2026-0000001", "tax", "y10", 20454, 20500, count, count * each))
+    conn.execute(PUT_DEPOSIT, (1, "2026-0000001", "tax", "y10", 20454, 20500, count, count * each, None, 0))
     # No two have the same content, which would be kept once.
     records = [(f"data/record{n:04}", b"%04d" % n + b"r" * (each - 4)) for n in range(count)]
     for path, it in tags + records:

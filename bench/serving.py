@@ -12,7 +12,7 @@ from datetime import date, timedelta
 from http.server import BaseHTTPRequestHandler, HTTPServer
 from urllib.parse import parse_qs, urlsplit
 
-from office_file import PUT_DEPOSIT, SET_DUE, SET_HOLDS, opened, put_files
+from office_file import PUT_DEPOSIT, opened, put_files
 
 BEGINNING = date(1970, 1, 1)
 LIVE_HOLDS = (
@@ -144,9 +144,7 @@ class Desk(BaseHTTPRequestHandler):
         row = (number, asked["accession"], collection, kind, closed, self.server.day, count, size)
         due_day = due(closed, self.rows("SELECT years FROM class WHERE name = ?1", kind)[0][0])
         live = self.rows(LIVE_HOLDS, number, collection, kind)[0][0]
-        self.rows(PUT_DEPOSIT, *row)
-        self.rows(SET_DUE, number, None if due_day == "permanent" else number_of(due_day))
-        self.rows(SET_HOLDS, number, live)
+        self.rows(PUT_DEPOSIT, *row, None if due_day == "permanent" else number_of(due_day), live)
         put_files(self.server.office, number, files)
         self.rows("COMMIT")
         self.answer(201, {"deposit": number})

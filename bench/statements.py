@@ -1,16 +1,18 @@
 """The SQL statements that the office makes for a request, in their order, through Python's sqlite3."""
+import itertools
 import sys
 import time
 
-from office_file import DUE, FILES, PUT_HOLD, SET_DUE, SET_HOLDS
+from office_file import DUE, FILES, PUT_HOLD, SET_DUES
 from office_file import due_day, intact_file_of, opened, put_files, put_row
 
 DEPOSIT = "SELECT number, accession, collection, class, closed, deposited, files, bytes, gone FROM deposit"
 BESIDE = DEPOSIT.replace("gone", "gone, due, holds") + " ORDER BY number"
-MATCH_RULE = (
-    "SELECT place, effect, role, action, collection, class, first, last FROM rule_5 WHERE role IN ('*', ?1)"
-    " AND action IN ('*', ?2) AND collection IN ('*', ?3) AND class IN ('*', ?4) AND first <= ?5 AND last >= ?5"
-    " ORDER BY place LIMIT 1"
+RULE = "SELECT place, effect, role, action, collection, class, first, last FROM rule_5"
+RULES = RULE + " ORDER BY place"
+MATCH_RULE = RULE + (
+    " WHERE collection IN ('*', ?3) AND class IN ('*', ?4) AND role IN ('*', ?1) AND action IN ('*', ?2)"
+    " AND first <= ?5 AND last >= ?5 ORDER BY place LIMIT 1"
 )
 DUE_ROW = "SELECT number, due, holds FROM deposit WHERE number = ?1"
 DUE_ROWS = (
@@ -47,6 +49,13 @@ DAY = 20_500
 DAYS = (-25_567, 2_859_848)
 
 
+def runs(rows):
+    """The runs of deposits whose numbers follow one another, closed on one day: first number, last, and day."""
+    for (_, closed), run in itertools.groupby(enumerate(rows), lambda it: (it[1][0] - it[0], it[1][1])):
+        numbers = [row[0] for _, row in run]
+        yield numbers[0], numbers[-1], closed
+
+
 class Statements:
     """The statements of requests, by the caller `anna`."""
 
@@ -62,9 +71,14 @@ class Statements:
     def asker(self, action, collection="tax", klass="y10"):
         self.rows(MATCH_RULE, self.role(), action, collection, klass, DAY)
 
-    def each_pair(self, role, action, pairs):
-        """The rule, asked for once for each pair of collection and class."""
+    def each_kind(self, role, action, pairs):
+        """The rules, and the rule asked for once for each kind of pair of collection and class: names that no
+        rule spells are alike."""
+        spelled = [set(names) for names in zip(*(rule[4:6] for rule in self.rows(RULES)))]
+        known = {}
         for pair in dict.fromkeys(pairs):
+            known.setdefault(tuple(name in names and name for name, names in zip(pair, spelled)), pair)
+        for pair in known.values():
             self.rows(MATCH_RULE, role, action, *pair, DAY)
 
     def row(self, number):
@@ -99,10 +113,7 @@ class Statements:
         self.rows(LIMITS, 1)
         self.rows("SELECT number FROM deposit ORDER BY number DESC LIMIT 1")
         self.years()
-        count = len(self.holds(number, "tax", "y10"))
-        put_row(self.conn, number)
-        self.rows(SET_DUE, number, DUE)
-        self.rows(SET_HOLDS, number, count)
+        put_row(self.conn, number, DUE, len(self.holds(number, "tax", "y10")))
         put_files(self.conn, number, files)
 
     def own_deposit(self, given):
@@ -127,11 +138,11 @@ class Statements:
 
     def list(self, _number):
         role = self.role()
-        self.each_pair(role, "list", [row[2:4] for row in self.rows(BESIDE)])
+        self.each_kind(role, "list", [row[2:4] for row in self.rows(BESIDE)])
 
     def due(self, _number):
         role = self.role()
-        self.each_pair(role, "dispose", [row[1:3] for row in self.rows(DUE_ROWS, DAY, -(2**63))])
+        self.each_kind(role, "dispose", [row[1:3] for row in self.rows(DUE_ROWS, DAY, -(2**63))])
 
     def hold_collection(self, _number):
         self.rows("SELECT name FROM collection WHERE name = ?1", "tax")
@@ -144,10 +155,9 @@ class Statements:
         years = 10 + number % 2
         self.asker("class", collection="")
         self.rows("UPDATE class SET years = ?2 WHERE name = ?1", "y10", years)
-        for deposit, closed in self.rows(
-            "SELECT number, closed FROM deposit WHERE class = ?1 ORDER BY number", "y10"
-        ):
-            self.rows(SET_DUE, deposit, due_day(closed, years))
+        rows = self.rows("SELECT number, closed FROM deposit WHERE class = ?1 ORDER BY number", "y10")
+        for first, last, closed in runs(rows):
+            self.rows(SET_DUES, first, last, due_day(closed, years))
 
 
 def scattered(last, count):
