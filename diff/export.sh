@@ -134,6 +134,7 @@ serve office.db 2025-02-28
 follow "A way out" 1 >page
 mv out whole
 compare "the page's command" "$listed of $listed deposits that ex may list are in out" "$(tail -n 1 page)"
+compare "nobody else may read what is exported" "" "$(find whole -perm /077)"
 compare "its lines" "1 of $listed: PLAIN.1 is deposits/1" "$(head -n 1 page)"
 exported folders all.list whole "$OFFICE" ex
 exported registers whole "$OFFICE" ex
@@ -353,5 +354,4 @@ status=0
 DEPOT=./none examples/export "$OFFICE" ex unmade >noise 2>why || status=$?
 compare "no program" "2; there is no program ./none; DEPOT names it" "$status; $(cat why)"
 compare "nothing was made" "" "$(find . -maxdepth 1 -name unmade)"
-compare "nobody else may read what is exported" "" "$(find out -perm /077)"
 echo "export: $cases cases: $listed deposits of $((count - 1)) kinds are folders as they were deposited, $has_bagit; killed 20 times, a second office has them"
