@@ -497,11 +497,33 @@ pub static DUES: [Part; 9] = [
     ),
 ];
 
+/// What is asked where a text of the third rule isn't UTF-8.
+const BESIDE_NO_UTF_8: &str = "list > Store\n\
+    list-of tax > Store\n\
+    list-class y1 > Store\n\
+    record 1 > record 1 A-1 maps y1 closed 2024-02-29 deposited 2024-03-01 due 2025-02-28 \
+    files 1 bytes 3\n\
+    bag 1 > whole\n\
+    dispose 2 > Denied rule 1\n\
+    2040-01-01 anna\n\
+    dispose 3 > Held 1\n\
+    2030-01-01 carl\n\
+    list > Store\n\
+    due > Store\n\
+    record 2 > Denied default\n\
+    2030-01-01 eve\n\
+    list > Store\n\
+    record 1 > Denied default\n\
+    2030-01-01 anna\n\
+    due > Store";
+
 /// Rules that neither allow nor deny, or that no policy has: one that asks for the empty name, one at
 /// a place after the last that a policy may have, and those with a bound that is no day. Then a role that is
 /// no name. The second rule lets `anna` do everything, the third lets `carl` list. A rule counts on its first
 /// day and on its last, and on none where these are in no order: day 21914 is 2029-12-31, day 21915 the next.
-pub static RULES: [Part; 13] = [
+/// The last parts give the third rule, and then the first, a text that isn't UTF-8: lists and due lists fail,
+/// whoever asks, and what else is asked is decided by the other rules.
+pub static RULES: [Part; 24] = [
     (
         "",
         "UPDATE rule_5 SET effect = 2 WHERE place = 2\n\
@@ -666,6 +688,47 @@ pub static RULES: [Part; 13] = [
          2030-01-01 anna\n\
          list > list: 1 2 3\n\
          due > due on 2030-01-01: 1",
+    ),
+    // These are steps: a part that compares what the tables hold can't show such a text.
+    (
+        "steps",
+        "run|UPDATE rule_5 SET role = CAST(x'ff' AS TEXT) WHERE place = 3",
+    ),
+    ("asks altered", BESIDE_NO_UTF_8),
+    (
+        "steps",
+        "run|UPDATE rule_5 SET role = 'clerk', action = CAST(x'ff' AS TEXT) WHERE place = 3",
+    ),
+    ("asks altered", BESIDE_NO_UTF_8),
+    (
+        "steps",
+        "run|UPDATE rule_5 SET action = 'list', collection = CAST(x'ff' AS TEXT) WHERE place = 3",
+    ),
+    ("asks altered", BESIDE_NO_UTF_8),
+    (
+        "steps",
+        "run|UPDATE rule_5 SET collection = '*', class = CAST(x'ff' AS TEXT) WHERE place = 3",
+    ),
+    ("asks altered", BESIDE_NO_UTF_8),
+    (
+        "steps",
+        "run|UPDATE rule_5 SET class = 'y10' WHERE place = 3; UPDATE rule_5 SET collection = \
+         CAST(x'ff' AS TEXT) WHERE place = 1",
+    ),
+    (
+        "asks altered",
+        "dispose 2 > Held 2\n\
+         record 2 > record 2 A-2 tax y10 closed 2024-02-29 deposited 2024-03-01 due 2034-02-28 \
+         files 1 bytes 3\n\
+         list > Store\n\
+         due > Store",
+    ),
+    (
+        "steps",
+        "run|UPDATE rule_5 SET collection = 'tax' WHERE place = 1\n\
+         show|SELECT place, effect, role, action, collection, class, first, last FROM rule_5 ORDER \
+         BY place > 1|0|archivist|dispose|tax|*|-25567|2859848;\
+         2|1|archivist|*|*|*|-25567|2859848;3|1|clerk|list|*|y10|-25567|2859848;",
     ),
 ];
 
