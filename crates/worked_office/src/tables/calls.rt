@@ -3,7 +3,7 @@
 use crate::parts::Part;
 
 /// Each call once.
-pub static CALLS: [&[Part]; 10] = [
+pub static CALLS: [&[Part]; 11] = [
     // An office lasts.
     &[
         (
@@ -88,6 +88,29 @@ pub static CALLS: [&[Part]; 10] = [
              closed: 10, deposited: 11, files: 2, bytes: 300, gone: None }]\n\
              held > 1|5|10|20;--;--;--;y2|2;--;maps;--;1|2026/1|maps|y2|10|11|2|300|||0;\
              4|2026/4|maps|y2|10|11|2|300|900||0;9|2026/9|maps|y2|10|11|2|300|||0;--;--;--;--;",
+        ),
+    ],
+    // Deposits last that are put with a due day and a count of holds.
+    &[
+        (
+            "steps",
+            "create\n\
+             do|class|y2|2;class|kept|-1;collection|maps;collection|tax\n\
+             do|deposit and due|9|2026/9|maps|y2|740|2\n\
+             do|deposit and due|4|2026/4|tax|kept||1\n\
+             do|deposit and due|6|2026/6|tax|y2|739|0",
+        ),
+        (
+            "steps",
+            "read|due|9 > Some(DueRow { number: 9, due: Some(740), holds: 2 })\n\
+             read|due|4 > Some(DueRow { number: 4, due: None, holds: 1 })\n\
+             read|deposit|9 > Some(DepositRow { number: 9, accession: \"2026/9\", collection: \
+             \"maps\", class: \"y2\", closed: 10, deposited: 11, files: 2, bytes: 300, gone: None })\n\
+             read|due rows|740 > [PlaceRow { number: 6, collection: \"tax\", class: \"y2\", due: \
+             Some(739) }]\n\
+             held > 1|5|10|20;--;--;--;kept|-1;y2|2;--;maps;tax;--;\
+             4|2026/4|tax|kept|10|11|2|300|||1;6|2026/6|tax|y2|10|11|2|300||739|0;\
+             9|2026/9|maps|y2|10|11|2|300||740|2;--;--;--;--;",
         ),
     ],
     // Files last.

@@ -3,8 +3,8 @@
 use crate::words::{number, word};
 use office_tables::{
     CallerRow, HoldTarget, NewDeposit, RuleRow, TableFault, add_holds, add_holds_class, drop_files,
-    end_hold, mark_gone, put_class, put_collection, put_deposit, put_file, put_hold, put_marked,
-    put_policy, set_due, set_dues, set_holds,
+    end_hold, mark_gone, put_class, put_collection, put_deposit, put_deposit_and_due, put_file,
+    put_hold, put_marked, put_policy, set_due, set_dues, set_holds,
 };
 use sqlite::{Alter, Transaction};
 use std::alloc::{AllocError, Global};
@@ -96,6 +96,11 @@ fn change_deposit<S: Alter>(tx: &mut Transaction<'_, S>, words: &[&str]) -> Resu
     let deposit = number(words, 1);
     match word(words, 0) {
         "deposit" => put_deposit(tx, deposit_of(words)),
+        "deposit and due" => {
+            let due = word(words, 5).parse().ok();
+            let holds = word(words, 6).parse().unwrap_or(0);
+            put_deposit_and_due(tx, deposit_of(words), due, holds)
+        }
         "gone" => mark_gone(tx, deposit, i64::from(number(words, 2))),
         "file" => put_file(tx, deposit, word(words, 2), word(words, 3).as_bytes()),
         "drop files" => drop_files(tx, deposit),

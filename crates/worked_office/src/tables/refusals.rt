@@ -35,6 +35,10 @@ pub static REFUSALS: [&[Part]; 4] = [
              do|class|new|5;deposit|2|2026/2|maps|y9 > Q4\n\
              do|class|new|5;deposit|2|2026/2|MAPS|y2 > Q4\n\
              do|class|new|5;deposit|2|2026/2|| > Q4\n\
+             do|class|new|5;deposit and due|2|2026/1|maps|y2|740|1 > Q4\n\
+             do|class|new|5;deposit and due|1|2026/2|maps|y2|740|1 > Q4\n\
+             do|class|new|5;deposit and due|2|2026/2|plans|y2|740|1 > Q4\n\
+             do|class|new|5;deposit and due|2|2026/2|maps|y9|740|1 > Q4\n\
              do|class|new|5;file|1|data/a| > Q4\n\
              do|class|new|5;hold on deposit|1|1|other > Q4\n\
              do|gone|3|9\n\
@@ -106,6 +110,7 @@ pub static REFUSALS: [&[Part]; 4] = [
              read|contents > Q4\n\
              read|due rows|9 > Q4\n\
              read|rule|keeper|list|maps|y2 > Q4\n\
+             do|deposit and due|1|2026/1|maps|y2|740|1 > Q4\n\
              do|due|1|9 > Q4\n\
              do|dues|1|2|9 > Q4\n\
              do|more holds|maps|1 > Q4\n\
