@@ -18,6 +18,8 @@ from turns import turns as taking_turns
 
 TOP = pathlib.Path(__file__).resolve().parent.parent
 PROGRAM = TOP / "crates" / "office_file" / "out" / "office_file"
+# Another build of the program that is measured, where the environment names one: it takes the other side.
+BESIDE = os.environ.get("BESIDE")
 RUNS = int(os.environ.get("RUNS", "7"))
 # The bag of 10,240 bytes that the program deposits, too.
 DECLARATION = b"BagIt-Version: 1.0\nTag-File-Character-Encoding: UTF-8\n"
@@ -62,9 +64,9 @@ def due_day(closed, years):
 DUE = due_day(20454, 10)
 
 
-def ours(*words):
-    """What the program prints."""
-    found = subprocess.run([str(PROGRAM), *map(str, words)], capture_output=True, text=True)
+def ours(*words, program=PROGRAM):
+    """What the program prints, or another build of it."""
+    found = subprocess.run([str(program), *map(str, words)], capture_output=True, text=True)
     if found.returncode != 0:
         sys.exit(f"{words} ended with {found.returncode}: {found.stderr}")
     return found.stdout
@@ -116,13 +118,12 @@ def file_of(conn, number, path):
     return conn.execute(CONTENT_OF, found).fetchone()[1]
 
 
-def intact_file_of(conn, number, path):
-    """The content of a file, whose SHA-256 is its mark."""
-    found = conn.execute(CONTENT_ID, (number, path)).fetchone()
-    mark, content = conn.execute(CONTENT_OF, found).fetchone()
-    if hashlib.sha256(content).digest() != mark:
-        raise ValueError(f"{path} of deposit {number} was altered")
-    return content
+def intact(conn, content):
+    """The bytes of the content of this number, whose SHA-256 is its mark."""
+    mark, found = conn.execute(CONTENT_OF, (content,)).fetchone()
+    if hashlib.sha256(found).digest() != mark:
+        raise ValueError(f"content {content} was altered")
+    return found
 
 
 def put_row(conn, number, due=None, holds=0):

@@ -46,7 +46,7 @@ def round_trip(folder, name, files):
     memory = max(bench.peak(pack) for _ in range(3)) - size
     print(
         f"pack {name}: {ratio(*plain):.2f} times tar -cf (at most 1.5; {spreads(*plain)}), and"
-        f" {ratio(*synced):.2f} times tar -cf and sync ({spreads(*synced)});"
+        f" {ratio(*synced):.2f} times tar -cf and sync (at most 1.15; {spreads(*synced)});"
         f" memory: the form and {memory / 2**20:.1f} MiB (at most 8)",
         flush=True,
     )

@@ -2,9 +2,10 @@
 """Speed of the whole program: `serve`, `replay` into a file, and the opening of a file.
 
 `get` and `deposit` are requests through `depot serve`, beside the same through `serving.py` (http.server
-and sqlite3, WAL, synchronous FULL); the same client asks both, over a connection for each request, and
-their bodies are compared. `replay` is 2,000 mixed requests into a file, beside the SQL statements alone
-that they make, in their order and in one transaction each, through Python's sqlite3; the start of the
+and sqlite3, WAL, synchronous FULL), or with BESIDE=PROGRAM through another `depot`; the same client asks
+both, over a connection for each request, and their bodies are compared. The processor time of the servers,
+without their start, is compared too. `replay` is 2,000 mixed requests into a file, beside the SQL statements
+alone that they make, in their order and in one transaction each, through Python's sqlite3; the start of the
 program, the opening of the file and its closing count on both sides. `open` is the time of a request that
 changes nothing by `depot ask`, of files of several sizes with rows of 1 MiB, and of one with 100 MiB of
 bags of 10 KiB: figures alone.
@@ -12,16 +13,18 @@ Prints a ratio for each case: of the medians of runs that take turns (RUNS=n, 7 
 `depot` and crates/office_file have to be built. Words behind `program.py` name the cases that are run;
 with none, all are.
 """
+import os
 import re
 import socket
 import subprocess
 import sys
 import time
+from pathlib import Path
 from statistics import median
 
 from bench import DEPOT, TOP, form
 from desk import record as request_record
-from office_file import END_HOLD, FILES, PUT_HOLD, SET_HOLDS
+from office_file import BESIDE, END_HOLD, FILES, PUT_HOLD, SET_HOLDS
 from office_file import copy, filled, main, opened, put_file, say, turns
 from statements import DAY as DAY_NUMBER
 from statements import DUE_ROW, HOLD, LIMITS, Statements
@@ -42,31 +45,43 @@ def asked(port, text):
 
 
 def served(words, requests):
-    """The microseconds that a server takes for these requests, and the bodies of its answers."""
+    """The microseconds that a server takes for these requests, those of its processor time, and the bodies of its
+    answers."""
     server = subprocess.Popen(list(map(str, words)), stdout=subprocess.PIPE)
     port = int(re.match(rb"listening (\d+)\n", server.stdout.readline())[1])
+    started = int(Path(f"/proc/{server.pid}/schedstat").read_text().split()[0]) / 1e9
     begin = time.perf_counter()
     bodies = [asked(port, it) for it in requests]
     took = time.perf_counter() - begin
-    if server.wait() != 0:
+    _, status, used = os.wait4(server.pid, 0)
+    server.returncode = os.waitstatus_to_exitcode(status)
+    if server.returncode != 0:
         sys.exit(f"{words} ended with {server.returncode}")
-    return took * 1e6, bodies
+    return took * 1e6, (used.ru_utime + used.ru_stime - started) * 1e6, bodies
 
 
 def through_servers(folder, name, requests, most):
     """Requests through both servers, each over a copy of an office of 100 deposits."""
-    file, count, last = filled(folder, 100), len(requests), {}
+    file, count = filled(folder, 100), len(requests)
+    processor, last = {"ours": [], "theirs": []}, {}
 
     def side(key, words_of):
-        took, last[key] = served(words_of(copy(file, f"{key}.db")), requests)
+        took, used, last[key] = served(words_of(copy(file, f"{key}.db")), requests)
+        processor[key].append(used)
         return took
 
-    ours = lambda to: [DEPOT, "serve", "--port", 0, "--count", count, to, DAY]
-    theirs = lambda to: [sys.executable, SERVING, to, DAY, count]
-    first, second = turns(lambda: side("ours", ours), lambda: side("theirs", theirs))
+    def through(depot):
+        return lambda to: [depot, "serve", "--port", 0, "--count", count, to, DAY]
+
+    if BESIDE:
+        other, of_other, most = "the other program", through(BESIDE), None
+    else:
+        other, of_other = "http.server and sqlite3", lambda to: [sys.executable, SERVING, to, DAY, count]
+    first, second = turns(lambda: side("ours", through(DEPOT)), lambda: side("theirs", of_other))
     if last["ours"] != last["theirs"]:
         sys.exit(f"{name}: other answers")
-    say(name, count, first, second, "http.server and sqlite3", most)
+    say(name, count, first, second, other, most)
+    say(f"{name}, processor time of the server", count, *processor.values(), other)
 
 
 def head(method, target, body=b""):
@@ -82,7 +97,7 @@ def deposit_target(number):
 
 def get(folder):
     """GETs of a record."""
-    through_servers(folder, "get", [head("GET", f"/deposits/{n % 100 + 1}") for n in range(500)], 1)
+    through_servers(folder, "get", [head("GET", f"/deposits/{n % 100 + 1}") for n in range(2_000)], 1)
 
 
 def deposit(folder):

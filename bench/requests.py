@@ -5,35 +5,39 @@ Each case is measured beside the SQL statements alone that the request makes, in
 one transaction, through Python's sqlite3 (WAL, synchronous FULL, foreign keys on). Prints a ratio for
 each: of the medians of runs that take turns (RUNS=n, 7 if left out). `large`, `several` and `many` are
 ratios of peak memory. The program crates/office_file, which makes the requests, has to be built; it
-doesn't count the opening of the file, and nor does the other side. Words behind `requests.py` name the
-cases that are run; with none, all are.
+doesn't count the opening of the file, and nor does the other side. BESIDE=PROGRAM measures beside another
+build of it instead of the statements. Words behind `requests.py` name the cases that are run; with none,
+all are.
 """
-from office_file import FILES, PUT_DEPOSIT
+from office_file import BESIDE, FILES, PROGRAM, PUT_DEPOSIT
 from office_file import copy, filled, main, opened, ours, own_files, put_file, say, turns, watched
 from statements import scattered, theirs
-from stores import LONG, put_policy, stored
+from stores import LONG, ROLES, naming, put_policy, stored
 
-STATEMENTS = "its statements through Python"
 MANY = 100_000
+
+
+def beside(name, count, asked, stated, most):
+    """What the program takes for so many requests, beside their statements or another build of the program."""
+    other = (lambda: asked(BESIDE)) if BESIDE else stated
+    first, second = turns(lambda: asked(PROGRAM), other)
+    if BESIDE:
+        say(name, count, first, second, "the other program")
+    else:
+        say(name, count, first, second, "its statements through Python", most)
 
 
 def reading(name, file, words, last, count, most=None):
     """A request that changes nothing. `words` are what the program and the statements call it."""
-    first, second = turns(
-        lambda: ours(words[0], file, count),
-        lambda: theirs(file, words[1], scattered(last, count), "ROLLBACK"),
-    )
-    say(name, count, first, second, STATEMENTS, most)
+    asked = lambda program: ours(words[0], file, count, program=program)
+    beside(name, count, asked, lambda: theirs(file, words[1], scattered(last, count), "ROLLBACK"), most)
 
 
-def changing(name, file, words, given, most):
+def changing(name, file, words, given, most=None):
     """A request that changes the file, each time in a copy."""
     count = len(given)
-    first, second = turns(
-        lambda: ours(words[0], copy(file, "ours.db"), count),
-        lambda: theirs(copy(file, "theirs.db"), words[1], given, "COMMIT"),
-    )
-    say(name, count, first, second, STATEMENTS, most)
+    asked = lambda program: ours(words[0], copy(file, "ours.db"), count, program=program)
+    beside(name, count, asked, lambda: theirs(copy(file, "theirs.db"), words[1], given, "COMMIT"), most)
 
 
 def deposit(folder):
@@ -50,23 +54,24 @@ def again(folder):
     print(f"again: the file grows by {grown / count:.0f} bytes a deposit (less than 1,024)", flush=True)
 
 
-def by_many_rules(file):
-    """The same office by the policy of 200 rules."""
-    to = copy(file, f"{file.stem} by 200 rules.db")
+def by_rules(file, name, policy):
+    """The same office by another policy."""
+    to = copy(file, f"{file.stem} by {name}.db")
     conn = opened(to)
     conn.execute("BEGIN")
-    put_policy(conn, LONG)
+    put_policy(conn, policy)
     conn.execute("COMMIT")
     conn.close()
     return to
 
 
-def at_many(folder, name, words, count, most):
+def at_many(folder, name, words, count, most=None):
     """A request that changes nothing, at 100,000 deposits and as many holds, by the policy of the examples
-    and by one of 200 rules."""
+    and by two of 200 rules."""
     file = stored(folder, "held", MANY, lambda number: {"held": True})
     reading(name, file, words, MANY, count, most)
-    reading(f"{name} by 200 rules", by_many_rules(file), words, MANY, count)
+    for rules, policy in (("200 rules", LONG), ("200 rules of other roles", ROLES)):
+        reading(f"{name} by {rules}", by_rules(file, rules, policy), words, MANY, count)
 
 
 def record(folder):
@@ -80,16 +85,22 @@ def disposal(folder):
 
 
 def bag(folder):
-    """Downloads of a bag of 10 KiB, the SHA-256 of each content taken on both sides."""
-    at_many(folder, "bag", ("ask-bags", "bag"), 10_000, 0.75)
+    """Downloads of a bag of 10 KiB, the SHA-256 of each content taken on both sides: beside two statements for each
+    file, as the office made them when the target was set, and beside one."""
+    at_many(folder, "bag by two statements a file", ("ask-bags", "bag_by_paths"), 10_000, 0.75)
+    if not BESIDE:
+        at_many(folder, "bag", ("ask-bags", "bag"), 10_000)
 
 
 def whole_list(folder):
-    """A list of 10,000 records by 200 rules, over 10 pairs of collection and class, and over 5,000."""
+    """A list of 10,000 records by 200 rules, over 10 pairs of collection and class, and over 5,000, also by
+    rules that name 100 of their collections."""
     for pairs in (10, 5_000):
         of = lambda n: {"collection": f"a{n % pairs // 10}", "klass": f"y{n % 10}"}
         file = stored(folder, f"{pairs} pairs", 10_000, of, LONG)
         reading(f"list over {pairs:,} pairs", file, ("ask-lists", "list"), 10_000, 5, 1.5)
+    named = by_rules(file, "rules of 100 collections", naming([f"a{n}" for n in range(100)]))
+    reading(f"list over {pairs:,} pairs, 100 collections named", named, ("ask-lists", "list"), 10_000, 5, 1.5)
 
 
 def past(rows, destroyed=False):
@@ -136,8 +147,10 @@ def hold(folder):
 
 
 def revision(folder):
-    """A class that is revised."""
+    """A class that is revised: over deposits closed on one day, and closed on 5,000 days in turn."""
     over_many(folder, "class", ("ask-classes", "revise"), 2)
+    file = stored(folder, "5,000 days", MANY, lambda n: {"collection": "tax", "closed": 20_454 - n % 5_000})
+    changing(f"class of {MANY:,} closed on 5,000 days", file, ("ask-classes", "revise"), range(1, 3))
 
 
 def peak_of(folder, name, count):

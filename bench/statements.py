@@ -3,8 +3,8 @@ import itertools
 import sys
 import time
 
-from office_file import DUE, FILES, PUT_HOLD, SET_DUES
-from office_file import due_day, intact_file_of, opened, put_files, put_row
+from office_file import CONTENT_ID, DUE, FILES, PUT_HOLD, SET_DUES
+from office_file import due_day, intact, opened, put_files, put_row
 
 DEPOSIT = "SELECT number, accession, collection, class, closed, deposited, files, bytes, gone FROM deposit"
 BESIDE = DEPOSIT.replace("gone", "gone, due, holds") + " ORDER BY number"
@@ -133,8 +133,14 @@ class Statements:
 
     def bag(self, number):
         self.kept_row(number, "download")
+        for _, content in self.rows("SELECT path, content FROM file WHERE deposit = ?1 ORDER BY path", number):
+            intact(self.conn, content)
+
+    def bag_by_paths(self, number):
+        """A download of a bag as the office made it until 2026-11-30: by two statements for each file."""
+        self.kept_row(number, "download")
         for (path,) in self.rows("SELECT path FROM file WHERE deposit = ?1 ORDER BY path", number):
-            intact_file_of(self.conn, number, path)
+            intact(self.conn, self.rows(CONTENT_ID, number, path)[0][0])
 
     def list(self, _number):
         role = self.role()

@@ -20,13 +20,22 @@ SCHEMA = (TOP / "diff" / "schema.sql").read_text().replace(";", "").splitlines()
 SMALL = tomllib.loads((TOP / "examples" / "policy.toml").read_text())
 
 
-def rule(effect, collection):
-    """A rule for the role of `anna`."""
-    return dict(effect=effect, role="archivist", action="*", collection=collection, **{"class": "*"})
+def rule(effect, collection="*", role="archivist", action="*"):
+    """A rule, by default one for the role of `anna`."""
+    return dict(effect=effect, role=role, action=action, collection=collection, **{"class": "*"})
 
 
-# 200 rules, of which the last alone fits what is asked: the others are of other collections.
-LONG = SMALL | {"rule": [rule("deny", f"c{n}") for n in range(1, 200)] + [rule("allow", "*")]}
+def naming(collections):
+    """A policy of 200 rules: one for each of these collections, others for collections that no deposit is in, and the
+    last for all."""
+    others = [rule("deny", f"c{n}") for n in range(1, 200 - len(collections))]
+    return SMALL | {"rule": [rule("allow", it) for it in collections] + others + [rule("allow")]}
+
+
+# 200 rules, of which the last alone fits what is asked: the others are of other collections, or of other roles and
+# another action.
+LONG = naming([])
+ROLES = SMALL | {"rule": [rule("deny", role=f"r{n}", action="audit") for n in range(1, 200)] + [rule("allow")]}
 PUT_DEPOSIT = (
     "INSERT INTO deposit (number, accession, collection, class, closed, deposited, files, bytes, gone,"
     " due, holds) VALUES (?1, ?2, ?3, ?4, ?5, 20500, 1, ?6, ?7, ?8, ?9)"
