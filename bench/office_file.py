@@ -1,6 +1,7 @@
 """What the speed scripts of the office share: the program `crates/office_file`, and files that hold
 an office, which Python fills.
 """
+import calendar
 import datetime
 import functools
 import hashlib
@@ -55,9 +56,10 @@ CONTENT_OF = "SELECT mark, bytes FROM content WHERE id = ?1"
 
 @functools.cache
 def due_day(closed, years):
-    """The number of the day so many years after the day of this number."""
+    """The number of the day so many years after the day of this number: of 29 February 28 February in other years."""
     day = EPOCH + datetime.timedelta(closed)
-    return (day.replace(year=day.year + years) - EPOCH).days
+    last = calendar.monthrange(day.year + years, day.month)[1]
+    return (day.replace(year=day.year + years, day=min(day.day, last)) - EPOCH).days
 
 
 # The due day of a bag: ten years after its closing day.
