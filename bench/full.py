@@ -1,0 +1,192 @@
+#!/usr/bin/env python3
+"""What a full office takes: 999,999 deposits of at most 1,000,000.
+
+Python fills the file (`stores.py`): each deposit has three small files, of which two are its own, and a hold of its own;
+but one in ten thousand is due and has none. One in a thousand is of another collection. `depot serve` over that file is
+asked requests of fourteen kinds, readings first: the small ones many times, over scattered deposits; those that go over
+all deposits once. Prints for each how much processor time the server takes, how long the client waits, and the
+most memory that the server has had until then. Then the office is stopped, backed up as the unit `depot-backup@` does
+it, and started again. No figure has a target, and nothing is on the other side.
+
+Takes some 2 GiB below TMPDIR, 4 GiB of memory, and several minutes. ROWS=n is another number of deposits; DEPOT names
+another program than the built one. crates/office_file has to be built too, since it makes the file.
+"""
+import os
+import re
+import signal
+import socket
+import subprocess
+import sys
+import tempfile
+import time
+from contextlib import closing
+from pathlib import Path
+from statistics import median
+
+import bench
+from office_file import FILES, TOP, opened
+from offices import DAY, TARGET, request
+from stores import small_bag, stored
+from turns import say_machine
+
+DEPOT = Path(os.environ.get("DEPOT", bench.DEPOT))
+ROWS = int(os.environ.get("ROWS", "999999"))
+# How many times a small request is made.
+MANY = 1_000
+BAG = bench.form({path.encode(): content for path, content in FILES})
+MIB = 2**20
+
+
+def is_due(number):
+    """Whether the deposit is one of the few that are due, and have no hold."""
+    return number % 10_000 == 1
+
+
+DUE = [number for number in range(1, ROWS + 1) if is_due(number)]
+HELD = ROWS - len(DUE)
+
+
+def special(number):
+    """What is special of a deposit."""
+    few = {"collection": "tax"} if number % 1_000 == 0 else {}
+    return few | ({"closed": 16_801} if is_due(number) else {"held": True})
+
+
+class Office:
+    """A `depot serve` over a file."""
+
+    def __init__(self, file):
+        begin = time.perf_counter()
+        words = [str(DEPOT), "serve", "--port", "0", "--count", "1000000", str(file), DAY]
+        self.server = subprocess.Popen(words, stdout=subprocess.PIPE)
+        found = re.match(rb"listening (\d+)\n", self.server.stdout.readline())
+        if not found:
+            sys.exit(f"{words} ended with {self.server.wait()}")
+        self.port, self.opening = int(found[1]), time.perf_counter() - begin
+
+    def used(self):
+        """The seconds of processor time that the server has taken."""
+        return int(Path(f"/proc/{self.server.pid}/schedstat").read_text().split()[0]) / 1e9
+
+    def peak(self):
+        """The most memory that the server has had, in MiB."""
+        return int(re.search(r"VmHWM:\s+(\d+) kB", Path(f"/proc/{self.server.pid}/status").read_text())[1]) / 1024
+
+    def ask(self, name, texts, status):
+        """Makes requests of one kind, and says what they took."""
+        waits, before = [], self.used()
+        for text in texts:
+            begin = time.perf_counter()
+            found, body = asked(self.port, text)
+            waits.append(time.perf_counter() - begin)
+            if found != status:
+                sys.exit(f"{name}: {status} is wanted, and {found} came: {body[:200]}")
+        took = (self.used() - before) / len(texts)
+        print(
+            f"{name}: {shown(took)} of processor time, {shown(median(waits))} until the answer was there"
+            f" ({len(texts):,} of them, the last with a body of {len(body):,} bytes; at most {self.peak():.0f} MiB so far)",
+            flush=True,
+        )
+
+    def stop(self):
+        """Ends it, as a unit does."""
+        self.server.send_signal(signal.SIGTERM)
+        self.server.wait()
+
+    def __enter__(self):
+        return self
+
+    def __exit__(self, *_):
+        self.stop()
+
+
+def asked(port, text):
+    """The status of the answer to a request, and its body, by a connection of its own."""
+    with socket.create_connection(("127.0.0.1", port)) as stream:
+        stream.sendall(text)
+        parts = []
+        while part := stream.recv(2**20):
+            parts.append(part)
+    head, body = b"".join(parts).split(b"\r\n\r\n", 1)
+    return int(head.split(b" ", 2)[1]), body
+
+
+def shown(seconds):
+    """A time as it is printed."""
+    return f"{seconds * 1000:.2f} ms" if seconds < 1 else f"{seconds:.1f} s"
+
+
+def scattered(target, method="GET"):
+    """Requests of deposits that lie far from each other, have a hold, and are of the collection of most."""
+    numbers = (n * 7_919 % ROWS + 1 for n in range(2 * MANY))
+    return [request(method, target % it) for it in numbers if not is_due(it) and it % 1_000][:MANY]
+
+
+def read(office):
+    """Requests that change nothing."""
+    for name, target in [
+        ("a record", "/deposits/%d"),
+        ("the holds on a deposit", "/deposits/%d/holds"),
+        ("a bag of three small files", "/deposits/%d/bag"),
+        ("an audit of one", "/deposits/%d/audit"),
+        ("a file", "/deposits/%d/files/data/record"),
+    ]:
+        office.ask(name, scattered(target), 200)
+    office.ask("a disposal that a hold refuses", scattered("/deposits/%d", "DELETE"), 409)
+    office.ask(f"a due list of {len(DUE)}", [request("GET", "/due")] * 20, 200)
+    office.ask(f"a list of a collection of {ROWS // 1_000:,}", [request("GET", "/deposits?collection=tax")], 200)
+    office.ask("a list of all deposits", [request("GET", "/deposits")], 200)
+
+
+def change(office):
+    """Requests that change the file, each brought to the disk."""
+
+    def defined(target, number, body=b""):
+        return [request("PUT", target % n, body) for n in range(number)]
+
+    office.ask("a disposal", [request("DELETE", f"/deposits/{n}") for n in DUE], 200)
+    office.ask("a deposit of 10 KiB", [request("POST", TARGET % (ROWS + 1), BAG)], 201)
+    office.ask("a collection defined", defined("/collections/c%d", 100), 200)
+    office.ask("a class defined", defined("/classes/k%d", 100, b'{"years":3}'), 200)
+    office.ask("a hold on a deposit", [request("POST", "/holds", b'{"deposit":2,"matter":"suit"}')], 201)
+    office.ask("its release", [request("DELETE", f"/holds/{HELD + 1}")], 200)
+    office.ask("a hold on the class of all", [request("POST", "/holds", b'{"class":"y10","matter":"suit"}')], 201)
+    office.ask("its release", [request("DELETE", f"/holds/{HELD + 2}")], 200)
+    office.ask("the class of all revised", [request("PUT", "/classes/y10", b'{"years":11}')], 200)
+
+
+def restart(file, folder):
+    """A backup of the office that was stopped, and a start."""
+    begin = time.perf_counter()
+    words = [str(TOP / "examples" / "systemd" / "backup"), str(file), f"{folder}/backups"]
+    subprocess.run(words, check=True, stdout=subprocess.DEVNULL, env={**os.environ, "DEPOT": str(DEPOT)})
+    between = time.perf_counter() - begin
+    with Office(file) as again:
+        print(f"a restart with a backup: {shown(between + again.opening)}, {shown(again.opening)} of it the opening")
+
+
+def measure(folder):
+    """All of it."""
+    begin = time.perf_counter()
+    file = stored(folder, "full", ROWS, special, bag=small_bag)
+    with closing(opened(file)) as conn:
+        conn.execute("UPDATE office SET max_deposits = 1000000, max_holds = 1000000")
+    size = file.stat().st_size / MIB
+    print(f"a file of {size:.0f} MiB, filled in {shown(time.perf_counter() - begin)}", flush=True)
+    with Office(file) as office:
+        print(
+            f"its opening: {shown(office.used())} of processor time, {shown(office.opening)} until it listens,"
+            f" at most {office.peak():.0f} MiB",
+            flush=True,
+        )
+        read(office)
+        change(office)
+    restart(file, folder)
+
+
+if __name__ == "__main__":
+    if not DEPOT.exists():
+        sys.exit("build the program first: ./depot check examples/bag-a.bagset")
+    say_machine()
+    with tempfile.TemporaryDirectory() as room:
+        measure(room)
