@@ -14,7 +14,6 @@ another program than the built one. crates/office_file has to be built too, sinc
 import os
 import re
 import signal
-import socket
 import subprocess
 import sys
 import tempfile
@@ -26,6 +25,7 @@ from statistics import median
 import bench
 from office_file import FILES, TOP, opened
 from offices import DAY, TARGET, request
+from servers import asked, processor_time
 from stores import small_bag, stored
 from turns import say_machine
 
@@ -66,7 +66,7 @@ class Office:
 
     def used(self):
         """The seconds of processor time that the server has taken."""
-        return int(Path(f"/proc/{self.server.pid}/schedstat").read_text().split()[0]) / 1e9
+        return processor_time(self.server)
 
     def peak(self):
         """The most memory that the server has had, in MiB."""
@@ -98,17 +98,6 @@ class Office:
 
     def __exit__(self, *_):
         self.stop()
-
-
-def asked(port, text):
-    """The status of the answer to a request, and its body, by a connection of its own."""
-    with socket.create_connection(("127.0.0.1", port)) as stream:
-        stream.sendall(text)
-        parts = []
-        while part := stream.recv(2**20):
-            parts.append(part)
-    head, body = b"".join(parts).split(b"\r\n\r\n", 1)
-    return int(head.split(b" ", 2)[1]), body
 
 
 def shown(seconds):

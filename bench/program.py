@@ -15,17 +15,16 @@ with none, all are.
 """
 import os
 import re
-import socket
 import subprocess
 import sys
 import time
-from pathlib import Path
 from statistics import median
 
 from bench import DEPOT, TOP, form
 from desk import record as request_record
 from office_file import BESIDE, END_HOLD, FILES, PUT_HOLD, SET_HOLDS
 from office_file import copy, filled, main, opened, put_file, say, turns
+from servers import asked, processor_time
 from statements import DAY as DAY_NUMBER
 from statements import DUE_ROW, HOLD, LIMITS, Statements
 
@@ -34,24 +33,14 @@ DAY = "2026-02-16"
 BAG = form({path.encode(): content for path, content in FILES})
 
 
-def asked(port, text):
-    """The body of the answer to a request, by a connection of its own."""
-    with socket.create_connection(("127.0.0.1", port)) as stream:
-        stream.sendall(text)
-        parts = []
-        while part := stream.recv(65536):
-            parts.append(part)
-    return b"".join(parts).split(b"\r\n\r\n", 1)[1]
-
-
 def served(words, requests):
     """The microseconds that a server takes for these requests, those of its processor time, and the bodies of its
     answers."""
     server = subprocess.Popen(list(map(str, words)), stdout=subprocess.PIPE)
     port = int(re.match(rb"listening (\d+)\n", server.stdout.readline())[1])
-    started = int(Path(f"/proc/{server.pid}/schedstat").read_text().split()[0]) / 1e9
+    started = processor_time(server)
     begin = time.perf_counter()
-    bodies = [asked(port, it) for it in requests]
+    bodies = [asked(port, it)[1] for it in requests]
     took = time.perf_counter() - begin
     _, status, used = os.wait4(server.pid, 0)
     server.returncode = os.waitstatus_to_exitcode(status)

@@ -7,7 +7,7 @@ from office_file import CONTENT_ID, DUE, FILES, PUT_HOLD, SET_DUES
 from office_file import due_day, intact, opened, put_files, put_row
 
 DEPOSIT = "SELECT number, accession, collection, class, closed, deposited, files, bytes, gone FROM deposit"
-BESIDE = DEPOSIT.replace("gone", "gone, due, holds") + " ORDER BY number"
+DEPOSITS_AND_DUES = DEPOSIT.replace("gone", "gone, due, holds") + " ORDER BY number"
 RULE = "SELECT place, effect, role, action, collection, class, first, last FROM rule_5"
 RULES = RULE + " ORDER BY place"
 MATCH_RULE = RULE + (
@@ -144,7 +144,7 @@ class Statements:
 
     def list(self, _number):
         role = self.role()
-        self.each_kind(role, "list", [row[2:4] for row in self.rows(BESIDE)])
+        self.each_kind(role, "list", [row[2:4] for row in self.rows(DEPOSITS_AND_DUES)])
 
     def due(self, _number):
         role = self.role()
