@@ -1,6 +1,6 @@
 -- How the transaction of one request ends.
 use Rattle.std.proofs.Common.{◌≡◌, ◌⊎◌, inl, inr, Some, Bool, true, false, Result, Ok, Err, OnOk, IsOkAnd, IsTrue, refl, sym, subst, ap, ◌∙◌, true≢false}
-use Rattle.office_engine.proofs.Common.{Ghosts, Trees, Database, Held, state, State, HasCleanDisk, Survives, IsRolledBack, IsOffice, TableFault, Answer, History, with_changes, Item, grown_by_none, visit_on, Rows, IsServedBy, Serves, CommitsTo, IsLeftOf, IsTurn, LeavesAlso, after_item, is_accepted}
+use Rattle.office_engine.proofs.Common.{Ghosts, Trees, Database, Held, state, State, HasCleanDisk, Survives, survives_weaker, IsRolledBack, IsOffice, TableFault, Answer, History, with_changes, Item, grown_by_none, visit_on, Rows, IsServedBy, Serves, CommitsTo, IsLeftOf, IsTurn, LeavesAlso, after_item, is_accepted}
 use Rattle.sqlite.specs.State.{Shows}
 use Rattle.office_history.specs.Runs.{IsFailure}
 use Rattle.office_engine.proofs.Accepted.{no_change}
@@ -111,6 +111,7 @@ module _ {S : Type 0} {g : Ghosts S} {first last : Held S} {decided : Result Ans
           ]
         ];
       };
+      survives_rows = survives_weaker (state g first) (state g end) _ _ (λ _ db may. (may.0, λ r. may.1 r tt)) survives_rows;
       served_rows = λ r has. let it = moved all_rows (MakesRows item) makes_rows (still_rows item given) ends r tt has in (it.0, it.1, it.3);
       leaves_rows = λ r is_open has. either_left all_rows (MakesRows item) (state g first) (state g end) (settled first) survives_rows late r tt is_open has;
       durable_rows = λ r has accepted. elim ends [

@@ -135,6 +135,10 @@ ServesRows old new item given = (r : Rows) → HasRows r old → (next : Rows) �
 abbrev pub IsLeftWith : Rows → Trees → Type 0
 IsLeftWith r left = (found : Database) × IsOfficeWith r found × (left ≡ found.trees)
 
+-- a crash leaves the rows that an office has, and nothing else
+abbrev pub LeavesKeptRows : State → Type 0
+LeavesKeptRows s = (r : Rows) → IsTrue s.is_open → HasRows r s → (left : Trees) → s.may_leave left → IsLeftWith r left
+
 -- it has the rows that the request makes of these
 abbrev pub IsLeftMade : Rows → Item → Trees → Type 0
 IsLeftMade r item left = (given : Answer) × (next : Rows) × RowsMake r item given next × IsLeftWith next left
@@ -164,6 +168,7 @@ pub record IsTurn (old new : State) (item : Item) (given : Answer) : Type 0 wher
   pub durable : Lasts old new item given
   pub leaves : LeavesEither old new (after_item item)
   pub made : LeavesMade old new given
+  pub survives_rows : Survives old new (CommitsRows old item)
   pub served_rows : ServesRows old new item given
   pub leaves_rows : LeavesRows old new item
   pub durable_rows : RowsLast old new item given

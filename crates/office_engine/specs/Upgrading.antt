@@ -5,11 +5,13 @@ use Rattle.sqlite.specs.Effect.{Database}
 use Rattle.sqlite.specs.Store.{Ghosts}
 use Rattle.sqlite.specs.State.{State}
 use Rattle.sqlite.specs.Held.{Held, state}
+use Rattle.office_tables.specs.Moving.{AllRows}
 use Rattle.office_tables.specs.Versions.{version_number}
 use Rattle.office_tables.specs.declared.version.TableVersion.{TableVersion}
 use Rattle.office_tables.specs.declared.version.TableVersion.TheVariants.{Fifth}
 use Rattle.office_history.specs.Histories.{History}
 use Rattle.office_history.specs.Runs.{IsLegal}
+use Rattle.office_asking.specs.Contents.{Rows}
 use Rattle.office_asking.specs.Pictures.{PicturesAt}
 use Rattle.office_engine.specs.Keeping.{IsKeptAt, IsKeptBy, IsLeftAt, IsLeftOf}
 
@@ -59,3 +61,9 @@ StoppedInTurn g first [] left = left ≡ first
 StoppedInTurn g first ((begun, stopped) ∷ more) left =
     IsTrue (state g begun).is_open × ((state g begun).now.trees ≡ first) × LeavesAt (state g begun) (state g stopped)
     × (between : Trees) × (state g stopped).may_leave between × StoppedInTurn g between more left
+
+-- ---- whichever rows an office has
+
+-- these rows, as an upgrade speaks of them
+abbrev pub all_rows_of : Rows → AllRows
+all_rows_of r = record { tables = r.tables; contents = r.contents.rows; references = r.contents.references }

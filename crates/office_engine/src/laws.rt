@@ -16,6 +16,7 @@ ghost use Rattle.office_rows.specs.Rows.{Tables, empty_office, this_version};
 ghost use Rattle.office_tables.specs.Tables.{Becomes, IsOffice, contents_of, tables_of};
 ghost use Rattle.office_tables.specs.Contents.{DiffersInBytes, IsMarked, KeepsOnce};
 ghost use Rattle.office_tables.specs.declared.version.TableVersion.{TableVersion};
+ghost use Rattle.office_tables.specs.declared.version.TableVersion.TheVariants.{Fifth};
 ghost use Rattle.office_history.specs.Histories.{History};
 ghost use Rattle.office_history.specs.Answers.{after, answer};
 ghost use Rattle.office_history.specs.Pictures.{due_rows, picture};
@@ -28,10 +29,12 @@ ghost use Rattle.office_by_rows.specs.Stock.{stock_by};
 ghost use Rattle.office_asking.specs.Contents.{Rows, rows_of};
 ghost use Rattle.office_asking.specs.Pictures.{Pictures};
 ghost use Rattle.office_asking.specs.Serving.{rows_after, serve_rows};
+ghost use Rattle.office_upgrade.specs.Upgrading as rows;
+ghost use Rattle.office_upgrade.specs.Upgrading.{TellsNoOther};
 ghost use Rattle.office_engine.specs.ByRows.{RowsTell};
-ghost use Rattle.office_engine.specs.Keeping.{IsFoundAfter, IsKeptAt, IsKeptBy, IsLeftAt};
+ghost use Rattle.office_engine.specs.Keeping.{HasRows, IsFoundAfter, IsKeptAt, IsKeptBy, IsLeftAt, IsLeftWith};
 ghost use Rattle.office_engine.specs.OtherBytes.{AreUnderDigests, HasDigestAt, HasDigestsOf, IsUnderDigest};
-ghost use Rattle.office_engine.specs.Upgrading.{IsLeftOfUpgrade, LeavesAt, StoppedInTurn, TakesUp};
+ghost use Rattle.office_engine.specs.Upgrading.{IsLeftOfUpgrade, LeavesAt, StoppedInTurn, TakesUp, all_rows_of};
 
 pub use office_history::laws::{
     a_class_that_gets_its_old_years_back_has_its_old_due_days,
@@ -181,4 +184,11 @@ pub fn a_stopped_upgrade_goes_on<S: Alter>()
     ensures done { (again done : Held S) (version : TableVersion) (h : History)
         → IsLeftOfUpgrade version h (state S.Store again).now.trees
         → TakesUp (state S.Store again) (state S.Store done) → IsKeptBy h (state S.Store done) }
+{}
+
+/// Rows that a crash left are those of the office that takes them up, whichever they are.
+pub fn rows_left_are_taken_up<S: Alter>()
+    ensures { (again done : Held S) (r : Rows) → TellsNoOther Fifth (all_rows_of r)
+        → IsLeftWith r (state S.Store again).now.trees
+        → rows.TakesUp (state S.Store again) (state S.Store done) → HasRows r (state S.Store done) }
 {}

@@ -26,7 +26,7 @@ ghost use Rattle.office_tables.specs.declared.version.TableVersion.{TableVersion
 ghost use Rattle.office_upgrade.specs.Upgrading as rows;
 ghost use Rattle.office_upgrade.specs.Upgrading.{HasUnknownVersion, IsOlder, IsUpgrade, NewestSurvives, TellsVersion, TellsKnown, TellsUnknown};
 ghost use Rattle.office_engine.specs.Upgrading.{GoesBackAt, IsUpgradeOf, LeavesAt, OpensOlder, StaysAt, TakesUp, UpgradeLasts, Upgrades};
-ghost use Rattle.office_engine.specs.Keeping.{AllStayShut, AreToldDue, CommitsInstalled, CommitsRows, CommitsRun, CommitsRunRows, CommitsTo, CountsStock, IfClean, InTurn, InstallLasts, InstalledRowsLast, Installs, InstallsRows, IsKeptBy, IsKeptOfRun, IsLeftAt, IsLeftOf, IsLeftOfEither, IsLeftOfRun, IsToldByRows, IsToldStock, Lasts, LeavesEither, LeavesInstalled, LeavesInstalledRows, LeavesKept, LeavesMade, LeavesRows, LeavesRun, LeavesRunRows, ListsDue, RowsLast, Runs, RunsRows, Serves, ServesRows, StaysShut, after_item, is_accepted, after_policy};
+ghost use Rattle.office_engine.specs.Keeping.{AllStayShut, AreToldDue, CommitsInstalled, CommitsRows, CommitsRun, CommitsRunRows, CommitsTo, CountsStock, IfClean, InTurn, InstallLasts, InstalledRowsLast, Installs, InstallsRows, IsKeptBy, IsKeptOfRun, IsLeftAt, IsLeftOf, IsLeftOfEither, IsLeftOfRun, IsToldByRows, IsToldStock, Lasts, LeavesEither, LeavesInstalled, LeavesInstalledRows, LeavesKept, LeavesKeptRows, LeavesMade, LeavesRows, LeavesRun, LeavesRunRows, ListsDue, RowsLast, Runs, RunsRows, Serves, ServesRows, StaysShut, after_item, is_accepted, after_policy};
 
 use crate::installing::install;
 use crate::listing::{due_list, stock};
@@ -326,6 +326,7 @@ impl<S: Alter> Office<S> {
             IfOk result (λ answers. AllStayShut old new answers.items)) }
         ensures failed { OnErr result (self.new ≡ self.old) }
         ensures failed_leaves { OnErr result (LeavesKept (state S.Store self.new)) }
+        ensures failed_leaves_rows { OnErr result (LeavesKeptRows (state S.Store self.new)) }
         // What a crash leaves has every change that was answered as accepted.
         ensures survives { IfOk result (λ answers.
             Survives (state S.Store self.old) (state S.Store self.new)

@@ -15,6 +15,7 @@ returns g c = (
       rows = c.step-answer.ensures.rows honest;
       shut = c.step-answer.ensures.shut honest;
       survives = c.step-answer.ensures.survives;
+      survives_rows = c.step-answer.ensures.survives_rows;
       durable = c.step-answer.ensures.durable honest;
       leaves = c.step-answer.ensures.leaves honest;
       made = c.step-answer.ensures.made honest;

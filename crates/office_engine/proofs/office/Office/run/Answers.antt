@@ -1,5 +1,5 @@
 use Rattle.std.proofs.Common.{arith, rules}
-use Rattle.office_engine.proofs.Common.{⊤, HasCleanDisk, state, survives_then, Pictures, IsTurn}
+use Rattle.office_engine.proofs.Common.{⊤, HasCleanDisk, state, survives_then, Pictures, IsOfficeWith, IsTurn}
 use Rattle.office_engine.proofs.Ends.{left_settled}
 use Rattle.office_engine.proofs.RunTurns.{left_rows, left_run, on_err, ran, ran_rows, survived, survives_run, turns_end, turns_next, turns_shut}
 use Rattle.office_engine.proofs.office.Office.run.Goals as goal
@@ -16,6 +16,7 @@ loop-item-preserved g c = record {
         rows = c.step.ensures.rows clean;
         shut = c.step.ensures.shut clean;
         survives = c.step.ensures.survives;
+        survives_rows = c.step.ensures.survives_rows;
         durable = c.step.ensures.durable clean;
         leaves = c.step.ensures.leaves clean;
         made = c.step.ensures.made clean;
@@ -64,3 +65,7 @@ returns-clause-survives_rows g c =
 pub returns-in_err-answers-clause-failed_leaves : goal.returns-in_err-answers-clause-failed_leaves
 returns-in_err-answers-clause-failed_leaves g c =
     on_err c.from_residual.result (λ h is_open keeps. left_settled (Pictures h) (state g.S.Store c.args.self.now) (λ db opened left. g.met.S.Store.settled c.args.self.now.store db opened left) is_open keeps)
+
+pub returns-in_err-answers-clause-failed_leaves_rows : goal.returns-in_err-answers-clause-failed_leaves_rows
+returns-in_err-answers-clause-failed_leaves_rows g c =
+    on_err c.from_residual.result (λ r is_open has. left_settled (IsOfficeWith r) (state g.S.Store c.args.self.now) (λ db opened left. g.met.S.Store.settled c.args.self.now.store db opened left) is_open has)
