@@ -7,6 +7,7 @@ ghost use Rattle.office_tables.specs.Calls.{GoesOnInside};
 ghost use Rattle.office_history.specs.Runs.{IsFailure};
 ghost use Rattle.office_asking.specs.Asking.{visit_on};
 ghost use Rattle.office_asking.specs.Serving.{Serves};
+ghost use Rattle.office_engine.specs.Deciding.{is_reading};
 ghost use Rattle.office_engine.specs.Keeping.{CommitsRows, CommitsTo, IfClean, IsTurn, after_item, is_accepted};
 
 use office_core::{Answer, Day, Refusal, Request};
@@ -44,6 +45,40 @@ fn is_accepted(answer: &Answer) -> bool
         Answer::HoldReleased { .. } => true,
         Answer::Destroyed { .. } => true,
         _ => false,
+    }
+}
+
+/// What a request that only reads comes to inside a transaction.
+fn read<S: Alter>(
+    alloc: Global,
+    tx: &mut Transaction<'_, S>,
+    day: Day,
+    caller: &str,
+    request: &Request<'_>,
+) -> Result<Answer, TableFault>
+    requires { IsTrue (is_reading request.now) }
+    ensures inside { GoesOnInside S.Store tx.old.conn tx.new.conn result }
+    ensures serves { Serves S.Store tx.old.conn.now tx.new.conn.now result
+        (visit_on day caller.now) request.now }
+{
+    match request {
+        Request::List { collection, class } => list(
+            alloc,
+            tx,
+            day,
+            caller,
+            collection.as_ref(),
+            class.as_ref(),
+        ),
+        Request::Record { deposit } => record(alloc, tx, day, caller, *deposit),
+        Request::Holds { deposit } => holds(alloc, tx, day, caller, *deposit),
+        Request::DownloadBag { deposit } => download_bag(alloc, tx, day, caller, *deposit),
+        Request::DownloadFile { deposit, path } => {
+            download_file(tx, day, caller, *deposit, path)
+        }
+        Request::Audit { deposit } => audit(alloc, tx, day, caller, *deposit),
+        Request::DueList => due_list(alloc, tx, day, caller),
+        _ => unreachable!(),
     }
 }
 
@@ -88,22 +123,7 @@ fn decide<S: Alter>(
         Request::HoldClass { class, matter } => hold_class(tx, day, caller, class, matter),
         Request::Release { hold } => release(alloc, tx, day, caller, *hold),
         Request::Dispose { deposit } => dispose(alloc, tx, day, caller, *deposit),
-        Request::List { collection, class } => list(
-            alloc,
-            tx,
-            day,
-            caller,
-            collection.as_ref(),
-            class.as_ref(),
-        ),
-        Request::Record { deposit } => record(alloc, tx, day, caller, *deposit),
-        Request::Holds { deposit } => holds(alloc, tx, day, caller, *deposit),
-        Request::DownloadBag { deposit } => download_bag(alloc, tx, day, caller, *deposit),
-        Request::DownloadFile { deposit, path } => {
-            download_file(tx, day, caller, *deposit, path)
-        }
-        Request::Audit { deposit } => audit(alloc, tx, day, caller, *deposit),
-        Request::DueList => due_list(alloc, tx, day, caller),
+        _ => read(alloc, tx, day, caller, request),
     }
 }
 

@@ -1,7 +1,7 @@
 use Rattle.std.proofs.Common.{◌≡◌, sym, subst, rules}
 use Rattle.std.specs.Prelude.{Result, IfOk}
 use Rattle.office_engine.proofs.Common.{IfOk-weaker, Database, state, Answer, Request, TableFault, Visit, visit_on, IsServedBy}
-use Rattle.office_engine.proofs.serving.decide.Goals as goal
+use Rattle.office_engine.proofs.serving.read.Goals as goal
 
 -- what reads alone is served, by whichever name the request has
 read : (old new : Database) (visit : Visit) (request named : Request) (result : Result Answer TableFault) → request ≡ named → IfOk result (λ given. (new ≡ old) × IsServedBy visit named old new given) → IfOk result (IsServedBy visit request old new)
