@@ -29,12 +29,12 @@ use http_desk::Counted;
 use office_core::Limits;
 use office_engine::Office;
 use office_rows::MAX_LIMIT;
-use office_tables::open_file;
 use sqlite::{Alter, Connection, Error, ErrorCode, FileFrom, FileStore, Files, Start};
 use sqlite_disk::Disk;
 use std::fs::{self, OpenOptions};
 use std::io::{self, ErrorKind, Read, Write};
 use std::rt::HostRuntime;
+use store_file::open_file;
 
 /// The limits of an office that the program makes.
 fn limits() -> Limits

@@ -5,7 +5,6 @@ pub mod Turn
 pub mod FoundAfter
 pub mod Kept
 pub mod RunTurns
-pub mod Stopping
 pub mod Upgraded
 pub mod RowsAccepted
 pub mod ServedByRows

@@ -7,5 +7,5 @@ mod listing;
 mod office;
 mod serving;
 
-pub use office::{Office, StoppedRun, reopen, stop_in, stop_in_run};
+pub use office::Office;
 pub use office_serving::Stock;

@@ -8,9 +8,9 @@ use crate::timed::{self, Call};
 use crate::upgrading::{told_version, upgraded};
 use anyhow::{Context, Result, bail};
 use office_engine::Office;
-use office_tables::open_file;
 use sqlite::{Alter, Connection, Error, File, FileStore, Unknown};
 use std::time::{Duration, Instant};
+use store_file::open_file;
 
 /// What is done with the file.
 #[derive(Clone, Copy)]

@@ -42,4 +42,3 @@ pub mod MovedRules
 pub mod Versioned
 pub mod FoundAgain
 pub mod Settled
-pub mod Reopened

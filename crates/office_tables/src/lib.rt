@@ -16,7 +16,6 @@ mod policy;
 mod recovery;
 mod rows;
 mod run;
-mod store_file;
 mod version;
 
 pub use classes::{class_of, has_collection, put_class, put_collection};
@@ -40,6 +39,5 @@ pub use kept::{ContentSize, contents};
 pub use moving::{move_holds, renew_fourth};
 pub use opening::{OfficeLimits, has_office, limits, open_tables, version_told};
 pub use policy::{CallerRow, RuleRow, match_rule, put_policy, role_of, rules};
-pub use recovery::{adopt, reopen, reopen_files, stop};
-pub use store_file::open_file;
+pub use recovery::adopt;
 pub use version::TableVersion;

@@ -1,28 +1,20 @@
 //! An office that is found again: of what was left of one, its rows as they were. It speaks of databases, so of all that
 //! can be said of one.
 
-ghost use Rattle.std.specs.Prelude.{◌≡◌, ◌≤◌, Err, None, Some, false, IsTrue, IfOk, IfErr, IfSome};
-ghost use Rattle.sqlite.specs.State.{HasCleanDisk, Survives};
+ghost use Rattle.std.specs.Prelude.{◌≡◌, Err, None, Some, false, IsTrue, IfOk, IfErr};
+ghost use Rattle.sqlite.specs.State.{Survives};
 ghost use Rattle.sqlite.specs.Held.{state};
-ghost use Rattle.sqlite.specs.Files.{file_state, image_of};
-ghost use Rattle.sqlite.specs.FileStore.{view, state as files_state};
-ghost use Rattle.sqlite.specs.Recovery.{Image};
-ghost use Rattle.sqlite.specs.View.{IsClean, doubt};
-ghost use Rattle.sqlite.specs.WalFiles.{image_at};
 ghost use Rattle.office_rows.specs.Rows.{Tables, this_version, version_of};
 ghost use Rattle.office_tables.specs.Faults.{IsFailure};
 ghost use Rattle.office_tables.specs.Opening as opening;
 ghost use Rattle.office_tables.specs.Opening.{HasOtherVersion, HasVersion, IfRefused, IfTaken, KeepsTables, IsKnownAsOther, IsLeft, has_office};
 ghost use Rattle.office_tables.specs.Versions.{IfKnownOffice};
 ghost use Rattle.office_tables.specs.declared.fault.TableFault.TheVariants.{NotAnOffice, OtherVersion};
-ghost use Rattle.office_tables.specs.Found.{GoesOnAs, HoldsWhere, PicksUp};
+ghost use Rattle.office_tables.specs.Found.{GoesOnAs};
 
 use crate::fault::TableFault;
 use crate::opening::open_tables;
-use crate::store_file::open_file;
-use sqlite::{Alter, Connection, FileFrom, FileStore, Files, Options, Start};
-use sqlite_disk::Disk;
-use std::alloc::Global;
+use sqlite::{Alter, Connection};
 
 /// Takes a connection that shows an office of this version. It doesn't test the rows of the other
 /// tables.
@@ -78,63 +70,4 @@ pub fn adopt<S: Alter>(
         Ok(()) => Ok(conn),
         Err(stopped) => Err((conn, stopped)),
     }
-}
-
-/// Opens the files of an office by a path of the host. They may be what a crash left. `None` where
-/// they can't be opened, or are no office of this version.
-pub fn reopen<S: Start>(
-    rt: &HostRuntime,
-    path: &str,
-    start: S,
-) -> Option<Connection<FileStore<FileFrom<S>>>>
-    ensures outside { IfSome result (λ office. (file_state office).in_transaction ≡ false) }
-    // It is an office of this version, and never any other database.
-    ensures version { IfSome result (λ office.
-        HasCleanDisk (file_state office) → IsTrue (file_state office).is_open
-        → HasVersion (file_state office).now this_version) }
-    ensures goes_on { IfSome result (λ office.
-        HasCleanDisk (file_state office) → PicksUp (image_at S.Start) (file_state office)) }
-{
-    let conn = match open_file(rt, path, start) {
-        Ok(conn) => conn,
-        Err(_) => return None,
-    };
-    match adopt(conn) {
-        Ok(office) => Some(office),
-        Err(_refused) => None,
-    }
-}
-
-/// The same over any two files.
-pub fn reopen_files<D: Disk + Drop>(
-    alloc: Global,
-    files: Files<D>,
-    options: Options,
-) -> Option<Connection<FileStore<D>>>
-    requires log { IsTrue (D.Disk.is_usable files.log) }
-    requires db { IsTrue (D.Disk.is_usable files.db) }
-    ensures outside { IfSome result (λ office. (file_state office).in_transaction ≡ false) }
-    ensures version { IfSome result (λ office.
-        HasCleanDisk (file_state office) → IsTrue (file_state office).is_open
-        → HasVersion (file_state office).now this_version) }
-    ensures goes_on { IfSome result (λ office.
-        HasCleanDisk (file_state office) → PicksUp (image_of D.Disk files) (file_state office)) }
-{
-    let conn = match Connection::open_files(alloc, files, options) {
-        Ok(conn) => conn,
-        Err(_) => return None,
-    };
-    match adopt(conn) {
-        Ok(office) => Some(office),
-        Err(_) => None,
-    }
-}
-
-/// The store of a connection, as it is when the program stops.
-pub fn stop<D: Disk + Drop>(office: Connection<FileStore<D>>) -> FileStore<D>
-    ensures clean { doubt (file_state office).is_clean ≤ doubt (view result).is_clean }
-    ensures holds { IsClean (view result) → (image : Image) → (files_state result).may_leave image
-        → HoldsWhere (file_state office).may_leave image }
-{
-    office.into_store()
 }

@@ -1,6 +1,6 @@
-//! The file of an office, with as many of its pages in memory as it has, up to a limit.
+//! A file that is opened, or made.
 
-ghost use Rattle.std.specs.Prelude.{◌≢◌, ◌≤◌, ◌<◌, ◌*◌, ◌≡◌, ◌⊎◌, ◌+◌, ◌/◌, Err, IfErr, IfOk, IfSome, IsErrAnd, IsTrue, None, codes, false, min, true};
+ghost use Rattle.std.specs.Prelude.{◌≡◌, ◌⊎◌, Err, IfErr, IfOk, IfSome, IsErrAnd, IsTrue, None, codes, false, true};
 ghost use Rattle.sqlite.specs.Files.{FailsToOpenFiles, IsBlankAs, IsCleanLeft, IsOpened, LeavesFiles, file_state};
 ghost use Rattle.sqlite.specs.FileStore.{view};
 ghost use Rattle.sqlite.specs.Held.{IsNew};
@@ -10,21 +10,11 @@ ghost use Rattle.sqlite.specs.State.{HasCleanDisk};
 ghost use Rattle.sqlite.specs.WalFiles.{image_at};
 ghost use Rattle.sqlite_std_file.specs.File.{IsFresh, file_is_usable};
 
+use crate::pages::pages_of;
 use sqlite::{Connection, Error, ErrorCode, FileFrom, FileStore, Files, Leftover, Options, Start};
 use sqlite_std_file::OpenError;
-use std::fs;
 use std::hash::{BuildHasher, RandomState};
-use std::io::{ErrorKind, Read};
-
-/// The most bytes of a file's pages that are kept in memory: 128 MiB. Opening takes the memory of all that
-/// are to be kept, so a small file gets fewer.
-const CACHED_BYTES: u64 = 134_217_728;
-
-/// How many more are kept than the file has as it is opened, for what is written after: 2,000 pages of 4 KiB.
-const SPARE_BYTES: u64 = 8_192_000;
-
-/// The length of a page of each file that is made here.
-const PAGE_BYTES: u64 = 4_096;
+use std::io::ErrorKind;
 
 const CANNOT_OPEN: Error = Error::SqliteFailure(ErrorCode::CannotOpen);
 
@@ -52,52 +42,6 @@ fn open_pair<S: Start>(rt: &HostRuntime, path: &str, start: S) -> Result<Files<F
         Err(OpenError::Busy) => Err(Error::SqliteFailure(ErrorCode::DatabaseBusy)),
         Err(OpenError::Io(error)) if error.kind() == ErrorKind::OutOfMemory => Err(NO_MEMORY),
         Err(_) => Err(CANNOT_OPEN),
-    }
-}
-
-/// How long a page of a file is whose header has this number: 1 stands for 65,536. One that stands for no length
-/// counts as that of the files that are made here.
-fn page_bytes(told: u16) -> u64
-    ensures ones { told ≡ 1 → result ≡ 65536 }
-    ensures small { told ≢ 1 → told < 512 → result ≡ 4096 }
-    ensures others { 512 ≤ told → result ≡ told }
-{
-    match told {
-        1 => 65_536,
-        0..512 => PAGE_BYTES,
-        _ => u64::from(told),
-    }
-}
-
-/// How many pages of that length are kept of a file of this length: at most 128 MiB of them.
-fn pages_to_keep(bytes: u64, page_bytes: u64) -> usize
-    requires { 0 < page_bytes }
-    ensures exact { result ≡ min (bytes + 8192000) 134217728 / page_bytes }
-    ensures most { result * page_bytes ≤ 134217728 }
-{
-    let kept = bytes.saturating_add(SPARE_BYTES).min(CACHED_BYTES);
-    (kept / page_bytes) as usize
-}
-
-/// The number in the header of the file at the path that stands for the length of its pages: 0 where none is read.
-fn told_in(rt: &HostRuntime, path: &str) -> u16 {
-    let mut header = [0u8; 18];
-    let Ok(mut file) = fs::open(rt, path) else {
-        return 0;
-    };
-    if file.read_exact(&mut header).is_err() {
-        return 0;
-    }
-    u16::from_be_bytes([header[16], header[17]])
-}
-
-/// How many pages are kept of the file at the path, as it is found.
-fn pages_of(rt: &HostRuntime, path: &str) -> usize {
-    match fs::metadata(rt, path) {
-        Ok(found) if found.is_file() => {
-            pages_to_keep(found.len(), page_bytes(told_in(rt, path)))
-        }
-        _ => pages_to_keep(0, PAGE_BYTES),
     }
 }
 

@@ -1,7 +1,7 @@
 use Rattle.std.proofs.Common.{IfOk, arith, sym, subst, ◌∙◌}
 use Rattle.office_engine.proofs.Common.{IfOk-weaker, Trees, HasCleanDisk, file_state, after, Item, IsLeftOf, IsLeftOfEither, IsLeftOfRun, LeavesEither, LeavesKept, LeavesRun, after_item}
-use Rattle.office_engine.proofs.Stopping.{holds_all, if_some, on_err_both}
-use Rattle.office_engine.proofs.office.stop_after.Goals as goal
+use Rattle.office_stops.proofs.Stopping.{holds_all, if_some, on_err_both}
+use Rattle.office_stops.proofs.stops.stop_after.Goals as goal
 
 pub returns-in-Some-clause-one : goal.returns-in-Some-clause-one
 returns-in-Some-clause-one g c clean =

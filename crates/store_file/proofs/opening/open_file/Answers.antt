@@ -3,7 +3,7 @@ use Rattle.sqlite_disk.specs.Events.{Event, replay}
 use Rattle.sqlite.specs.Recovery.{Image}
 use Rattle.sqlite.specs.Files.{IsBlankAs, file_state}
 use Rattle.sqlite.specs.Start.{FindsIn}
-use Rattle.office_tables.proofs.store_file.open_file.Goals as goal
+use Rattle.store_file.proofs.opening.open_file.Goals as goal
 
 abbrev image : List ℕ → List ℕ → Image
 image log db = record { log = log; db = db }

@@ -1,6 +1,6 @@
 use Rattle.sqlite.specs.Files.{file_state}
-use Rattle.office_tables.proofs.Reopened.{holds_left}
-use Rattle.office_tables.proofs.recovery.stop.Goals as goal
+use Rattle.office_stops.proofs.Reopened.{holds_left}
+use Rattle.office_stops.proofs.stops.stop.Goals as goal
 
 pub returns-clause-holds : goal.returns-clause-holds
 returns-clause-holds g c clean image may =

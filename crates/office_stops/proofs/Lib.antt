@@ -1,0 +1,2 @@
+pub mod Reopened
+pub mod Stopping
