@@ -5,7 +5,7 @@ ghost use Rattle.sha2.specs.Sha256.{sha256};
 ghost use Rattle.bag_text.specs.TransferForm.{File};
 ghost use Rattle.bag_text.specs.TransferReading.{file_of, files_of};
 ghost use Rattle.bag_check.specs.Answers.{listed_seen};
-ghost use Rattle.bag_check.specs.Digests.{AreRightOf, ListsSha256};
+ghost use Rattle.bag_check.specs.Digests.{AreRightOf, ListsSha256, listed_sha256};
 
 use crate::listed::Listed;
 use bag_text::Checksum;
@@ -14,7 +14,8 @@ use std::alloc::{AllocError, Global};
 
 /// The SHA-256 that a manifest lists of a path.
 fn listed_digest(listed: &Listed<'_>, path: &str) -> Option<[u8; 32]>
-    ensures { IfSome result (λ digest.
+    ensures exact { result ≡ listed_sha256 listed.now.manifest path.now }
+    ensures listed { IfSome result (λ digest.
         ListsSha256 (listed_seen listed.now).entries path.now digest) }
 {
     match listed.manifest.get(path)?.checksum {
