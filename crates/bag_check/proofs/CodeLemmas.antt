@@ -1,6 +1,6 @@
 -- Reading and judging, item after item.
 use Rattle.std.proofs.Common.{◌≡◌, ℕ, zero, suc, ◌+◌, ◌*◌, ◌<◌, ◌≤◌, Bool, true, false, cond, not, ◌&&◌, ◌||◌, List, [], ◌∷◌, ◌++◌, length, get_or, drop, map, filter, nat_lt, refl, sym, ap, ◌∙◌, arith, append_assoc}
-use Rattle.std.specs.Prelude.{Option, Some, None, Result, Ok, Err, sum_by, is_some, codes, decimal}
+use Rattle.std.specs.Prelude.{Option, Some, None, Result, Ok, Err, sum_by, is_some, option_and_then, codes, decimal}
 use Rattle.std.specs.Fmt.{digits}
 use Rattle.std.specs.Ordering.{nat_cmp}
 use Rattle.std.specs.Cmp.Lexicographic.{slice_cmp}
@@ -10,7 +10,7 @@ use Rattle.std.specs.Cow.{cow_str_bytes}
 use Rattle.std.specs.declared.borrow.CowStr.{CowStr}
 use Rattle.std.specs.Global.{Global}
 use Rattle.std.specs.List.{list_any, count_by, AllByRecursion}
-use Rattle.std.proofs.lemmas.List.{drop_more}
+use Rattle.std.proofs.lemmas.List.{append-nil, drop_more, length-map}
 use Rattle.std.proofs.lemmas.List.Recursion.{is_count_by}
 use Rattle.std.proofs.lemmas.List.Sums.{sum-map, sum_by-cons}
 use Rattle.std.proofs.lemmas.Bool.{and_parts}
@@ -26,16 +26,17 @@ use Rattle.bag_text.specs.ManifestReading.{entry_in, is_path_listed, manifest_of
 use Rattle.bag_text.specs.BagInfo.{Pair}
 use Rattle.bag_text.specs.InfoReading.{Kept, pair_in, pairs_of}
 use Rattle.bag_check.specs.declared.rule.Rule.{Rule}
-use Rattle.bag_check.specs.declared.rule.Rule.TheVariants.{OutsidePayload, TagManifestListed, PayloadInTagManifest, PayloadManifestUnlisted, Missing, Unlisted, ChecksumWrong}
 use Rattle.bag_check.specs.declared.names.Kind.{Kind}
 use Rattle.bag_text.specs.declared.checksum.Algorithm.{Algorithm}
 use Rattle.bag_check.specs.Contents.{is_payload, payload_of, manifest_name, algorithm_named}
 use Rattle.bag_check.specs.Validity.{is_oxum, oxums_of, payload_files, payload_bytes, manifest_count, Report}
-use Rattle.bag_check.specs.FaultTexts.{is_escaped, printed_text, printed_byte, fault_text}
-use Rattle.bag_check.specs.Faults.{Fault, Breaks, rule_number}
+use Rattle.bag_check.specs.FaultTexts.{is_escaped, printed_text, printed_byte}
+use Rattle.bag_check.specs.Faults.{Fault, NoDeclaration, Declaration, FetchNotSupported, UnsupportedAlgorithm, NoPayloadManifest, ManifestText, Breaks, InfoText, OxumForm, OxumTwice, OxumWrong, rule_number}
+use Rattle.bag_check.specs.Answers.{number_or, manifest_in, path_in, after_space, cause_or, text_or}
 use Rattle.bag_text.specs.Answers.{◌>>=◌, FailsAs}
-use Rattle.bag_check.specs.Judging.{Named, Listed, named_of, with_manifest, manifests_in, listed_or_fault, listings_of, asks_for, first_unlisted, first_in, first_place, named_by, named_or_fault, version_declared, no_fetch, some_payload, keeps, listing_rules, keeps_contents, judge}
-use Rattle.bag_text.proofs.ResultLemmas.{fronted, again_onto, nothing_onto}
+use Rattle.bag_check.specs.Judging.{Named, Listed, named_of, with_manifest, manifests_in, listed_or_fault, listings_of, asks_for, first_unlisted, first_in, first_place, kept_by, named_by, named_or_fault, version_declared, no_fetch, some_payload, listings_in, keeps, listing_rules, keeps_contents, judge}
+use Rattle.bag_check.proofs.ManifestLemmas.{all_read}
+use Rattle.bag_text.proofs.ResultLemmas.{bind_ok, fronted, again_onto, nothing_onto}
 
 -- ---- bytes that are printed as escapes
 
@@ -95,33 +96,25 @@ unfolding percent_encode
 encodes set h [] = refl
 encodes set h (b ∷ bs) = rw (h b) (ap (λ (t : List ℕ). printed_byte b ++ t) (encodes set h bs))
 
--- the codes of the rules
-abbrev code : Rule → List ℕ
-code OutsidePayload = codes "B7"
-code TagManifestListed = codes "B8"
-code PayloadInTagManifest = codes "B9"
-code PayloadManifestUnlisted = codes "B10"
-code Missing = codes "B11"
-code Unlisted = codes "B12"
-code ChecksumWrong = codes "B17"
+-- texts in a row
+placed : (front number space name path : List ℕ) → front ++ (number ++ ((space ++ name) ++ (space ++ path))) ++ [] ≡ front ++ number ++ space ++ name ++ space ++ path
+placed front number space name path = simp (append_assoc, append-nil)
 
--- they are `B` and the number
-coded : (rule : Rule) → codes "B" ++ decimal (rule_number rule) ≡ code rule
+-- a fault is printed part by part
+pub printed_parts : (fault : Option Fault) → codes "B" ++ (decimal (number_or fault) ++ (after_space (option_and_then manifest_in fault) ++ after_space (option_and_then path_in fault))) ++ cause_or fault ≡ text_or fault
 unfolding digits
-coded OutsidePayload = refl
-coded TagManifestListed = refl
-coded PayloadInTagManifest = refl
-coded PayloadManifestUnlisted = refl
-coded Missing = refl
-coded Unlisted = refl
-coded ChecksumWrong = refl
-
--- how a fault of a rule is printed
-pub broken_text : (rule : Rule) (name path : List ℕ) → fault_text (Breaks rule name path) ≡ code rule ++ 32 ∷ printed_text name ++ 32 ∷ printed_text path
-broken_text rule name path =
-    ap (λ (t : List ℕ). t ++ codes " " ++ printed_text name ++ codes " " ++ printed_text path) (coded rule)
-    ∙ append_assoc (code rule ++ codes " " ++ printed_text name) (codes " ") (printed_text path)
-    ∙ ap (λ (t : List ℕ). t ++ 32 ∷ printed_text path) (append_assoc (code rule) (codes " ") (printed_text name))
+printed_parts None = refl
+printed_parts (Some NoDeclaration) = refl
+printed_parts (Some (Declaration f)) = refl
+printed_parts (Some FetchNotSupported) = refl
+printed_parts (Some (UnsupportedAlgorithm name)) = simp append-nil
+printed_parts (Some NoPayloadManifest) = refl
+printed_parts (Some (ManifestText name f)) = simp append_assoc
+printed_parts (Some (Breaks rule name path)) = placed (codes "B") (decimal (rule_number rule)) (codes " ") (printed_text name) (printed_text path)
+printed_parts (Some (InfoText f)) = refl
+printed_parts (Some OxumForm) = refl
+printed_parts (Some OxumTwice) = refl
+printed_parts (Some OxumWrong) = refl
 
 -- ---- manifests, file after file
 
@@ -244,6 +237,14 @@ pub place_none : (bag : List File) (rule : Rule) (ls : List Listed) (total : Opt
 unfolding first_place
 place_none bag rule ls total is so_far = sym (ap (first_place bag rule) is) ∙ so_far
 
+-- ---- rules, one after the other
+
+-- the rules from a place on begin with the one that stands there
+pub keeps_from : (bag : List File) (ls : List Listed) (rules : List Rule) (i : ℕ) (none : Rule) (total : Result (Unit {0}) Fault) → i < length rules → keeps bag ls (drop i rules) ≡ total
+    → (kept_by (get_or rules i none) (first_place bag (get_or rules i none) ls) >>= λ _. keeps bag ls (drop (i + 1) rules)) ≡ total
+unfolding keeps
+keeps_from bag ls rules i none total lt so_far = sym (ap (keeps bag ls) (drop_more rules i none lt)) ∙ so_far
+
 -- ---- the values of `Payload-Oxum`
 
 -- a test of the values of the pairs that are a Payload-Oxum
@@ -344,9 +345,16 @@ manifests_counted (f ∷ fs) ms e = by_name (manifest_name f.path) refl (λ rest
         let counts : manifest_count (f ∷ fs) ≡ suc (manifest_count fs) = rw is refl in
         by_algorithm found.0 (algorithm_named found.1) counts again e
 
+-- and as many are read
+listings_counted : (bag : List File) (v : Version) (ls : List Listed) → listings_in v bag ≡ Ok ls → length ls ≡ manifest_count bag
+listings_counted bag v ls e =
+    let found = bind_ok (manifests_in bag) (λ ms. some_payload ms >>= λ _. listings_of v ms) ls e in
+    let some = bind_ok (some_payload found.0) (λ _. listings_of v found.0) ls found.2 in
+    sym (length-map ls _) ∙ ap length (all_read v found.0 ls some.2).names_are ∙ length-map found.0 _ ∙ manifests_counted bag found.0 found.1
+
 -- the verdict on a bag of which no step names a fault
-pub judged : (bag : List File) (v : Version) (unit : Unit {0}) (ms : List Named) (ls : List Listed) (r : Report)
-    → version_declared bag ≡ Ok v → no_fetch bag ≡ Ok unit → manifests_in bag ≡ Ok ms → some_payload ms ≡ Ok unit → listings_of v ms ≡ Ok ls → keeps bag ls listing_rules ≡ Ok unit → keeps_contents bag ls ≡ Ok unit
-    → r ≡ record { version = v; files = payload_files bag; bytes = payload_bytes bag; manifests = length ms } → judge bag ≡ Ok r
-judged bag v unit ms ls r version fetch found some read kept contents is =
-    rw (version, fetch, found, some, read, kept, contents) (ap (λ (x : Report). Ok x) (sym (is ∙ ap (λ (n : ℕ). record { version = v; files = payload_files bag; bytes = payload_bytes bag; manifests = n }) (manifests_counted bag ms found))))
+pub judged : (bag : List File) (v : Version) (unit : Unit {0}) (ls : List Listed) (r : Report)
+    → version_declared bag ≡ Ok v → no_fetch bag ≡ Ok unit → listings_in v bag ≡ Ok ls → keeps bag ls listing_rules ≡ Ok unit → keeps_contents bag ls ≡ Ok unit
+    → r ≡ record { version = v; files = payload_files bag; bytes = payload_bytes bag; manifests = length ls } → judge bag ≡ Ok r
+judged bag v unit ls r version fetch read kept contents is =
+    rw (version, fetch, read, kept, contents) (ap (λ (x : Report). Ok x) (sym (is ∙ ap (λ (n : ℕ). record { version = v; files = payload_files bag; bytes = payload_bytes bag; manifests = n }) (listings_counted bag v ls read))))

@@ -16,7 +16,7 @@ use Rattle.bag_check.specs.Fixity.{matches_of}
 use Rattle.bag_check.specs.Validity.{Report, report_of, Valid}
 use Rattle.bag_check.specs.Faults.{Fault, Breaks, IsBroken, Stands, FirstFault}
 use Rattle.bag_text.specs.Answers.{◌>>=◌}
-use Rattle.bag_check.specs.Judging.{has_path, version_declared, no_fetch, Named, manifests_in, some_payload, Listed, listings_of, keeps, listing_rules, keeps_info, keeps_contents, judge}
+use Rattle.bag_check.specs.Judging.{has_path, version_declared, no_fetch, Named, manifests_in, some_payload, Listed, listings_of, listings_in, keeps, listing_rules, keeps_info, keeps_contents, judge}
 use Rattle.bag_text.proofs.ResultLemmas.{bind_ok, bind_err, same_ok}
 use Rattle.bag_text.proofs.ManifestLaws.{read_is_manifest}
 use Rattle.bag_check.proofs.BagLemmas.{at, has_path_is, no_path_is, is_payload_is, is_payload_again}
@@ -128,17 +128,13 @@ after_rules bag v ls = keeps_contents bag ls >>= λ _. Ok (report_of v bag)
 abbrev after_texts : List File → Version → List Listed → Result Report Fault
 after_texts bag v ls = keeps bag ls listing_rules >>= λ _. after_rules bag v ls
 
--- once a payload manifest was found
-abbrev after_payload : List File → Version → List Named → Result Report Fault
-after_payload bag v ms = listings_of v ms >>= after_texts bag v
-
--- once the manifests were found
-abbrev after_names : List File → Version → List Named → Result Report Fault
-after_names bag v ms = some_payload ms >>= λ _. after_payload bag v ms
+-- what is left to read once the manifests were found
+abbrev after_names : Version → List Named → Result (List Listed) Fault
+after_names v ms = some_payload ms >>= λ _. listings_of v ms
 
 -- once there is no fetch.txt
 abbrev after_fetch : List File → Version → Result Report Fault
-after_fetch bag v = manifests_in bag >>= after_names bag v
+after_fetch bag v = listings_in v bag >>= after_texts bag v
 
 -- once the version is known
 abbrev after_version : List File → Version → Result Report Fault
@@ -166,12 +162,12 @@ judged_valid bag is r e =
     let version = bind_ok (version_declared bag) (after_version bag) r e in
     let v = version.0 in
     let fetch = bind_ok (no_fetch bag) (λ _. after_fetch bag v) r version.2 in
-    let named = bind_ok (manifests_in bag) (after_names bag v) r fetch.2 in
-    let payload = bind_ok (some_payload named.0) (λ _. after_payload bag v named.0) r named.2 in
-    let texts = bind_ok (listings_of v named.0) (after_texts bag v) r payload.2 in
+    let texts = bind_ok (listings_in v bag) (after_texts bag v) r fetch.2 in
+    let named = bind_ok (manifests_in bag) (after_names v) texts.0 texts.1 in
+    let payload = bind_ok (some_payload named.0) (λ _. listings_of v named.0) texts.0 named.2 in
     let listing = bind_ok (keeps bag texts.0 listing_rules) (λ _. after_rules bag v texts.0) r texts.2 in
     let contents = bind_ok (keeps_contents bag texts.0) (λ _. Ok (report_of v bag)) r listing.2 in
-    let read = read_from bag is v (version_ok bag v version.1) (fetch_ok bag fetch.0 fetch.1) named.0 named.1 payload.0 payload.1 texts.0 texts.1 in
+    let read = read_from bag is v (version_ok bag v version.1) (fetch_ok bag fetch.0 fetch.1) named.0 named.1 payload.0 payload.1 texts.0 payload.2 in
     (v, valid_from bag v named.0 texts.0 read (steps_ok bag v named.0 texts.0 read listing.0 contents.0 listing.1 contents.1), same_ok r (report_of v bag) (Ok (report_of v bag)) contents.2 refl)
 
 -- The fault that judging names is the one that comes first.
@@ -187,29 +183,33 @@ judged_fault bag is f e = of_version (bind_err (version_declared bag) (after_ver
     of_rules v ms ls read (inl e) = rules_err bag is v read.declares ls read.read listing_rules 7 13 listing_numbers read.below f e
     of_rules v ms ls read (inr (done, ok, e)) = of_contents v ms ls read done ok (bind_err (keeps_contents bag ls) (λ _. Ok (report_of v bag)) f e)
 
-    of_texts : (v : Version) → DeclaresVersion bag v → (HasFile bag fetch_path → ⊥) → (ms : List Named) → manifests_in bag ≡ Ok ms → (done : Unit {0}) → some_payload ms ≡ Ok done
-        → (listings_of v ms ≡ Err f) ⊎ ((ls : List Listed) × (listings_of v ms ≡ Ok ls) × (after_texts bag v ls ≡ Err f)) → FirstFault bag f
-    of_texts v declares fetch ms named done some (inl e) =
+    of_texts : (v : Version) → DeclaresVersion bag v → (HasFile bag fetch_path → ⊥) → (ms : List Named) → manifests_in bag ≡ Ok ms → (done : Unit {0}) → some_payload ms ≡ Ok done → listings_of v ms ≡ Err f → FirstFault bag f
+    of_texts v declares fetch ms named done some e =
         let found = found_all bag ms named in
         let payload = payload_manifest ms done some in
         texts_err bag is v declares ms f (below_6 bag ms (below_5 bag ms (below_4 bag (below_3 bag is v declares) fetch) found) found payload.0 payload.1 payload.2) found e
-    of_texts v declares fetch ms named done some (inr (ls, texts, e)) =
-        of_rules v ms ls (read_from bag is v declares fetch ms named done some ls texts) (bind_err (keeps bag ls listing_rules) (λ _. after_rules bag v ls) f e)
 
     of_payload : (v : Version) → DeclaresVersion bag v → (HasFile bag fetch_path → ⊥) → (ms : List Named) → manifests_in bag ≡ Ok ms
-        → (some_payload ms ≡ Err f) ⊎ ((done : Unit {0}) × (some_payload ms ≡ Ok done) × (after_payload bag v ms ≡ Err f)) → FirstFault bag f
+        → (some_payload ms ≡ Err f) ⊎ ((done : Unit {0}) × (some_payload ms ≡ Ok done) × (listings_of v ms ≡ Err f)) → FirstFault bag f
     of_payload v declares fetch ms named (inl e) =
         let found = found_all bag ms named in
         payload_err bag ms f (below_5 bag ms (below_4 bag (below_3 bag is v declares) fetch) found) found e
-    of_payload v declares fetch ms named (inr (done, some, e)) = of_texts v declares fetch ms named done some (bind_err (listings_of v ms) (after_texts bag v) f e)
+    of_payload v declares fetch ms named (inr (done, some, e)) = of_texts v declares fetch ms named done some e
 
-    of_names : (v : Version) → DeclaresVersion bag v → (HasFile bag fetch_path → ⊥) → (manifests_in bag ≡ Err f) ⊎ ((ms : List Named) × (manifests_in bag ≡ Ok ms) × (after_names bag v ms ≡ Err f)) → FirstFault bag f
+    of_names : (v : Version) → DeclaresVersion bag v → (HasFile bag fetch_path → ⊥) → (manifests_in bag ≡ Err f) ⊎ ((ms : List Named) × (manifests_in bag ≡ Ok ms) × (after_names v ms ≡ Err f)) → FirstFault bag f
     of_names v declares fetch (inl e) = names_err bag is f (below_4 bag (below_3 bag is v declares) fetch) e
-    of_names v declares fetch (inr (ms, named, e)) = of_payload v declares fetch ms named (bind_err (some_payload ms) (λ _. after_payload bag v ms) f e)
+    of_names v declares fetch (inr (ms, named, e)) = of_payload v declares fetch ms named (bind_err (some_payload ms) (λ _. listings_of v ms) f e)
+
+    of_listings : (v : Version) → DeclaresVersion bag v → (HasFile bag fetch_path → ⊥) → (listings_in v bag ≡ Err f) ⊎ ((ls : List Listed) × (listings_in v bag ≡ Ok ls) × (after_texts bag v ls ≡ Err f)) → FirstFault bag f
+    of_listings v declares fetch (inl e) = of_names v declares fetch (bind_err (manifests_in bag) (after_names v) f e)
+    of_listings v declares fetch (inr (ls, read, e)) =
+        let named = bind_ok (manifests_in bag) (after_names v) ls read in
+        let payload = bind_ok (some_payload named.0) (λ _. listings_of v named.0) ls named.2 in
+        of_rules v named.0 ls (read_from bag is v declares fetch named.0 named.1 payload.0 payload.1 ls payload.2) (bind_err (keeps bag ls listing_rules) (λ _. after_rules bag v ls) f e)
 
     of_fetch : (v : Version) → DeclaresVersion bag v → (no_fetch bag ≡ Err f) ⊎ ((done : Unit {0}) × (no_fetch bag ≡ Ok done) × (after_fetch bag v ≡ Err f)) → FirstFault bag f
     of_fetch v declares (inl e) = fetch_err bag f (below_3 bag is v declares) e
-    of_fetch v declares (inr (done, ok, e)) = of_names v declares (fetch_ok bag done ok) (bind_err (manifests_in bag) (after_names bag v) f e)
+    of_fetch v declares (inr (done, ok, e)) = of_listings v declares (fetch_ok bag done ok) (bind_err (listings_in v bag) (after_texts bag v) f e)
 
     of_version : (version_declared bag ≡ Err f) ⊎ ((v : Version) × (version_declared bag ≡ Ok v) × (after_version bag v ≡ Err f)) → FirstFault bag f
     of_version (inl e) = version_err bag f e

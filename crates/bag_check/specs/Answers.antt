@@ -1,5 +1,5 @@
 -- What the calls of this crate answer, as the definitions speak of it.
-use Rattle.std.specs.Prelude.{◌≡◌, ℕ, List, map, codes, Option, Some, None}
+use Rattle.std.specs.Prelude.{◌≡◌, ℕ, List, [], ◌++◌, map, codes, Option, Some, None}
 use Rattle.std.specs.Cow.{cow_str_bytes}
 use Rattle.std.specs.declared.borrow.CowStr.{CowStr}
 use Rattle.std.specs.Global.{Global}
@@ -12,9 +12,10 @@ use Rattle.bag_check.specs.declared.report.BagReport.{BagReport}
 use Rattle.bag_check.specs.declared.oxum.Counts.{Counts}
 use Rattle.bag_check.specs.declared.listed.Named.{Named}
 use Rattle.bag_check.specs.declared.listed.Listed.{Listed}
-use Rattle.bag_check.specs.Faults.{Fault, NoDeclaration, Declaration, FetchNotSupported, UnsupportedAlgorithm, NoPayloadManifest, ManifestText, Breaks, InfoText, OxumForm, OxumTwice, OxumWrong, FirstFault}
+use Rattle.bag_check.specs.Faults.{Fault, NoDeclaration, Declaration, FetchNotSupported, UnsupportedAlgorithm, NoPayloadManifest, ManifestText, Breaks, InfoText, OxumForm, OxumTwice, OxumWrong, FirstFault, fault_number}
 use Rattle.bag_text.specs.TransferForm.{File}
-use Rattle.bag_check.specs.FaultTexts.{fault_text}
+use Rattle.bag_text.specs.FaultTexts.{declaration_fault_text, line_fault_text, info_fault_text}
+use Rattle.bag_check.specs.FaultTexts.{fault_text, printed_text}
 use Rattle.bag_check.specs.Validity.{Report}
 use Rattle.bag_check.specs.Judging as judging
 
@@ -49,6 +50,37 @@ text_or (Some fault) = fault_text fault
 
 abbrev pub printed_fault : BagFault → List ℕ
 printed_fault fault = text_or (named_fault fault)
+
+-- ---- the parts of a printed fault
+
+abbrev pub number_or : Option Fault → ℕ
+number_or None = 18
+number_or (Some fault) = fault_number fault
+
+-- the manifest that a fault names
+abbrev pub manifest_in : Fault → Option (List ℕ)
+manifest_in (UnsupportedAlgorithm name) = Some name
+manifest_in (ManifestText name f) = Some name
+manifest_in (Breaks rule name path) = Some name
+manifest_in fault = None
+
+-- and the path
+abbrev pub path_in : Fault → Option (List ℕ)
+path_in (Breaks rule name path) = Some path
+path_in fault = None
+
+abbrev pub after_space : Option (List ℕ) → List ℕ
+after_space None = []
+after_space (Some name) = codes " " ++ printed_text name
+
+-- why a text is refused
+abbrev pub cause_or : Option Fault → List ℕ
+cause_or (Some (Declaration f)) = codes " " ++ declaration_fault_text f
+cause_or (Some (ManifestText name f)) = codes " " ++ line_fault_text f
+cause_or (Some (InfoText f)) = codes " " ++ info_fault_text f
+cause_or fault = []
+
+-- ---- what else is seen of an answer
 
 abbrev pub report_seen : BagReport → Report
 report_seen r = record { version = r.version; files = r.files; bytes = r.bytes; manifests = r.manifests }

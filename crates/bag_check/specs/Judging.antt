@@ -90,6 +90,13 @@ unfoldable pub listings_of : Version → List Named → Result (List Listed) Fau
 listings_of v [] = Ok []
 listings_of v (m ∷ ms) = listed_or_fault m (manifest_of v m.algorithm m.text) >>= λ l. listings_of v ms >>= λ ls. Ok (l ∷ ls)
 
+-- what the manifests among the files list, one of them a payload manifest
+abbrev pub listings_in : Version → List File → Result (List Listed) Fault
+listings_in v bag = do
+  ms ← manifests_in bag
+  _ ← some_payload ms
+  listings_of v ms
+
 -- ---- the first place at which a rule is broken
 
 -- the manifests that a rule is for: those of one kind, or all
@@ -211,9 +218,7 @@ abbrev pub judge : List File → Result Report Fault
 judge bag = do
   v ← version_declared bag
   _ ← no_fetch bag
-  ms ← manifests_in bag
-  _ ← some_payload ms
-  ls ← listings_of v ms
+  ls ← listings_in v bag
   _ ← keeps bag ls listing_rules
   _ ← keeps_contents bag ls
   Ok (report_of v bag)

@@ -13,7 +13,7 @@ ghost use Rattle.bag_check.specs.declared.fault.BagFault.TheVariants.{Memory};
 ghost use Rattle.bag_check.specs.declared.rule.Rule.TheVariants.{ChecksumWrong};
 ghost use Rattle.bag_check.specs.Digests.{digests_of};
 ghost use Rattle.bag_check.specs.Faults.{Fault, Breaks, FirstFault};
-ghost use Rattle.bag_check.specs.Judging.{version_declared, no_fetch, some_payload, first_place, kept_by, keeps, listing_rules, keeps_contents, judge};
+ghost use Rattle.bag_check.specs.Judging.{version_declared, no_fetch, some_payload, first_place, kept_by, keeps, listing_rules, keeps_contents, listings_in, judge};
 ghost use Rattle.bag_check.specs.Answers.{named_fault, named_seen, listed_seen, report_seen, NamesFirst};
 
 use crate::digests::digests_of;
@@ -103,23 +103,40 @@ fn keep_rule<'a>(bag: &BagSet<'a>, rule: Rule, listed: &[Listed<'a>]) -> Result<
     }
 }
 
-/// Refuses a bag that breaks a rule about what is listed, the first rule first.
-#[tactic(auto, unfolding(crate::specs::Judging::keeps))]
+/// Refuses a bag that breaks one of these rules, the first rule first.
+fn keep_rules<'a>(
+    bag: &BagSet<'a>,
+    rules: &[Rule],
+    listed: &[Listed<'a>],
+) -> Result<(), BagFault<'a>>
+    ensures { Gives named_fault (λ unit. unit) result
+        (keeps bag.now (map listed_seen listed.now) rules.now) }
+{
+    for rule in rules {
+        keep_rule(bag, *rule, listed)?;
+    }
+    Ok(())
+}
+
+/// The rules about what is listed, checksums aside, by their numbers.
+const LISTING_RULES: [Rule; 6] = [
+    Rule::OutsidePayload,
+    Rule::TagManifestListed,
+    Rule::PayloadInTagManifest,
+    Rule::PayloadManifestUnlisted,
+    Rule::Missing,
+    Rule::Unlisted,
+];
+
+/// Refuses a bag that breaks a rule about what is listed.
 fn keep_listing_rules<'a>(bag: &BagSet<'a>, listed: &[Listed<'a>]) -> Result<(), BagFault<'a>>
     ensures { Gives named_fault (λ unit. unit) result
         (keeps bag.now (map listed_seen listed.now) listing_rules) }
 {
-    keep_rule(bag, Rule::OutsidePayload, listed)?;
-    keep_rule(bag, Rule::TagManifestListed, listed)?;
-    keep_rule(bag, Rule::PayloadInTagManifest, listed)?;
-    keep_rule(bag, Rule::PayloadManifestUnlisted, listed)?;
-    keep_rule(bag, Rule::Missing, listed)?;
-    keep_rule(bag, Rule::Unlisted, listed)?;
-    Ok(())
+    keep_rules(bag, &LISTING_RULES, listed)
 }
 
 /// Refuses a bag with a wrong `bag-info.txt`, and then one with a wrong checksum.
-#[tactic(auto, unfolding(crate::specs::Judging::keeps))]
 fn keep_contents<'a>(
     alloc: Global,
     bag: &BagSet<'a>,
@@ -129,8 +146,21 @@ fn keep_contents<'a>(
         unit) result (keeps_contents bag.now (map listed_seen listed.now)) }
 {
     keep_info(alloc, bag)?;
-    keep_rule(bag, Rule::ChecksumWrong, listed)?;
-    Ok(())
+    keep_rules(bag, &[Rule::ChecksumWrong], listed)
+}
+
+/// What the manifests of a bag with these files list, one of them a payload manifest.
+fn read_listings<'a>(
+    alloc: Global,
+    version: Version,
+    files: &[(&'a str, &'a [u8])],
+) -> Result<Vec<Listed<'a>>, BagFault<'a>>
+    ensures { Gives named_fault (λ listed. map listed_seen listed.items) result
+        (listings_in version (files_of files.now)) }
+{
+    let found = find_manifests(alloc, files)?;
+    need_payload_manifest(&found)?;
+    read_manifests(alloc, version, &found)
 }
 
 fn report_on(version: Version, bag: &BagSet<'_>, manifests: usize) -> BagReport
@@ -171,12 +201,10 @@ fn judge_files<'a>(
 {
     let version = read_version(bag)?;
     refuse_fetch(bag)?;
-    let found = find_manifests(alloc, files)?;
-    need_payload_manifest(&found)?;
-    let listed = read_manifests(alloc, version, &found)?;
+    let listed = read_listings(alloc, version, files)?;
     keep_listing_rules(bag, &listed)?;
     keep_contents(alloc, bag, &listed)?;
-    let report = report_on(version, bag, found.len());
+    let report = report_on(version, bag, listed.len());
     Ok(Judged { report, listed })
 }
 

@@ -1,23 +1,21 @@
 use Rattle.std.proofs.Common.{◌≡◌, ◌∙◌, ap, sym, map, length}
 use Rattle.std.specs.Prelude.{Ok}
 use Rattle.std.proofs.lemmas.List.{length-map}
-use Rattle.bag_check.specs.Judging.{manifests_in, some_payload, listings_of, keeps, listing_rules, keeps_contents}
+use Rattle.bag_check.specs.Judging.{listings_in, keeps, listing_rules, keeps_contents}
 use Rattle.bag_check.specs.Validity.{payload_files, payload_bytes}
-use Rattle.bag_check.specs.Answers.{named_seen, listed_seen, report_seen}
+use Rattle.bag_check.specs.Answers.{listed_seen, report_seen}
 use Rattle.bag_check.proofs.CodeLemmas.{judged}
 use Rattle.bag_check.proofs.DigestLemmas.{fixity_kept}
 use Rattle.bag_check.proofs.check.judge_files.Goals as goal
 
 pub returns-clause-fixity : goal.returns-clause-fixity
-returns-clause-fixity c = fixity_kept c.args.bag.now (map listed_seen c.in_ok-listed.listed.items) tt (rw (← c.deref-4.ensures.value) c.in_ok-keep_contents.ensures)
+returns-clause-fixity c = fixity_kept c.args.bag.now (map listed_seen c.in_ok-listed.listed.items) tt (rw (← c.deref-2.ensures.value) c.in_ok-keep_contents.ensures)
 
 pub returns-clause-exact : goal.returns-clause-exact
 returns-clause-exact c =
-    let found : manifests_in c.args.bag.now ≡ Ok (map named_seen c.in_ok-found.found.items) = rw (← c.requires) c.in_ok-found.ensures in
-    let some : some_payload (map named_seen c.in_ok-found.found.items) ≡ Ok tt = rw (← c.deref.ensures.value) c.in_ok-need_payload_manifest.ensures in
-    let read : listings_of c.in_ok-version.version (map named_seen c.in_ok-found.found.items) ≡ Ok (map listed_seen c.in_ok-listed.listed.items) = rw (← c.deref-2.ensures.value) c.in_ok-listed.ensures in
-    let kept : keeps c.args.bag.now (map listed_seen c.in_ok-listed.listed.items) listing_rules ≡ Ok tt = rw (← c.deref-3.ensures.value) c.in_ok-keep_listing_rules.ensures in
-    let contents : keeps_contents c.args.bag.now (map listed_seen c.in_ok-listed.listed.items) ≡ Ok tt = rw (← c.deref-4.ensures.value) c.in_ok-keep_contents.ensures in
-    let count : c.len.result ≡ length (map named_seen c.in_ok-found.found.items) = c.len.ensures ∙ c.in_ok-found.found.ok.0 ∙ sym (length-map c.in_ok-found.found.items named_seen) in
-    judged c.args.bag.now c.in_ok-version.version tt _ _ (report_seen c.report_on-report.result) c.in_ok-version.ensures c.in_ok-refuse_fetch.ensures found some read kept contents
+    let read : listings_in c.in_ok-version.version c.args.bag.now ≡ Ok (map listed_seen c.in_ok-listed.listed.items) = rw (← c.requires) c.in_ok-listed.ensures in
+    let kept : keeps c.args.bag.now (map listed_seen c.in_ok-listed.listed.items) listing_rules ≡ Ok tt = rw (← c.deref.ensures.value) c.in_ok-keep_listing_rules.ensures in
+    let contents : keeps_contents c.args.bag.now (map listed_seen c.in_ok-listed.listed.items) ≡ Ok tt = rw (← c.deref-2.ensures.value) c.in_ok-keep_contents.ensures in
+    let count : c.len.result ≡ length (map listed_seen c.in_ok-listed.listed.items) = c.len.ensures ∙ c.in_ok-listed.listed.ok.0 ∙ sym (length-map c.in_ok-listed.listed.items listed_seen) in
+    judged c.args.bag.now c.in_ok-version.version tt _ (report_seen c.report_on-report.result) c.in_ok-version.ensures c.in_ok-refuse_fetch.ensures read kept contents
     (c.report_on-report.ensures ∙ ap (λ n. record { version = c.in_ok-version.version; files = payload_files c.args.bag.now; bytes = payload_bytes c.args.bag.now; manifests = n }) count)

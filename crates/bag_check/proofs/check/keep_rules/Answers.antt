@@ -1,0 +1,22 @@
+use Rattle.std.proofs.Common.{◌∙◌, map, ap, sym}
+use Rattle.std.proofs.lemmas.List.{drop_all}
+use Rattle.std.proofs.lemmas.Result.{err_from_is_err_and}
+use Rattle.bag_text.proofs.ResultLemmas.{fails_on}
+use Rattle.bag_check.specs.declared.rule.Rule.TheVariants.{OutsidePayload}
+use Rattle.bag_check.specs.Judging.{keeps}
+use Rattle.bag_check.specs.Answers.{listed_seen, named_fault}
+use Rattle.bag_check.proofs.CodeLemmas.{keeps_from}
+use Rattle.bag_check.proofs.check.keep_rules.Goals as goal
+
+pub returns-in_err-keep_rule : goal.returns-in_err-keep_rule
+returns-in_err-keep_rule c =
+    let p = err_from_is_err_and c.from_residual.result c.from_residual.ensures.1 in
+    let left = keeps_from c.args.bag.now (map listed_seen c.args.listed.now) c.args.rules.now c.loop-rule.rule-index OutsidePayload (keeps c.args.bag.now (map listed_seen c.args.listed.now) c.args.rules.now) c.loop-rule-test.true c.loop-rule.invariant in
+    rw (p.1, p.2) (fails_on (named_fault c.in_err-keep_rule.field-0.0) _ _ (λ f e. sym (rw e at left)) c.in_err-keep_rule.ensures)
+
+pub loop-rule-preserved : goal.loop-rule-preserved
+loop-rule-preserved c = rw c.in_ok-keep_rule.ensures at (keeps_from c.args.bag.now (map listed_seen c.args.listed.now) c.args.rules.now c.loop-rule.rule-index OutsidePayload (keeps c.args.bag.now (map listed_seen c.args.listed.now) c.args.rules.now) c.loop-rule-test.true c.loop-rule.invariant)
+
+pub returns : goal.returns
+unfolding keeps
+returns c = sym c.loop-rule.invariant ∙ ap (keeps c.args.bag.now (map listed_seen c.args.listed.now)) (drop_all c.loop-rule.rule-index c.args.rules.now c.loop-rule-test.false)
