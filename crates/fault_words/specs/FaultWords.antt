@@ -1,5 +1,5 @@
 -- What is said of each fault: a sentence with the names and numbers of the fault, and its code at the end.
-use Rattle.std.specs.Prelude.{ℕ, List, ◌++◌, ◌==◌, Option, Some, None, codes, decimal, if◌then◌else◌}
+use Rattle.std.specs.Prelude.{ℕ, List, [], ◌++◌, ◌==◌, Option, Some, None, codes, decimal, if◌then◌else◌}
 use Rattle.bag_text.specs.declared.declaration.DeclFault.{DeclFault}
 use Rattle.bag_text.specs.declared.declaration.DeclFault.TheVariants as declarations
 use Rattle.bag_text.specs.declared.listing.LineFault.{LineFault}
@@ -125,6 +125,19 @@ words_or (Some fault) = bag_words fault
 
 abbrev pub words_of_bag : BagFault → List ℕ
 words_of_bag fault = words_or (named_fault fault)
+
+-- the sentence of a fault that names no manifest and no line
+abbrev pub whole_sentence : Option Fault → Option (List ℕ)
+whole_sentence (Some (UnsupportedAlgorithm name)) = None
+whole_sentence (Some (ManifestText name f)) = None
+whole_sentence (Some (Breaks rule name path)) = None
+whole_sentence (Some (InfoText f)) = None
+whole_sentence fault = Some (words_or fault)
+
+-- that of a rule that is broken, or nothing
+abbrev pub broken_rule_words : Option Fault → List ℕ
+broken_rule_words (Some (Breaks rule name path)) = bag_words (Breaks rule name path)
+broken_rule_words fault = []
 
 -- ---- of a policy
 
