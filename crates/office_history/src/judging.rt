@@ -1,7 +1,7 @@
 //! What every office judges by: bags that are deposited, bags that are checked again, and the
 //! refusals that verdicts are.
 
-ghost use Rattle.std.specs.Prelude.{◌≡◌, Ok, Err, IfOk, MatchResult, is_none};
+ghost use Rattle.std.specs.Prelude.{◌≡◌, Ok, Err, IfOk, MatchResult, false, is_none};
 ghost use Rattle.bag_text.specs.FaultTexts.{set_fault_text};
 ghost use Rattle.bag_text.specs.TransferForm.{IsBag, set_text};
 ghost use Rattle.bag_text.specs.TransferReading.{set_of};
@@ -38,6 +38,17 @@ fn is_memory(fault: &BagFault<'_>) -> bool
     matches!(fault, BagFault::Memory)
 }
 
+/// The text of a fault of a bag. Fails where memory ran out, then or before.
+fn told_fault(alloc: Global, fault: &BagFault<'_>) -> Result<FaultText, AllocError>
+    ensures text { IfOk result (λ text. text ≡ printed_fault fault.now) }
+    ensures named { IfOk result (λ text. is_none (named_fault fault.now) ≡ false) }
+{
+    if is_memory(fault) {
+        return Err(AllocError);
+    }
+    fault_text(alloc, fault)
+}
+
 /// What is counted in a valid bag, or the text of the first fault of another.
 pub fn report_on(
     alloc: Global,
@@ -47,12 +58,7 @@ pub fn report_on(
 {
     match check_bag(alloc, bag) {
         Ok(report) => Ok(Ok(report)),
-        Err(fault) => {
-            if is_memory(&fault) {
-                return Err(AllocError);
-            }
-            Ok(Err(fault_text(alloc, &fault)?))
-        }
+        Err(fault) => Ok(Err(told_fault(alloc, &fault)?)),
     }
 }
 
@@ -63,24 +69,6 @@ pub fn audit(alloc: Global, bag: &BagSet<'_>) -> Result<AuditReport, AllocError>
     match report_on(alloc, bag)? {
         Ok(report) => Ok(AuditReport::Valid(report)),
         Err(fault) => Ok(AuditReport::Invalid(fault)),
-    }
-}
-
-/// The bag whose transfer form the text is, as slices of it, if it is that of a valid bag, or the
-/// text of the first fault.
-pub fn valid_bag(alloc: Global, text: &[u8]) -> Result<Result<BagSet<'_>, FaultText>, AllocError>
-    ensures valid { IfOk result (λ found. found ≡ bag_of text.now) }
-    ensures read { IfOk result (λ found. IfOk found (λ bag. set_of text.now ≡ Ok bag)) }
-    ensures form { IfOk result (λ found. IfOk found (λ bag. text.now ≡ set_text bag)) }
-    ensures is_bag { IfOk result (λ found. IfOk found (λ bag. IsBag bag)) }
-{
-    match read_bagset(alloc, text) {
-        Err(SetFault::Memory) => Err(AllocError),
-        Err(fault) => Ok(Err(set_fault_text(alloc, fault)?)),
-        Ok(bag) => match report_on(alloc, &bag)? {
-            Ok(_) => Ok(Ok(bag)),
-            Err(fault) => Ok(Err(fault)),
-        },
     }
 }
 
@@ -97,12 +85,7 @@ fn digests_on(
 {
     match check_and_digest(alloc, bag) {
         Ok(digested) => Ok(Ok(digested.digests)),
-        Err(fault) => {
-            if is_memory(&fault) {
-                return Err(AllocError);
-            }
-            Ok(Err(fault_text(alloc, &fault)?))
-        }
+        Err(fault) => Ok(Err(told_fault(alloc, &fault)?)),
     }
 }
 
@@ -113,7 +96,8 @@ pub struct DigestedBag<'a> {
     pub digests: Vec<[u8; 32]>,
 }
 
-/// The same as `valid_bag`, with the SHA-256 of each file.
+/// The bag whose transfer form the text is, as slices of it, with the SHA-256 of each file, if it is that of a
+/// valid bag, or the text of the first fault.
 pub fn digested_bag(
     alloc: Global,
     text: &[u8],
@@ -121,6 +105,11 @@ pub fn digested_bag(
     ensures valid { IfOk result (λ found. MatchResult found
         (λ digested. bag_of text.now ≡ Ok digested.bag)
         (λ fault. bag_of text.now ≡ Err fault)) }
+    ensures read { IfOk result (λ found. IfOk found (λ digested.
+        set_of text.now ≡ Ok digested.bag)) }
+    ensures form { IfOk result (λ found. IfOk found (λ digested.
+        text.now ≡ set_text digested.bag)) }
+    ensures is_bag { IfOk result (λ found. IfOk found (λ digested. IsBag digested.bag)) }
     ensures digests { IfOk result (λ found. IfOk found (λ digested.
         digested.digests.items ≡ digests_of digested.bag)) }
 {

@@ -6,7 +6,7 @@ ghost use Rattle.office_history.specs.Answers.{audit_report};
 
 use crate::stored::StoredBag;
 use office_core::{AuditReport, FaultText};
-use office_history::judging::{self, valid_bag};
+use office_history::judging::{self, digested_bag};
 use std::alloc::{AllocError, Global};
 
 /// The bag whose transfer form the text is, if it is that of a valid bag, or the text of the first
@@ -14,8 +14,8 @@ use std::alloc::{AllocError, Global};
 pub fn bag_of(alloc: Global, text: &[u8]) -> Result<Result<StoredBag, FaultText>, AllocError>
     ensures { IfOk result (λ bag. bag ≡ bag_of text.now) }
 {
-    match valid_bag(alloc, text)? {
-        Ok(bag) => Ok(Ok(StoredBag::of(alloc, &bag, text)?)),
+    match digested_bag(alloc, text)? {
+        Ok(digested) => Ok(Ok(StoredBag::of(alloc, &digested.bag, text)?)),
         Err(fault) => Ok(Err(fault)),
     }
 }
