@@ -4,6 +4,4 @@
 pub mod laws;
 mod serving;
 
-pub use serving::{
-    DeskFault, Response, Unanswered, respond, serve_noting, serve_one, serve_with_routes,
-};
+pub use serving::{DeskFault, Response, Unanswered, respond, serve_one, serve_with_routes};

@@ -1,6 +1,6 @@
 //! One request, heard, served and answered.
 
-ghost use Rattle.std.specs.Prelude.{◌≡◌, ◌≢◌, ◌<◌, ℕ, Bool, List, length, take, true, false, None, Err, OnOk, IfOk, IfErr, IfSome};
+ghost use Rattle.std.specs.Prelude.{◌≡◌, ◌≢◌, ◌<◌, ℕ, Bool, List, length, take, true, false, None, Err, OnOk, IfOk, IfSome};
 ghost use Rattle.std.specs.Io.KnownBytes.{Appends, Consumes, IsAtEnd};
 ghost use Rattle.sqlite.specs.Held.{state};
 ghost use Rattle.office_core.specs.declared.answer.Answer.{Answer};
@@ -177,7 +177,8 @@ pub fn respond<S: Alter, R: Read>(
     answered
 }
 
-/// As `serve_noting`, with this table of the routes, which serves any number of requests.
+/// As `serve_one`, by this table of the routes, which serves any number of requests; and hands on what is noted of
+/// the office's answer, where there was one, whether or not it was written.
 pub fn serve_with_routes<S: Alter, R: Read, W: Write>(
     alloc: Global,
     routes: &Routes,
@@ -255,79 +256,6 @@ pub fn serve_with_routes<S: Alter, R: Read, W: Write>(
     }
 }
 
-/// As `serve_one`, and hands on what is noted of the office's answer, where there was one, whether or not it
-/// was written.
-pub fn serve_noting<S: Alter, R: Read, W: Write>(
-    alloc: Global,
-    office: &mut Office<S>,
-    day: Day,
-    reader: &mut Counted<R>,
-    writer: &mut Counted<W>,
-) -> (Result<(), DeskFault>, Option<OfficeNote>)
-    // The whole answer was written. What was given is cut short only at the end of the input.
-    ensures answered { OnOk result.0
-        ((given text : List ℕ) × (done : Bool)
-        × Consumes (R.remaining (device_of reader.old)) (R.remaining (device_of reader.new)) given
-        × IsNoted S.Store (record { day = day; bytes = given })
-        (record { text = text; done = done }) result.1 office.old office.new
-        × Appends (W.contents (device_of writer.old)) (W.contents (device_of writer.new)) text
-        × (Hears given (Err DeskRefusal.Truncated)
-        → IsAtEnd (R.remaining (device_of reader.new)))) }
-    // The reader failed in this call, and what it gave is no whole request.
-    ensures read { result.0 ≡ Err DeskFault.Read
-        → (given : List ℕ)
-        × Consumes (R.remaining (device_of reader.old)) (R.remaining (device_of reader.new)) given
-        × Hears given (Err DeskRefusal.Truncated)
-        × HasFailed (failures_of reader.old) (failures_of reader.new)
-        × (office.new ≡ office.old)
-        × (writer.new ≡ writer.old) × (result.1 ≡ None) }
-    // The writer failed in this call, and has a beginning of the answer.
-    ensures write { (done : Bool) → result.0 ≡ Err (DeskFault.Write done)
-        → (given text : List ℕ) × (count : ℕ)
-        × Consumes (R.remaining (device_of reader.old)) (R.remaining (device_of reader.new)) given
-        × IsNoted S.Store (record { day = day; bytes = given })
-        (record { text = text; done = done }) result.1 office.old office.new × (count < length text)
-        × Appends (W.contents (device_of writer.old)) (W.contents (device_of writer.new))
-        (take count text) × HasFailed (failures_of writer.old) (failures_of writer.new)
-        × (Hears given (Err DeskRefusal.Truncated)
-        → IsAtEnd (R.remaining (device_of reader.new))) }
-    // Memory ran out after the office's answer, or before the office was asked.
-    ensures memory_done { result.0 ≡ Err (DeskFault.Memory true)
-        → (given : List ℕ) × (answer : Answer)
-        × Consumes (R.remaining (device_of reader.old)) (R.remaining (device_of reader.new)) given
-        × ServesNoted day given result.1 (state S.Store office.old) (state S.Store office.new) answer
-        × (writer.new ≡ writer.old) }
-    ensures memory { result.0 ≡ Err (DeskFault.Memory false)
-        → (office.new ≡ office.old) × (writer.new ≡ writer.old) × (result.1 ≡ None) }
-    // Where all that the reader has is known, it is all that is answered.
-    ensures whole { OnOk result.0
-        (IfSome (R.remaining (device_of reader.old)) (λ input.
-        (text : List ℕ) × (done : Bool)
-        × IsNoted S.Store (record { day = day; bytes = input })
-        (record { text = text; done = done }) result.1 office.old office.new
-        × Appends (W.contents (device_of writer.old)) (W.contents (device_of writer.new)) text)) }
-    ensures whole_write { (done : Bool) → result.0 ≡ Err (DeskFault.Write done)
-        → IfSome (R.remaining (device_of reader.old)) (λ input.
-        (text : List ℕ) × (count : ℕ)
-        × IsNoted S.Store (record { day = day; bytes = input })
-        (record { text = text; done = done }) result.1 office.old office.new × (count < length text)
-        × Appends (W.contents (device_of writer.old)) (W.contents (device_of writer.new))
-        (take count text)) }
-    ensures whole_memory_done { result.0 ≡ Err (DeskFault.Memory true)
-        → IfSome (R.remaining (device_of reader.old)) (λ input.
-        (answer : Answer)
-        × ServesNoted day input result.1 (state S.Store office.old) (state S.Store office.new) answer) }
-    ensures calm_reader { result.0 ≢ Err DeskFault.Read
-        → failures_of reader.new ≡ failures_of reader.old }
-    ensures calm_writer { ((done : Bool) → result.0 ≢ Err (DeskFault.Write done))
-        → failures_of writer.new ≡ failures_of writer.old }
-{
-    let Ok(routes) = Routes::new(alloc) else {
-        return (Err(DeskFault::Memory { done: false }), None);
-    };
-    serve_with_routes(alloc, &routes, office, day, reader, writer)
-}
-
 /// Hears one request, has the office serve it on that day, and writes the answer.
 ///
 /// A request that the desk refuses is answered by that refusal, and the office is as it was. What is
@@ -397,6 +325,9 @@ pub fn serve_one<S: Alter, R: Read, W: Write>(
     ensures calm_writer { ((done : Bool) → result ≢ Err (DeskFault.Write done))
         → failures_of writer.new ≡ failures_of writer.old }
 {
-    let (ended, _) = serve_noting(alloc, office, day, reader, writer);
+    let Ok(routes) = Routes::new(alloc) else {
+        return Err(DeskFault::Memory { done: false });
+    };
+    let (ended, _) = serve_with_routes(alloc, &routes, office, day, reader, writer);
     ended
 }

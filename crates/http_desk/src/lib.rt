@@ -15,7 +15,7 @@ pub use desk_answers::answer_bytes;
 pub use desk_devices::{Counted, FailAt, Portion};
 pub use desk_hearing::{Heard, HeardFault, read_request};
 pub use desk_routes::DeskRefusal;
-pub use desk_serving::{DeskFault, serve_noting, serve_one, serve_with_routes};
+pub use desk_serving::{DeskFault, serve_one, serve_with_routes};
 pub use digits::MAX_REQUEST;
 pub use record::{Found, record_at};
 pub use replaying::{ReplayFault, ReplayStop, replay};
