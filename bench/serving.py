@@ -130,7 +130,7 @@ class Desk(BaseHTTPRequestHandler):
         self.rows("BEGIN IMMEDIATE")
         known = (
             self.rows("SELECT name FROM collection WHERE name = ?1", collection)
-            and self.rows("SELECT years FROM class WHERE name = ?1", kind)
+            and (years := self.rows("SELECT years FROM class WHERE name = ?1", kind))
             and self.may(self.headers["Depot-Caller"], "deposit", collection, kind)
             and not self.rows("SELECT number FROM deposit WHERE accession = ?1", asked["accession"])
         )
@@ -142,7 +142,7 @@ class Desk(BaseHTTPRequestHandler):
             return self.answer(409, {"error": "refused"})
         closed = number_of(asked["closed"])
         row = (number, asked["accession"], collection, kind, closed, self.server.day, count, size)
-        due_day = due(closed, self.rows("SELECT years FROM class WHERE name = ?1", kind)[0][0])
+        due_day = due(closed, years[0][0])
         live = self.rows(LIVE_HOLDS, number, collection, kind)[0][0]
         self.rows(PUT_DEPOSIT, *row, None if due_day == "permanent" else number_of(due_day), live)
         put_files(self.server.office, number, files)

@@ -112,7 +112,6 @@ class Statements:
         self.rows(DEPOSIT + " WHERE accession = ?1", f"2026-{number:07}")
         self.rows(LIMITS, 1)
         self.rows("SELECT number FROM deposit ORDER BY number DESC LIMIT 1")
-        self.years()
         put_row(self.conn, number, DUE, len(self.holds(number, "tax", "y10")))
         put_files(self.conn, number, files)
 

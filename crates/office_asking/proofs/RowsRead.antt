@@ -5,22 +5,20 @@ use Rattle.std.specs.Option.{ok_or}
 use Rattle.std.proofs.lemmas.Bool.{or_parts}
 use Rattle.std.proofs.lemmas.Int.{ints}
 use Rattle.std.proofs.lemmas.List.{length-map}
-use Rattle.std.proofs.lemmas.Option.{same_Some}
 use Rattle.jiff.specs.Types.{Date}
 use Rattle.office_core.specs.Bounds.{max_rules}
 use Rattle.office_core.specs.Days.{IsDayNumber, first_day_number, last_day_number}
 use Rattle.office_core.specs.FirstOf.{◌>>=◌}
-use Rattle.office_core.specs.RetentionReading.{due_of}
 use Rattle.office_core.specs.Verdicts.{denial_verdict}
 use Rattle.office_core.specs.declared.action.Action.{Action}
 use Rattle.office_core.specs.declared.rule.Decision.{Decision}
 use Rattle.office_history.specs.Refusals.{refusal_in}
-use Rattle.office_rows.specs.Rows.{ClassRow, HoldRow, RuleRow, Tables, class_named, live_holds}
+use Rattle.office_rows.specs.Rows.{HoldRow, RuleRow, Tables, live_holds}
 use Rattle.office_tables.specs.Releases.{is_outside, is_outside_of}
 use Rattle.office_tables.specs.Releases as tables
-use Rattle.office_by_rows.specs.Values.{count_of, if_any, is_action_pattern, is_between, is_pattern, years_of_number}
+use Rattle.office_by_rows.specs.Values.{count_of, if_any, is_action_pattern, is_between, is_pattern}
 use Rattle.office_by_rows.specs.Asking.{are_released_on_days, decision_for, denial_for, is_day_or_none, is_over, is_rule}
-use Rattle.office_by_rows.specs.Changes.{count_in, due_in}
+use Rattle.office_by_rows.specs.Changes.{count_in}
 use Rattle.office_asking.specs.Asking.{are_bounds, asks_as_rules_do}
 use Rattle.office_by_rows.proofs.ComesTo.{between}
 
@@ -54,16 +52,6 @@ grouped false b c d e = refl
 -- it is of a place of a policy, and asks what rules do, by days of the office in turn
 pub rule_is : (row : RuleRow) → (is_between (pos 1) (pos max_rules) row.place && (asks_as_rules_do row && are_bounds row.first row.last)) ≡ is_rule row
 rule_is row = ap (λ b. is_between (pos 1) (pos max_rules) row.place && b) (grouped (is_pattern row.role) (is_action_pattern row.action) (is_pattern row.collection) (is_pattern row.class) (are_bounds row.first row.last))
-
--- ---- the years of a class
-
--- the due day by the years of the class
-pub due_read : (t : Tables) (class : List ℕ) (closed : Date) (number : ℤ) (years : Option ℕ) → Some number ≡ option_map (λ (c : ClassRow). c.years) (class_named class t.classes) → years_of_number number ≡ Some years → due_in t class closed ≡ Some (due_of closed years)
-due_read t class closed number years there told = by (class_named class t.classes) there
-  where
-    by : (o : Option ClassRow) → Some number ≡ option_map (λ (c : ClassRow). c.years) o → (o >>= λ (row : ClassRow). years_of_number row.years >>= λ years. Some (due_of closed years)) ≡ Some (due_of closed years)
-    by None e = absurd cc
-    by (Some row) e = ap (λ n. years_of_number n >>= λ years. Some (due_of closed years)) (sym (same_Some _ _ e)) ∙ ap (λ o. o >>= λ years. Some (due_of closed years)) told
 
 -- ---- the holds over a deposit
 

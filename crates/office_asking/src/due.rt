@@ -4,7 +4,6 @@ ghost use Rattle.std.specs.Prelude.{◌≡◌, IfSome, None, ℕ, Some, [], opti
 ghost use Rattle.office_rows.specs.Rows.{due_numbered, limits_of, live_holds};
 ghost use Rattle.office_tables.specs.Calls.{GoesOnInTurn, GoesOnInside, Keeps, Shows, Tells};
 ghost use Rattle.office_by_rows.specs.Asking.{counted_hold_in, least_hold_in};
-ghost use Rattle.office_by_rows.specs.Changes.{due_in};
 ghost use Rattle.office_by_rows.specs.Refusals.{disposal_facts};
 ghost use Rattle.office_by_rows.specs.Values.{is_between};
 ghost use Rattle.office_asking.specs.Asking.{role_name};
@@ -12,29 +11,11 @@ ghost use Rattle.office_asking.specs.Asking.{role_name};
 use crate::asker::Asker;
 use crate::deposits::days_in;
 use crate::holds::{holds_over, told_hold};
-use crate::rows::{check_between, due_numbered, there, years_numbered};
-use office_core::{Action, Day, Due, Facts};
-use office_tables::{DepositRow, DueRow, TableFault, class_of, due_row, limits};
+use crate::rows::{check_between, due_numbered, there};
+use office_core::{Action, Facts};
+use office_tables::{DepositRow, DueRow, TableFault, due_row, limits};
 use sqlite::{Alter, Transaction};
 use std::alloc::Global;
-
-/// The day from which a deposit of the class that was closed on that day may be destroyed, by the
-/// years of the class as they stand.
-///
-/// Fails with `Memory` or `Store`.
-pub fn due_day<S: Alter>(
-    tx: &mut Transaction<'_, S>,
-    class: &str,
-    closed: Day,
-) -> Result<Due, TableFault>
-    ensures inside { GoesOnInside S.Store tx.old.conn tx.new.conn result }
-    ensures reads { Shows S.Store tx.old.conn.now tx.new.conn.now result (λ tables found.
-        due_in tables class.now closed ≡ Some found) }
-{
-    let found = class_of(tx, class)?;
-    let years = there(found)?;
-    Ok(office_core::due(closed, years_numbered(years)?))
-}
 
 /// The least live hold that covers the deposit of that number, which is of that collection and that class. Its
 /// row is read, so that no hold is named that isn't one.

@@ -11,7 +11,7 @@ mod rows;
 
 pub use asker::{Asker, denial};
 pub use deposits::{DepositDays, days_in, kept_deposit};
-pub use due::{disposal_facts, due_day, kept_of, least_hold};
+pub use due::{disposal_facts, kept_of, least_hold};
 pub use holds::{hold_in, holds_over, live_count, named_in, told_hold};
 pub use limits::number_after;
 pub use rows::{

@@ -1,31 +1,42 @@
 -- How a bag is kept as a deposit, by what is read first.
-use Rattle.std.proofs.Common.{◌≡◌, ℕ, ℤ, pos, List, Option, Some, None, Ok, option_map, sym}
+use Rattle.std.proofs.Common.{◌≡◌, ℕ, ℤ, pos, List, Option, Some, None, Ok, option_map, sym, ap, ◌∙◌}
 use Rattle.std.specs.Borrow.{Bor}
 use Rattle.std.proofs.lemmas.Option.{same_Some}
 use Rattle.jiff.specs.Types.{Date}
 use Rattle.bag_text.specs.TransferForm.{File}
 use Rattle.office_core.specs.FirstOf.{◌>>=◌}
 use Rattle.office_core.specs.Retention.{due_number}
+use Rattle.office_core.specs.RetentionReading.{due_of}
 use Rattle.office_core.specs.declared.retention.Due.{Due}
-use Rattle.office_rows.specs.Rows.{DepositRow, Tables, with_kept}
+use Rattle.office_rows.specs.Rows.{ClassRow, DepositRow, Tables, class_named, with_kept}
 use Rattle.office_history.specs.Bags.{bag_of}
-use Rattle.office_by_rows.specs.Changes.{allowed_rows, count_in, due_in, if_bag, kept_as, new_deposit, with_files}
+use Rattle.office_by_rows.specs.Values.{years_of_number}
+use Rattle.office_by_rows.specs.Changes.{allowed_rows, count_in, due_in, if_bag, new_deposit, with_files}
 use Rattle.office_by_rows.specs.Refusals.{highest_deposit, number_after}
 use Rattle.office_keeping.specs.Asked.{request_of, row_of, visit_of}
+use Rattle.office_keeping.specs.Kept.{kept_due, years_shown}
 use Rattle.office_keeping.specs.declared.asked.DepositAsked.{DepositAsked}
 
--- the due day and the count are those that are kept beside the row
-pub kept_beside : (n : ℕ) (row : DepositRow) (closed : Date) (bag : List File) (t : Tables) (due : Option ℤ) (holds : ℤ) → option_map due_number (due_in t row.class closed) ≡ Some due → option_map pos (count_in t n row.collection row.class) ≡ Some holds
-    → kept_as n row closed bag t ≡ Some (with_files (pos n) bag (with_kept row due holds t))
-kept_beside n row closed bag t due holds is_due is_count = by (due_in t row.class closed) (count_in t n row.collection row.class) is_due is_count
+-- the due day is that by the years of the class
+pub due_read : (t : Tables) (class : List ℕ) (closed : Date) (number : ℤ) (years : Option ℕ) → years_shown t class ≡ Some number → years_of_number number ≡ Some years → due_in t class closed ≡ Some (due_of closed years)
+due_read t class closed number years shown told = by (class_named class t.classes) shown
   where
-    by : (found : Option Due) (count : Option ℕ) → option_map due_number found ≡ Some due → option_map pos count ≡ Some holds
-        → ◌≡◌ {A = Option Tables} (found >>= λ due. count >>= λ holds. Some (with_files (pos n) bag (with_kept row (due_number due) (pos holds) t))) (Some (with_files (pos n) bag (with_kept row due holds t)))
-    by None count is_due is_count = absurd cc
-    by (Some found) None is_due is_count = absurd cc
-    by (Some found) (Some count) is_due is_count = λ i. Some (with_files (pos n) bag (with_kept row (same_Some _ _ is_due i) (same_Some _ _ is_count i) t))
+    by : (o : Option ClassRow) → option_map (λ (c : ClassRow). c.years) o ≡ Some number → (o >>= λ (row : ClassRow). years_of_number row.years >>= λ years. Some (due_of closed years)) ≡ Some (due_of closed years)
+    by None e = absurd cc
+    by (Some row) e = ap (λ n. years_of_number n >>= λ years. Some (due_of closed years)) (same_Some _ _ e) ∙ ap (λ o. o >>= λ years. Some (due_of closed years)) told
 
--- a deposit that is allowed is kept under the next number, with the bag of its text
-pub next_kept : (asked : DepositAsked) (text : Bor (List ℕ)) (n : ℕ) (bag : List File) (t : Tables) → number_after (highest_deposit t) ≡ Some n → bag_of text.now ≡ Ok bag → kept_as n (row_of asked n bag) asked.closed bag t ≡ allowed_rows t (visit_of asked) (request_of asked text)
-next_kept asked text n bag t number is_bag =
-    λ i. sym number i >>= λ n. if_bag (sym is_bag i) (λ files. kept_as n (new_deposit n asked.collection.now asked.class.now asked.accession.now asked.closed asked.day files) asked.closed files t)
+-- the count is that which is kept beside the row
+pub kept_beside : (n : ℕ) (row : DepositRow) (due : Due) (bag : List File) (t : Tables) (holds : ℤ) → Some holds ≡ option_map pos (count_in t n row.collection row.class)
+    → kept_due n row due bag t ≡ Some (with_files (pos n) bag (with_kept row (due_number due) holds t))
+kept_beside n row due bag t holds is_count = by (count_in t n row.collection row.class) is_count
+  where
+    by : (count : Option ℕ) → Some holds ≡ option_map pos count
+        → ◌≡◌ {A = Option Tables} (count >>= λ holds. Some (with_files (pos n) bag (with_kept row (due_number due) (pos holds) t))) (Some (with_files (pos n) bag (with_kept row (due_number due) holds t)))
+    by None e = absurd cc
+    by (Some count) e = λ i. Some (with_files (pos n) bag (with_kept row (due_number due) (same_Some _ _ (sym e) i) t))
+
+-- a deposit that is allowed is kept under the next number, with the bag of its text, and falls due by its class
+pub next_kept : (asked : DepositAsked) (text : Bor (List ℕ)) (n : ℕ) (due : Due) (bag : List File) (t : Tables) → number_after (highest_deposit t) ≡ Some n → due_in t asked.class.now asked.closed ≡ Some due → bag_of text.now ≡ Ok bag
+    → kept_due n (row_of asked n bag) due bag t ≡ allowed_rows t (visit_of asked) (request_of asked text)
+next_kept asked text n due bag t number is_due is_bag =
+    λ i. sym number i >>= λ n. if_bag (sym is_bag i) (λ files. sym is_due i >>= λ due. kept_due n (new_deposit n asked.collection.now asked.class.now asked.accession.now asked.closed asked.day files) due files t)

@@ -1,21 +1,16 @@
 -- What the refusals of a deposit and of a disposal come to, each as the rows tell it.
-use Rattle.std.proofs.Common.{◌≡◌, ℕ, ℤ, pos, true, false, not, List, [], ◌∷◌, map, Option, Some, None, Result, Ok, Err, IfOk, option_map, is_some, is_none, refl, sym, ap, subst, ◌∙◌}
+use Rattle.std.proofs.Common.{◌≡◌, ℕ, ℤ, pos, true, false, not, List, [], ◌∷◌, map, Option, Some, None, Result, Ok, Err, IfOk, option_map, is_none, refl, sym, ap, ◌∙◌}
 use Rattle.std.proofs.lemmas.Bool.Decides.{Decides-int_eq}
-use Rattle.sqlite.specs.Effect.{Database}
 use Rattle.office_core.specs.FirstOf.{answer_if, first_some}
 use Rattle.office_core.specs.declared.action.Action.TheVariants as acts
 use Rattle.office_core.specs.declared.refusal.Refusal.{Refusal}
 use Rattle.office_core.specs.declared.refusal.Refusal.TheVariants.{NoSuch}
 use Rattle.office_core.specs.declared.refusal.Subject.TheVariants as subjects
 use Rattle.office_rows.specs.Rows.{ClassRow, DepositRow, Tables, class_named, deposit_numbered, has_collection, is_deposit}
-use Rattle.office_tables.specs.Tables.{tables_of}
 use Rattle.office_tables.proofs.OrderLemmas.{first_passes}
 use Rattle.office_by_rows.specs.Asking.{Visit, denial_in}
 use Rattle.office_by_rows.specs.Refusals.{first_told, no_such_class, place_refusals}
-
--- where the calls before changed no row, what is shown after them is shown of the rows before them
-pub shown_first : {B E : Type 0} {old mid : Database} (new : Database) → mid ≡ old → (second : Result B E) (is_so : Tables → B → Type 0) → IfOk second (λ shown. (new ≡ mid) × is_so (tables_of mid) shown) → IfOk second (λ shown. (new ≡ old) × is_so (tables_of old) shown)
-shown_first new same second is_so = subst (λ db. IfOk second (λ shown. (new ≡ db) × is_so (tables_of db) shown)) same
+use Rattle.office_keeping.specs.Kept.{years_shown}
 
 -- what two facts of an Ok come to
 pub both_of_ok : {A E : Type 0} (result : Result A E) (P Q R : A → Type 0) → ((x : A) → P x → Q x → R x) → IfOk result P → IfOk result Q → IfOk result R
@@ -42,21 +37,19 @@ module _ (t : Tables) (visit : Visit) (collection class : List ℕ) where
   pub no_collection_first : false ≡ has_collection collection t → first_told (place_refusals t visit collection class) ≡ Some (Some (NoSuch subjects.Collection))
   no_collection_first e = ap (λ b. first_told (Some (answer_if (not b) (NoSuch subjects.Collection)) ∷ Some (no_such_class t class) ∷ denied ∷ [])) (sym e)
 
-  -- there is a class where its years were found
-  is_there : (row : Option ClassRow) (found : Option ℤ) → found ≡ option_map (λ (c : ClassRow). c.years) row → not (is_some found) ≡ is_none row
-  is_there None found e = ap (λ o. not (is_some o)) e
-  is_there (Some row) found e = ap (λ o. not (is_some o)) e
+  -- there is a class where its row shows years
+  is_there : (row : Option ClassRow) (found : Option ℤ) → found ≡ option_map (λ (c : ClassRow). c.years) row → is_none row ≡ is_none found
+  is_there None found e = sym (ap (λ o. is_none o) e)
+  is_there (Some row) found e = sym (ap (λ o. is_none o) e)
 
-  module _ (there : true ≡ has_collection collection t) (found : Option ℤ) (read : found ≡ option_map (λ (c : ClassRow). c.years) (class_named class t.classes)) where
-    pub no_class_first : false ≡ is_some found → first_told (place_refusals t visit collection class) ≡ Some (Some (NoSuch subjects.Class))
-    no_class_first e =
-        let none = sym (ap not e ∙ is_there (class_named class t.classes) found read) in
-        λ i. first_told (Some (answer_if (not (sym there i)) (NoSuch subjects.Collection)) ∷ Some (answer_if (none i) (NoSuch subjects.Class)) ∷ denied ∷ [])
+  module _ (there : true ≡ has_collection collection t) where
+    pub no_class_first : None ≡ years_shown t class → first_told (place_refusals t visit collection class) ≡ Some (Some (NoSuch subjects.Class))
+    no_class_first read =
+        λ i. first_told (Some (answer_if (not (sym there i)) (NoSuch subjects.Collection)) ∷ Some (answer_if (is_there (class_named class t.classes) None read i) (NoSuch subjects.Class)) ∷ denied ∷ [])
 
-    pub denial_first : true ≡ is_some found → (why : Option Refusal) → denied ≡ Some why → first_told (place_refusals t visit collection class) ≡ Some why
-    denial_first e why is =
-        let some = sym (ap not e ∙ is_there (class_named class t.classes) found read) in
-        (λ i. first_told (Some (answer_if (not (sym there i)) (NoSuch subjects.Collection)) ∷ Some (answer_if (some i) (NoSuch subjects.Class)) ∷ is i ∷ [])) ∙ one_told why
+    pub denial_first : (years : ℤ) → Some years ≡ years_shown t class → (why : Option Refusal) → denied ≡ Some why → first_told (place_refusals t visit collection class) ≡ Some why
+    denial_first years read why is =
+        (λ i. first_told (Some (answer_if (not (sym there i)) (NoSuch subjects.Collection)) ∷ Some (answer_if (is_there (class_named class t.classes) (Some years) read i) (NoSuch subjects.Class)) ∷ is i ∷ [])) ∙ one_told why
 
 -- ---- a deposit that is destroyed
 

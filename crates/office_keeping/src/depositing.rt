@@ -11,61 +11,60 @@ ghost use Rattle.office_by_rows.specs.Refusals as by_rows;
 ghost use Rattle.office_by_rows.specs.Refusals.{first_told, full_of_deposits, highest_deposit, number_after, refusals_before_the_bag, refusals_of_the_bag};
 ghost use Rattle.office_asking.specs.Serving.{Serves};
 ghost use Rattle.office_keeping.specs.Asked.{request_of, visit_of};
+ghost use Rattle.office_keeping.specs.Kept.{years_shown};
 
 use crate::asked::DepositAsked;
 use crate::keeping::keep;
 use bag_text::BagSet;
-use office_asking::{denial, number_after};
-use office_core::{Accession, Action, Answer, Day, Refusal, Subject};
+use office_asking::{denial, number_after, years_numbered};
+use office_core::{Action, Answer, Day, Refusal, Subject, due};
 use office_history::judging::{DigestedBag, digested_bag};
 use office_tables::{TableFault, by_accession, class_of, has_collection, last_deposit, limits};
 use sqlite::{Alter, Transaction};
 use std::alloc::Global;
 
-/// The refusal of the place that stands first, if one stands: no such collection, no such class, or
-/// the caller may not deposit there.
-fn place_refusal<S: Alter>(
+/// These years, unless it is refused.
+fn unless_refused(years: i64, refused: Option<Refusal>) -> Result<i64, Refusal>
+    ensures refused { result_err result ≡ refused }
+    ensures years { IfOk result (λ given. given ≡ years) }
+{
+    match refused {
+        Some(why) => Err(why),
+        None => Ok(years),
+    }
+}
+
+/// The number of years in the class's row, or the refusal of the place that stands first: no such
+/// collection, no such class, or the caller may not deposit there.
+fn years_at_place<S: Alter>(
     tx: &mut Transaction<'_, S>,
     asked: &DepositAsked<'_>,
-) -> Result<Option<Refusal>, TableFault>
+) -> Result<Result<i64, Refusal>, TableFault>
     ensures inside { GoesOnInside S.Store tx.old.conn tx.new.conn result }
-    ensures reads { Shows S.Store tx.old.conn.now tx.new.conn.now result (λ tables why.
-        first_told
+    ensures reads { Shows S.Store tx.old.conn.now tx.new.conn.now result (λ tables given.
+        (first_told
         (by_rows.place_refusals tables (visit_of asked.now) asked.now.collection.now
         asked.now.class.now)
-        ≡ Some why) }
+        ≡ Some (result_err given))
+        × IfOk given (λ years. years_shown tables asked.now.class.now ≡ Some years)) }
 {
     let collection = asked.collection.as_str();
     let class = asked.class.as_str();
     if !has_collection(tx, collection)? {
-        return Ok(Some(Refusal::NoSuch(Subject::Collection)));
+        return Ok(Err(Refusal::NoSuch(Subject::Collection)));
     }
-    if class_of(tx, class)?.is_none() {
-        return Ok(Some(Refusal::NoSuch(Subject::Class)));
-    }
-    denial(
+    let Some(years) = class_of(tx, class)? else {
+        return Ok(Err(Refusal::NoSuch(Subject::Class)));
+    };
+    let denied = denial(
         tx,
         asked.day,
         asked.caller,
         Action::Deposit,
         Some(collection),
         Some(class),
-    )
-}
-
-/// The refusal where a deposit, kept or destroyed, has the accession.
-fn taken_refusal<S: Alter>(
-    tx: &mut Transaction<'_, S>,
-    accession: &Accession<'_>,
-) -> Result<Option<Refusal>, TableFault>
-    ensures inside { GoesOnInside S.Store tx.old.conn tx.new.conn result }
-    ensures reads { Shows S.Store tx.old.conn.now tx.new.conn.now result (λ tables why.
-        by_rows.taken_refusal tables accession.now ≡ Some why) }
-{
-    match by_accession(tx, accession.as_str())? {
-        Some(deposit) => Ok(Some(Refusal::Taken(deposit.number))),
-        None => Ok(None),
-    }
+    )?;
+    Ok(unless_refused(years, denied))
 }
 
 /// The refusal where the closing day comes after the day of the request.
@@ -78,25 +77,44 @@ fn closed_ahead(day: Day, closed: Day) -> Option<Refusal>
     None
 }
 
-/// The refusal that stands first before the bag is looked at, if one stands.
-fn refusal_before_the_bag<S: Alter>(
+/// The refusal that stands first after those of the place: a deposit, kept or destroyed, has the
+/// accession, or the closing day comes after the day of the request.
+fn refusal_after_place<S: Alter>(
     tx: &mut Transaction<'_, S>,
     asked: &DepositAsked<'_>,
 ) -> Result<Option<Refusal>, TableFault>
     ensures inside { GoesOnInside S.Store tx.old.conn tx.new.conn result }
     ensures reads { Shows S.Store tx.old.conn.now tx.new.conn.now result (λ tables why.
         first_told
-        (refusals_before_the_bag tables (visit_of asked.now) asked.now.collection.now
-        asked.now.class.now asked.now.accession.now asked.now.closed)
+        (by_rows.taken_refusal tables asked.now.accession.now
+        ∷ Some (closed_ahead_refusal asked.now.day asked.now.closed) ∷ [])
         ≡ Some why) }
 {
-    if let Some(why) = place_refusal(tx, asked)? {
-        return Ok(Some(why));
+    match by_accession(tx, asked.accession.as_str())? {
+        Some(deposit) => Ok(Some(Refusal::Taken(deposit.number))),
+        None => Ok(closed_ahead(asked.day, asked.closed)),
     }
-    if let Some(why) = taken_refusal(tx, asked.accession)? {
-        return Ok(Some(why));
-    }
-    Ok(closed_ahead(asked.day, asked.closed))
+}
+
+/// The number of years in the class's row, or the refusal that stands first before the bag is looked at.
+fn years_before_the_bag<S: Alter>(
+    tx: &mut Transaction<'_, S>,
+    asked: &DepositAsked<'_>,
+) -> Result<Result<i64, Refusal>, TableFault>
+    ensures inside { GoesOnInside S.Store tx.old.conn tx.new.conn result }
+    ensures reads { Shows S.Store tx.old.conn.now tx.new.conn.now result (λ tables given.
+        (first_told
+        (refusals_before_the_bag tables (visit_of asked.now) asked.now.collection.now
+        asked.now.class.now asked.now.accession.now asked.now.closed)
+        ≡ Some (result_err given))
+        × IfOk given (λ years. years_shown tables asked.now.class.now ≡ Some years)) }
+{
+    let years = match years_at_place(tx, asked)? {
+        Ok(years) => years,
+        Err(why) => return Ok(Err(why)),
+    };
+    let refused = refusal_after_place(tx, asked)?;
+    Ok(unless_refused(years, refused))
 }
 
 /// The number of the next deposit, where the office takes one more.
@@ -167,28 +185,6 @@ fn numbered_bag<'a, S: Alter>(
     judged_bag(alloc, text, number)
 }
 
-/// The bag that is to be kept, with its number, or the refusal that stands first.
-fn new_bag<'a, S: Alter>(
-    alloc: Global,
-    tx: &mut Transaction<'_, S>,
-    asked: &DepositAsked<'_>,
-    text: &'a [u8],
-) -> Result<Result<NewBag<'a>, Refusal>, TableFault>
-    ensures inside { GoesOnInside S.Store tx.old.conn tx.new.conn result }
-    ensures reads { Shows S.Store tx.old.conn.now tx.new.conn.now result (λ tables given.
-        (by_rows.refusal tables (visit_of asked.now) (request_of asked.now text.entry)
-        ≡ Some (result_err given))
-        × IfOk given (λ new. number_after (highest_deposit tables) ≡ Some new.number)) }
-    ensures bag { IfOk result (λ given. IfOk given (λ new. bag_of text.entry.now ≡ Ok new.bag)) }
-    ensures digests { IfOk result (λ given. IfOk given (λ new.
-        new.digests.items ≡ digests_of new.bag)) }
-{
-    if let Some(why) = refusal_before_the_bag(tx, asked)? {
-        return Ok(Err(why));
-    }
-    numbered_bag(alloc, tx, text)
-}
-
 /// Accepts the bag whose transfer form the text is as the next deposit.
 ///
 /// Refused, in this order: no such collection, no such class, the caller may not, the accession is
@@ -204,11 +200,16 @@ pub fn deposit<S: Alter>(
     ensures serves { Serves S.Store tx.old.conn.now tx.new.conn.now result (visit_of asked.now)
         (request_of asked.now bag.entry) }
 {
-    let new = match new_bag(alloc, tx, asked, bag)? {
+    let years = match years_before_the_bag(tx, asked)? {
+        Ok(years) => years,
+        Err(why) => return Ok(Answer::Refused(why)),
+    };
+    let new = match numbered_bag(alloc, tx, bag)? {
         Ok(new) => new,
         Err(why) => return Ok(Answer::Refused(why)),
     };
-    keep(alloc, tx, asked, new.number, &new.bag, &new.digests)?;
+    let due = due(asked.closed, years_numbered(years)?);
+    keep(alloc, tx, asked, new.number, due, &new.bag, &new.digests)?;
     Ok(Answer::Deposited {
         deposit: new.number,
     })

@@ -1,22 +1,24 @@
 //! A bag that is kept: its deposit's row with what is kept beside it, and its files.
 
-ghost use Rattle.std.specs.Prelude.{◌≡◌, IfErr, OkIff, ◌<◌, ◌^◌, Some, option_map, pos};
+ghost use Rattle.std.specs.Prelude.{◌≡◌, IfErr, OkIff, ◌<◌, ◌^◌, Some, pos};
 ghost use Rattle.sha2.specs.Sha256.{sha256};
 ghost use Rattle.bag_text.specs.TransferReading.{file_of, files_of};
 ghost use Rattle.bag_check.specs.Digests.{digests_of};
 ghost use Rattle.office_rows.specs.Rows.{with_file, with_kept};
-ghost use Rattle.office_tables.specs.Calls.{GoesOnInTurn, GoesOnInside, Shows};
+ghost use Rattle.office_tables.specs.Calls.{GoesOnInTurn, GoesOnInside};
 ghost use Rattle.office_tables.specs.Deposits.{added_row};
 ghost use Rattle.office_core.specs.Retention.{due_number};
-ghost use Rattle.office_by_rows.specs.Changes.{count_in, due_in, kept_as, with_files};
+ghost use Rattle.office_by_rows.specs.Changes.{with_files};
 ghost use Rattle.office_asking.specs.Contents.{with_content_of, with_contents_of};
 ghost use Rattle.office_asking.specs.Serving.{Changes, Rewrites};
 ghost use Rattle.office_keeping.specs.Asked.{row_of};
+ghost use Rattle.office_keeping.specs.Kept.{kept_due};
 
 use crate::asked::DepositAsked;
 use bag_check::count_payload;
 use bag_text::BagSet;
-use office_asking::{due_day, live_count};
+use office_asking::live_count;
+use office_core::Due;
 use office_tables::{NewDeposit, TableFault, put_deposit_and_due, put_marked};
 use sqlite::{Alter, Transaction};
 use std::alloc::Global;
@@ -71,53 +73,22 @@ fn row_count(count: usize) -> Result<i64, TableFault>
     }
 }
 
-/// What is kept of a deposit beside its row.
-#[derive(Clone, Copy)]
-struct Beside {
-    /// The number of the day from which it may be destroyed; `None` where it is kept permanently.
-    due: Option<i64>,
-    /// How many live holds cover it.
-    holds: i64,
-}
-
-/// What is to be kept beside the row of the deposit that gets that number.
-fn beside_row<S: Alter>(
-    alloc: Global,
-    tx: &mut Transaction<'_, S>,
-    asked: &DepositAsked<'_>,
-    number: u32,
-) -> Result<Beside, TableFault>
-    ensures inside { GoesOnInside S.Store tx.old.conn tx.new.conn result }
-    ensures reads { Shows S.Store tx.old.conn.now tx.new.conn.now result (λ tables beside.
-        (option_map due_number (due_in tables asked.now.class.now asked.now.closed)
-        ≡ Some beside.due)
-        × (option_map pos (count_in tables number asked.now.collection.now asked.now.class.now)
-        ≡ Some beside.holds)) }
-{
-    let collection = asked.collection.as_str();
-    let class = asked.class.as_str();
-    let due = due_day(tx, class, asked.closed)?;
-    let holds = live_count(alloc, tx, number, collection, class)?;
-    Ok(Beside {
-        due: due.number(),
-        holds,
-    })
-}
-
-/// Puts the row of a deposit, and what is kept beside it.
+/// Puts the row of a deposit that falls due so and is covered by that many live holds.
 fn put_row<S: Alter>(
     tx: &mut Transaction<'_, S>,
     deposit: NewDeposit<'_>,
-    beside: Beside,
+    due: Due,
+    holds: i64,
 ) -> Result<(), TableFault>
     ensures inside { GoesOnInside S.Store tx.old.conn tx.new.conn result }
     ensures changes { Changes S.Store tx.old.conn.now tx.new.conn.now result (λ tables.
-        Some (with_kept (added_row deposit.entry) beside.due beside.holds tables)) }
+        Some (with_kept (added_row deposit.entry) (due_number due) holds tables)) }
 {
-    put_deposit_and_due(tx, deposit, beside.due, beside.holds)
+    put_deposit_and_due(tx, deposit, due.number(), holds)
 }
 
-/// Keeps a bag, whose files have these SHA-256, as the deposit of that number, which is to be the next.
+/// Keeps a bag, whose files have these SHA-256, as the deposit of that number, which is to be the next
+/// and falls due so.
 ///
 /// Fails with `Memory` or `Store`.
 pub(crate) fn keep<S: Alter>(
@@ -125,27 +96,30 @@ pub(crate) fn keep<S: Alter>(
     tx: &mut Transaction<'_, S>,
     asked: &DepositAsked<'_>,
     number: u32,
+    due: Due,
     bag: &BagSet<'_>,
     digests: &[[u8; 32]],
 ) -> Result<(), TableFault>
     requires { digests.now ≡ digests_of bag.now }
     ensures inside { GoesOnInside S.Store tx.old.conn tx.new.conn result }
     ensures changes { Rewrites S.Store tx.old.conn.now tx.new.conn.now result
-        (kept_as number (row_of asked.now number bag.now) asked.now.closed bag.now)
+        (kept_due number (row_of asked.now number bag.now) due bag.now)
         (λ _ contents. with_contents_of bag.now contents) }
 {
-    let beside = beside_row(alloc, tx, asked, number)?;
+    let collection = asked.collection.as_str();
+    let class = asked.class.as_str();
+    let holds = live_count(alloc, tx, number, collection, class)?;
     let payload = count_payload(bag);
     let new = NewDeposit {
         number,
         accession: asked.accession.as_str(),
-        collection: asked.collection.as_str(),
-        class: asked.class.as_str(),
+        collection,
+        class,
         closed: asked.closed.number() as i64,
         deposited: asked.day.number() as i64,
         files: row_count(payload.files)?,
         bytes: row_count(payload.bytes)?,
     };
-    put_row(tx, new, beside)?;
+    put_row(tx, new, due, holds)?;
     add_files(tx, number, bag.files(), digests)
 }

@@ -1,47 +1,92 @@
-use Rattle.std.proofs.Common.{◌≡◌, Some, Ok, refl, sym, ap, subst, ◌∙◌, rules}
+use Rattle.std.proofs.Common.{◌≡◌, w64, List, Option, Some, Ok, refl, sym, ap, subst, ◌∙◌, rules}
+use mir.Val.{SFits}
+use Rattle.std.proofs.lemmas.Int.{to_z-of_z}
 use Rattle.sqlite.specs.Held.{state}
 use Rattle.office_core.specs.declared.answer.Answer.TheVariants as answers
+use Rattle.office_core.specs.declared.refusal.Refusal.{Refusal}
+use Rattle.office_rows.specs.Rows.{Tables}
 use Rattle.office_tables.specs.Tables.{tables_of}
-use Rattle.office_asking.proofs.RowsTold.{office_still}
-use Rattle.office_tables.proofs.InTurn.{clean_first, inside_after, inside_failed}
+use Rattle.office_tables.specs.declared.fault.TableFault.TheVariants.{Store}
+use Rattle.office_asking.proofs.FirstTold.{none_first, one_first}
+use Rattle.office_asking.proofs.RowsRead.{some_read}
+use Rattle.office_asking.proofs.RowsTold.{office_still, told_before}
+use Rattle.office_tables.proofs.InTurn.{clean_first, inside_after, inside_failed, inside_then}
 use Rattle.std.specs.Result.{result_err}
 use Rattle.std.specs.Prelude.{IfOk, option_map}
 use Rattle.bag_check.specs.Digests.{digests_of}
 use Rattle.office_history.specs.Bags.{bag_of}
-use Rattle.office_by_rows.specs.Changes.{allowed_rows, kept_as}
-use Rattle.office_by_rows.specs.Refusals.{highest_deposit, number_after}
+use Rattle.office_by_rows.specs.Changes.{allowed_rows}
+use Rattle.office_by_rows.specs.Values.{years_of_number}
+use Rattle.office_by_rows.specs.Refusals.{first_told, highest_deposit, number_after, refusals_before_the_bag, refusals_of_the_bag}
 use Rattle.office_asking.specs.Contents.{contents_after, contents_in, files_if_bag, with_contents_of}
-use Rattle.office_asking.proofs.ServedBy.{allowed_by, refused_by, rewritten_as}
+use Rattle.office_asking.proofs.ServedBy.{allowed_by, refused_by, rewritten_after, rewritten_as}
 use Rattle.office_keeping.specs.Asked.{request_of, row_of, visit_of}
-use Rattle.office_keeping.proofs.KeptAs.{next_kept}
+use Rattle.office_keeping.specs.Kept.{kept_due, years_shown}
+use Rattle.office_keeping.specs.declared.asked.DepositAsked.{DepositAsked}
+use Rattle.office_keeping.proofs.KeptAs.{due_read, next_kept}
 use Rattle.office_keeping.proofs.depositing.deposit.Goals as goal
 
 pub keep-requires : goal.keep-requires
-keep-requires g c = c.deref.ensures.value ∙ subst (λ new. IfOk new (λ new. new.digests.items ≡ digests_of new.bag)) c.in-Ok.is c.in_ok-new.ensures.digests
+keep-requires g c = c.deref.ensures.value ∙ subst (λ new. IfOk new (λ new. new.digests.items ≡ digests_of new.bag)) c.in-Ok-2.is c.in_ok-new.ensures.digests
+
+pub returns-in_err-new-clause-inside : goal.returns-in_err-new-clause-inside
+returns-in_err-new-clause-inside g c = inside_failed c.in_ok-years.ensures.inside c.numbered_bag.ensures.inside _ (search rules) (search rules)
+
+pub returns-in-Err-2-clause-inside : goal.returns-in-Err-2-clause-inside
+returns-in-Err-2-clause-inside g c = inside_after c.in_ok-years.ensures.inside c.in_ok-new.ensures.inside _ (search rules)
+
+pub returns-in_err-years_numbered-clause-inside : goal.returns-in_err-years_numbered-clause-inside
+returns-in_err-years_numbered-clause-inside g c = inside_after c.in_ok-years.ensures.inside c.in_ok-new.ensures.inside _ (search rules)
 
 pub returns-in_err-keep-clause-inside : goal.returns-in_err-keep-clause-inside
-returns-in_err-keep-clause-inside g c = inside_failed c.in_ok-new.ensures.inside c.keep.ensures.inside _ (search rules) (search rules)
+returns-in_err-keep-clause-inside g c = inside_failed (inside_then c.in_ok-years.ensures.inside c.in_ok-new.ensures.inside) c.keep.ensures.inside _ (search rules) (search rules)
 
 pub returns-clause-inside : goal.returns-clause-inside
-returns-clause-inside g c = inside_after c.in_ok-new.ensures.inside c.in_ok-keep.ensures.inside _ (search rules)
+returns-clause-inside g c = inside_after (inside_then c.in_ok-years.ensures.inside c.in_ok-new.ensures.inside) c.in_ok-keep.ensures.inside _ (search rules)
+
+-- what is asked before the bag
+abbrev before : DepositAsked → Tables → List (Option (Option Refusal))
+before q t = refusals_before_the_bag t (visit_of q) q.collection.now q.class.now q.accession.now q.closed
 
 pub returns-in-Err-clause-serves : goal.returns-in-Err-clause-serves
 returns-in-Err-clause-serves g c clean office =
-    let asked = c.in_ok-new.ensures.reads clean office in
-    refused_by (visit_of c.args.asked.now) (request_of c.args.asked.now c.args.bag) c.in-Err.why office asked.0 (asked.1.0 ∙ ap (λ new. Some (result_err new)) c.in-Err.is)
+    let q = c.args.asked.now in
+    let t = tables_of (state g.S.Store c.args.tx.now.conn.now).now in
+    let first = c.in_ok-years.ensures.reads clean office in
+    refused_by (visit_of q) (request_of q c.args.bag) c.in-Err.why office first.0 (one_first (before q t) (refusals_of_the_bag t c.args.bag.now) c.in-Err.why (first.1.0 ∙ ap (λ given. Some (result_err given)) c.in-Err.is))
+
+pub returns-in-Err-2-clause-serves : goal.returns-in-Err-2-clause-serves
+returns-in-Err-2-clause-serves g c clean office =
+    let q = c.args.asked.now in
+    let text = c.args.bag in
+    let t = tables_of (state g.S.Store c.args.tx.now.conn.now).now in
+    let first = c.in_ok-years.ensures.reads (clean_first c.in_ok-new.ensures.inside.stays clean) office in
+    let second = c.in_ok-new.ensures.reads clean (office_still first.0 office) in
+    let free = none_first (before q t) (refusals_of_the_bag t text.now) (first.1.0 ∙ ap (λ given. Some (result_err given)) c.in-Ok.is) in
+    let told = told_before first.0 (λ t. first_told (refusals_of_the_bag t text.now) ≡ Some (result_err c.in_ok-new.field-0)) second.1.0 in
+    refused_by (visit_of q) (request_of q text) c.in-Err-2.why office (second.0 ∙ first.0) (free ∙ told ∙ ap (λ new. Some (result_err new)) c.in-Err-2.is)
 
 pub returns-clause-serves : goal.returns-clause-serves
 returns-clause-serves g c clean office =
     let q = c.args.asked.now in
     let text = c.args.bag in
     let t = tables_of (state g.S.Store c.args.tx.now.conn.now).now in
-    let n = c.in-Ok.new.number in
+    let n = c.in-Ok-2.new.number in
+    let bag = c.in-Ok-2.new.bag in
+    let years = c.in_ok-years_numbered.field-0 in
     let early = clean_first c.keep.ensures.inside.stays clean in
-    let asked = c.in_ok-new.ensures.reads early office in
-    let number : number_after (highest_deposit t) ≡ Some n = subst (λ new. IfOk new (λ new. number_after (highest_deposit t) ≡ Some new.number)) c.in-Ok.is asked.1.1 in
-    let bag : bag_of text.now ≡ Ok c.in-Ok.new.bag = subst (λ new. IfOk new (λ new. bag_of text.now ≡ Ok new.bag)) c.in-Ok.is c.in_ok-new.ensures.bag in
-    let mid = tables_of (state g.S.Store c.new_bag.new.tx.conn.now).now in
-    let next : number_after (highest_deposit mid) ≡ Some n = subst (λ db. number_after (highest_deposit (tables_of db)) ≡ Some n) (sym asked.0) number in
-    allowed_by (visit_of q) (request_of q text) (answers.Deposited n) refl asked.0 (asked.1.0 ∙ ap (λ new. Some (result_err new)) c.in-Ok.is) (ap (option_map answers.Deposited) number)
-    (rewritten_as (kept_as n (row_of q n c.in-Ok.new.bag) q.closed c.in-Ok.new.bag) (λ t. allowed_rows t (visit_of q) (request_of q text)) (λ t k. with_contents_of c.in-Ok.new.bag k) (λ t. contents_after t (request_of q text) (answers.Deposited n))
-    (next_kept q text n c.in-Ok.new.bag mid next bag) (ap (λ files. with_contents_of (files_if_bag files) (contents_in (state g.S.Store c.new_bag.new.tx.conn.now).now)) (sym bag)) (c.in_ok-keep.ensures.changes clean (office_still asked.0 office)))
+    let first = c.in_ok-years.ensures.reads (clean_first c.in_ok-new.ensures.inside.stays early) office in
+    let second = c.in_ok-new.ensures.reads early (office_still first.0 office) in
+    let same = second.0 ∙ first.0 in
+    let free = none_first (before q t) (refusals_of_the_bag t text.now) (first.1.0 ∙ ap (λ given. Some (result_err given)) c.in-Ok.is) in
+    let told = told_before first.0 (λ t. first_told (refusals_of_the_bag t text.now) ≡ Some (result_err c.in_ok-new.field-0)) second.1.0 in
+    let number : number_after (highest_deposit t) ≡ Some n = told_before first.0 (λ t. number_after (highest_deposit t) ≡ Some n) (subst (λ new. IfOk new (λ new. number_after (highest_deposit (tables_of (state g.S.Store c.years_before_the_bag.new.tx.conn.now).now)) ≡ Some new.number)) c.in-Ok-2.is second.1.1) in
+    let is_bag : bag_of text.now ≡ Ok bag = subst (λ new. IfOk new (λ new. bag_of text.now ≡ Ok new.bag)) c.in-Ok-2.is c.in_ok-new.ensures.bag in
+    let shown : years_shown t q.class.now ≡ Some c.in-Ok.years = subst (λ given. IfOk given (λ years. years_shown t q.class.now ≡ Some years)) c.in-Ok.is first.1.1 in
+    let fits : SFits w64 c.in-Ok.years = search rules in
+    let are = some_read (years_of_number c.in-Ok.years) Store years (rw (to_z-of_z w64 c.in-Ok.years fits) at c.in_ok-years_numbered.ensures.reads) in
+    let due = due_read t q.class.now q.closed c.in-Ok.years years shown are ∙ ap Some (sym c.due-due.ensures.exact) in
+    allowed_by (visit_of q) (request_of q text) (answers.Deposited n) refl refl (free ∙ told ∙ ap (λ new. Some (result_err new)) c.in-Ok-2.is) (ap (option_map answers.Deposited) number)
+    (rewritten_as (kept_due n (row_of q n bag) c.due-due.result bag) (λ t. allowed_rows t (visit_of q) (request_of q text)) (λ t k. with_contents_of bag k) (λ t. contents_after t (request_of q text) (answers.Deposited n))
+    (next_kept q text n c.due-due.result bag t number due is_bag) (ap (λ files. with_contents_of (files_if_bag files) (contents_in (state g.S.Store c.args.tx.now.conn.now).now)) (sym is_bag))
+    (rewritten_after (kept_due n (row_of q n bag) c.due-due.result bag) (λ t k. with_contents_of bag k) same (c.in_ok-keep.ensures.changes clean (office_still same office))))
