@@ -4,7 +4,6 @@ ghost use Rattle.std.specs.Prelude.{◌≡◌, ◌↔◌, ◌&&◌, IfErr, IfOk,
 ghost use Rattle.std.specs.Option.{ok_or};
 ghost use Rattle.office_core.specs.Names.{is_name, IsName};
 ghost use Rattle.office_core.specs.Policies.{or_stranger};
-ghost use Rattle.office_tables.specs.Faults.{IsFailure};
 ghost use Rattle.office_tables.specs.Calls.{GoesOnInside, Shows};
 ghost use Rattle.office_by_rows.specs.Asking.{decision_by, decision_for, denial_for, denial_in, role_by};
 ghost use Rattle.office_by_rows.specs.Values.{effect_of, is_action_pattern, is_pattern};
@@ -59,7 +58,6 @@ fn are_bounds(first: i64, last: i64) -> bool
 /// What a rule says of what it matches.
 fn effect_of(rule: &RuleRow) -> Result<Effect, TableFault>
     ensures reads { result ≡ ok_or (effect_of rule.now.effect) TableFault.Store }
-    ensures failure { IfErr result IsFailure }
     ensures store { IfErr result (λ fault. fault ≡ TableFault.Store) }
 {
     match rule.effect {
@@ -79,7 +77,6 @@ fn is_rule(row: &RuleRow) -> bool
 /// The decision that a rule's row tells.
 fn decision_in(row: &RuleRow) -> Result<Decision, TableFault>
     ensures reads { result ≡ ok_or (decision_by row.now) TableFault.Store }
-    ensures failure { IfErr result IsFailure }
     ensures store { IfErr result (λ fault. fault ≡ TableFault.Store) }
 {
     match usize::try_from(row.place) {

@@ -34,7 +34,6 @@ pub struct DepositDays {
 pub fn days_in(row: &DepositRow) -> Result<DepositDays, TableFault>
     ensures reads { IfOk result (λ days. days_of row.now ≡ Some (told_days days)) }
     ensures none { OnErr result (days_of row.now ≡ None) }
-    ensures failure { IfErr result IsFailure }
     ensures store { IfErr result (λ fault. fault ≡ TableFault.Store) }
 {
     if row.deposited < row.closed {

@@ -25,7 +25,6 @@ pub fn named_in(row: &HoldRow) -> Result<HoldTarget<'_>, TableFault>
     ensures deposit { IfOk result (λ named. held_deposit named ≡ row.now.deposit) }
     ensures collection { IfOk result (λ named. held_collection named ≡ row.now.collection) }
     ensures class { IfOk result (λ named. held_class named ≡ row.now.class) }
-    ensures failure { IfErr result IsFailure }
     ensures store { IfErr result (λ fault. fault ≡ TableFault.Store) }
 {
     match (row.deposit, &row.collection, &row.class) {

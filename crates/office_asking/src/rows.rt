@@ -38,7 +38,6 @@ pub fn check_there(found: bool) -> Result<(), TableFault>
 pub fn check_between(count: i64, least: u32, most: u32) -> Result<(), TableFault>
     ensures reads { result
         ≡ (if is_between (pos least) (pos most) count then Ok tt else Err TableFault.Store) }
-    ensures failure { IfErr result IsFailure }
     ensures store { IfErr result (λ fault. fault ≡ TableFault.Store) }
 {
     let least = least as i64;
@@ -52,7 +51,6 @@ pub fn check_between(count: i64, least: u32, most: u32) -> Result<(), TableFault
 /// The day with that number.
 pub fn day_numbered(number: i64) -> Result<Day, TableFault>
     ensures reads { result ≡ ok_or (day_numbered number) TableFault.Store }
-    ensures failure { IfErr result IsFailure }
     ensures store { IfErr result (λ fault. fault ≡ TableFault.Store) }
 {
     let Ok(small) = i32::try_from(number) else {
@@ -67,7 +65,6 @@ pub fn day_numbered(number: i64) -> Result<Day, TableFault>
 /// The day with that number, where there is a number.
 pub fn optional_day_numbered(number: Option<i64>) -> Result<Option<Day>, TableFault>
     ensures reads { result ≡ ok_or (if_any day_numbered number) TableFault.Store }
-    ensures failure { IfErr result IsFailure }
     ensures store { IfErr result (λ fault. fault ≡ TableFault.Store) }
 {
     match number {
@@ -79,7 +76,6 @@ pub fn optional_day_numbered(number: Option<i64>) -> Result<Option<Day>, TableFa
 /// The day from which a deposit may be destroyed, by the number that is kept of it; never where there is none.
 pub fn due_numbered(number: Option<i64>) -> Result<Due, TableFault>
     ensures reads { result ≡ ok_or (due_of_number number) TableFault.Store }
-    ensures failure { IfErr result IsFailure }
     ensures store { IfErr result (λ fault. fault ≡ TableFault.Store) }
 {
     let Some(number) = number else {
@@ -94,7 +90,6 @@ pub fn due_numbered(number: Option<i64>) -> Result<Due, TableFault>
 /// The years that the number of a class's row stands for.
 pub fn years_numbered(number: i64) -> Result<Years, TableFault>
     ensures reads { result ≡ ok_or (years_of_number number) TableFault.Store }
-    ensures failure { IfErr result IsFailure }
     ensures store { IfErr result (λ fault. fault ≡ TableFault.Store) }
 {
     if number == -1 {
@@ -117,7 +112,6 @@ pub fn text_read<K: TextKind>(text: &str) -> Result<Text<'_, K>, TableFault>
     ensures kind { IfOk result (λ found. K.is_of_kind found ≡ true) }
     // Only a text that is none fails.
     ensures none { OnErr result (K.is_of_kind text.now ≡ true → ⊥) }
-    ensures failure { IfErr result IsFailure }
     ensures store { IfErr result (λ fault. fault ≡ TableFault.Store) }
 {
     match Text::<K>::read(text) {
