@@ -7,3 +7,4 @@ pub mod FormTold
 pub mod ListedByRow
 pub mod Totals
 pub mod NamesSpelled
+pub mod ReadFor

@@ -59,8 +59,7 @@ module _ (t : Tables) (role : List ℕ) (day : Date) where
         ap (λ o. o >>= λ due. is_allowed_for t role day acts.Dispose place.collection place.class >>= λ allowed. told_if allowed (count_of place.number)) is_due
         ∙ ap (λ o. o >>= λ allowed. told_if allowed (count_of place.number)) is
 
-    pub number_told : (number : ℕ) → is_allowed_for t role day acts.Dispose place.collection place.class ≡ Some true → count_of place.number ≡ Some number → place_told t role day place ≡ Some (Some number)
-    number_told number allowed is = told_by true allowed ∙ ap (option_map Some) is
-
-    pub no_number : is_allowed_for t role day acts.Dispose place.collection place.class ≡ Some false → place_told t role day place ≡ Some None
-    no_number allowed = told_by false allowed
+    -- its number, where that is allowed
+    pub number_if_told : (number : ℕ) (allowed : Bool) → is_allowed_for t role day acts.Dispose place.collection place.class ≡ Some allowed → count_of place.number ≡ Some number → place_told t role day place ≡ Some (if allowed then Some number else None)
+    number_if_told number true allowed is = told_by true allowed ∙ ap (option_map Some) is
+    number_if_told number false allowed is = told_by false allowed

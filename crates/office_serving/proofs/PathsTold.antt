@@ -2,13 +2,9 @@
 use Rattle.std.proofs.Common.{◌≡◌, ℕ, Bool, true, false, List, Some, None, refl, cond}
 use Rattle.std.proofs.lemmas.Option.{same_Some}
 
-pub spelled : (b : Bool) (text bytes : List ℕ) → Some text ≡ cond b (Some bytes) None → text ≡ bytes
-spelled true text bytes e = same_Some _ _ e
+pub spelled : (b : Bool) (text bytes : List ℕ) → Some text ≡ cond b (Some bytes) None → (text ≡ bytes) × (b ≡ true)
+spelled true text bytes e = (same_Some _ _ e, refl)
 spelled false text bytes e = absurd cc
-
-pub is_spelled : (b : Bool) (text bytes : List ℕ) → Some text ≡ cond b (Some bytes) None → b ≡ true
-is_spelled true text bytes e = refl
-is_spelled false text bytes e = absurd cc
 
 pub unspelled : (b : Bool) (bytes : List ℕ) → None ≡ cond b (Some bytes) None → b ≡ false
 unspelled true bytes e = absurd cc

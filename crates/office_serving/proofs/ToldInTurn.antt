@@ -1,11 +1,26 @@
 -- What is told of rows, one after another, where each may tell nothing.
-use Rattle.std.proofs.Common.{◌≡◌, ℕ, ◌+◌, ◌<◌, List, [], ◌∷◌, ◌++◌, length, map, take, get_or, Option, Some, None, refl, sym, ap, ◌∙◌, arith}
+use Rattle.std.proofs.Common.{◌≡◌, ℕ, ◌+◌, ◌<◌, List, [], ◌∷◌, ◌++◌, length, map, take, get_or, Option, Some, None, refl, sym, ap, subst, ◌∙◌, arith}
+use Rattle.std.specs.Prelude.{Ok}
+use Rattle.std.specs.Borrow.{MutBor}
 use Rattle.std.specs.List.{cons_option}
 use Rattle.std.proofs.lemmas.List.{map_more, take_more, take_all}
 use Rattle.std.proofs.lemmas.Option.{same_Some}
+use Rattle.sqlite.specs.Store.{Ghosts}
+use Rattle.sqlite.specs.State.{HasCleanDisk}
+use Rattle.sqlite.specs.Held.{Held, state}
+use Rattle.jiff.specs.Types.{Date}
 use Rattle.office_core.specs.FirstOf.{◌>>=◌}
+use Rattle.office_core.specs.declared.action.Action.{Action}
 use Rattle.office_core.proofs.OptionLemmas.{some_and_then}
+use Rattle.office_rows.specs.Rows.{Tables}
+use Rattle.office_tables.specs.Calls.{GoesOnInTurn, Shows}
+use Rattle.office_tables.specs.Tables.{IsOffice, tables_of}
+use Rattle.office_tables.specs.declared.fault.TableFault.{TableFault}
+use Rattle.office_tables.proofs.InTurn.{clean_first}
 use Rattle.office_by_rows.specs.Values.{all_told, things_told}
+use Rattle.office_asking.proofs.RowsTold.{office_still, told_before}
+use Rattle.office_serving.specs.Allowances.{AreFor}
+use Rattle.office_serving.specs.declared.allowances.Allowances.{Allowances}
 
 -- ---- one thing of each, or nothing to tell
 
@@ -32,6 +47,28 @@ module _ {A B : Type 0} (tell : A → Option (Option B)) where
   -- all rows
   pub things_all : (xs : List A) (i : ℕ) → i ≡ length xs → (told : List B) → things_told tell (take i xs) ≡ Some told → things_told tell xs ≡ Some told
   things_all xs i is told e = ap (things_told tell) (sym (ap (λ n. take n xs) is ∙ take_all (length xs) xs (omega arith))) ∙ e
+
+-- the same where the rules are asked in turn, and what they say is known from then on
+module _ {A B : Type 0} (action : Action) (tell : Tables → List ℕ → Date → A → Option (Option B)) where
+  -- so much is told of these rows
+  abbrev pub AreTold : {S : Type 0} → Ghosts S → Held S → Held S → List ℕ → Date → Allowances → List A → List B → Type 0
+  AreTold g old now role day known xs told =
+      HasCleanDisk (state g now) → IsOffice (state g old).now → ((state g now).now ≡ (state g old).now) × AreFor (tables_of (state g old).now) role day action known × (things_told (tell (tables_of (state g old).now) role day) xs ≡ Some told)
+
+  -- this is told of a row
+  abbrev pub IsTold : Allowances → Allowances → A → Option B → Tables → Type 0
+  IsTold known more x one t = (role : List ℕ) (day : Date) → AreFor t role day action known → AreFor t role day action more × (tell t role day x ≡ Some one)
+
+  -- the next row
+  pub told_next : {S : Type 0} {g : Ghosts S} {old mid new : MutBor (Held S)} {one : Option B} (role : List ℕ) (day : Date) (known more : Allowances) (xs : List A) (i : ℕ) (x : A) → i < length xs → x ≡ get_or xs i x → (before after : List B) → after ≡ before ++ cons_option one []
+      → GoesOnInTurn {T = Unit {0}} g old mid (Ok tt) → AreTold g old.now mid.now role day known (take i xs) before → GoesOnInTurn g mid new (Ok one) → Shows {E = TableFault} g mid.now new.now (Ok one) (λ t one. IsTold known more x one t)
+      → AreTold g old.now new.now role day more (take (i + 1) xs) after
+  told_next {g = g} {old = old} {one = one} role day known more xs i x low item before after is _ told turn reads clean office =
+      let first = told (clean_first turn.stays clean) office in
+      let found = reads clean (office_still first.0 office) in
+      let said = told_before first.0 (IsTold known more x one) found.1 role day first.1 in
+      let tells = tell (tables_of (state g old.now).now) role day in
+      (found.0 ∙ first.0, said.0, things_next tells xs i x low before first.2 one (subst (λ x. tells x ≡ Some one) item said.1) after is)
 
 -- ---- one thing of each
 

@@ -8,6 +8,7 @@ ghost use Rattle.office_tables.specs.Calls.{GoesOnInTurn, GoesOnInside, Shows};
 ghost use Rattle.office_by_rows.specs.Answers.{is_allowed_for};
 ghost use Rattle.office_asking.specs.Asking.{role_name};
 ghost use Rattle.office_serving.specs.Allowances.{AreFor};
+ghost use Rattle.office_serving.specs.Kinds.{kind_by, kind_lent};
 
 use crate::kinds::{Kind, Spelled};
 use office_asking::Asker;
@@ -25,6 +26,26 @@ pub struct Allowances<'a> {
     action: Action,
     spelled: Spelled,
     known: HashMap<Kind<'a>, bool>,
+}
+
+/// Whether the rules let the asker do that with the deposits of this collection and this class.
+///
+/// Fails with `Memory` or `Store`.
+#[tactic(auto, using(crate::proofs::ListedByRow::allowed_is))]
+fn is_allowed<S: Alter>(
+    tx: &mut Transaction<'_, S>,
+    asker: &Asker,
+    action: Action,
+    collection: &str,
+    class: &str,
+) -> Result<bool, TableFault>
+    ensures inside { GoesOnInside S.Store tx.old.conn tx.new.conn result }
+    ensures reads { Shows S.Store tx.old.conn.now tx.new.conn.now result (λ tables is.
+        is_allowed_for tables (role_name asker.now) asker.now.day action collection.now class.now
+        ≡ Some is) }
+{
+    let denied = asker.denial(tx, action, Some(collection), Some(class))?;
+    Ok(denied.is_none())
 }
 
 impl<'a> Allowances<'a> {
@@ -49,6 +70,30 @@ impl<'a> Allowances<'a> {
         })
     }
 
+    /// Whether the rules let the caller do that with the deposits of this collection and this class, which are a
+    /// pair of that kind: the rules are asked, and what they say is known from then on.
+    ///
+    /// Fails with `Memory` or `Store`.
+    fn learn<S: Alter>(
+        &mut self,
+        tx: &mut Transaction<'_, S>,
+        kind: Kind<'a>,
+        collection: &str,
+        class: &str,
+    ) -> Result<bool, TableFault>
+        ensures inside { GoesOnInside S.Store tx.old.conn tx.new.conn result }
+        ensures reads { Shows S.Store tx.old.conn.now tx.new.conn.now result (λ tables is.
+            (role : List ℕ) (day : Date) (action : Action)
+            → kind_by self.old.spelled collection.now class.now ≡ kind_lent kind.entry
+            → AreFor tables role day action self.old
+            → AreFor tables role day action self.new
+            × (is_allowed_for tables role day action collection.now class.now ≡ Some is)) }
+    {
+        let is = is_allowed(tx, self.asker, self.action, collection, class)?;
+        self.known.insert(kind, is)?;
+        Ok(is)
+    }
+
     /// Whether the rules let the caller do that with the deposits of this collection and this class.
     ///
     /// Fails with `Memory` or `Store`.
@@ -69,11 +114,6 @@ impl<'a> Allowances<'a> {
         if let Some(is) = self.known.get(&kind).copied() {
             return Ok(is);
         }
-        let denied = self
-            .asker
-            .denial(tx, self.action, Some(collection), Some(class))?;
-        let is = denied.is_none();
-        self.known.insert(kind, is)?;
-        Ok(is)
+        self.learn(tx, kind, collection, class)
     }
 }

@@ -6,9 +6,10 @@ ghost use Rattle.bag_text.specs.TransferReading as reading;
 ghost use Rattle.office_core.specs.declared.request.Request.TheVariants as requests;
 ghost use Rattle.office_tables.specs.Faults.{IsFailure};
 ghost use Rattle.office_tables.specs.Calls.{GoesOnInside};
+ghost use Rattle.office_tables.specs.Contents.{Does};
 ghost use Rattle.office_by_rows.specs.Answers.{file_in};
 ghost use Rattle.office_asking.specs.Asking.{visit_on};
-ghost use Rattle.office_serving.specs.Reading.{ServesReading};
+ghost use Rattle.office_serving.specs.Reading.{IsReadFor, ServesReading};
 
 use bag_text::{BagSet, SetFault, write_bagset};
 use office_asking::kept_deposit;
@@ -62,9 +63,28 @@ fn text_of(alloc: Global, rows: &[FileRow]) -> Result<Vec<u8>, TableFault>
     form_of(alloc, &pairs)
 }
 
+/// The answer with the transfer form of the bag of that deposit, where each content is intact.
+///
+/// Fails with `Memory` or `Store`.
+fn stored_bag<S: Alter>(
+    alloc: Global,
+    tx: &mut Transaction<'_, S>,
+    number: u32,
+) -> Result<Answer, TableFault>
+    ensures inside { GoesOnInside S.Store tx.old.conn tx.new.conn result }
+    ensures reads { Does S.Store tx.old.conn.now tx.new.conn.now result
+        (IsReadFor (requests.DownloadBag number)) }
+{
+    let rows = intact_files_of(alloc, tx, number)?;
+    Ok(Answer::Bag {
+        bytes: Sequence::of(text_of(alloc, &rows)?),
+    })
+}
+
 /// Answers the transfer form of a deposit's bag, where the SHA-256 of each content is still its mark.
 ///
 /// Fails with `Memory` or `Store`, as where it is not, and where the files that are stored are no bag.
+#[tactic(auto, using(office_tables::proofs::InTurn::inside_then))]
 pub fn download_bag<S: Alter>(
     alloc: Global,
     tx: &mut Transaction<'_, S>,
@@ -77,12 +97,7 @@ pub fn download_bag<S: Alter>(
         (visit_on day caller.now) (requests.DownloadBag number) }
 {
     match kept_deposit(tx, day, caller, Action::Download, number)? {
-        Ok(_) => {
-            let rows = intact_files_of(alloc, tx, number)?;
-            Ok(Answer::Bag {
-                bytes: Sequence::of(text_of(alloc, &rows)?),
-            })
-        }
+        Ok(_) => stored_bag(alloc, tx, number),
         Err(why) => Ok(Answer::Refused(why)),
     }
 }

@@ -1,11 +1,14 @@
 //! The deposits that a caller may destroy on a day.
 
-ghost use Rattle.std.specs.Prelude.{◌≡◌, Some};
+ghost use Rattle.std.specs.Prelude.{◌≡◌, ℕ, List, Some};
+ghost use Rattle.jiff.specs.Types.{Date};
+ghost use Rattle.office_core.specs.declared.action.Action.TheVariants as acts;
 ghost use Rattle.office_core.specs.declared.request.Request.TheVariants as requests;
 ghost use Rattle.office_tables.specs.Calls.{GoesOnInTurn, GoesOnInside, Shows};
 ghost use Rattle.office_by_rows.specs.Answers.{due_list, place_told};
 ghost use Rattle.office_by_rows.specs.Values.{things_told};
 ghost use Rattle.office_asking.specs.Asking.{role_name, visit_on};
+ghost use Rattle.office_serving.specs.Allowances.{AreFor};
 ghost use Rattle.office_serving.specs.Reading.{ServesReading};
 
 use crate::allowances::Allowances;
@@ -15,8 +18,25 @@ use office_tables::{PlaceRow, TableFault, due_rows};
 use sqlite::{Alter, Transaction};
 use std::alloc::Global;
 
-/// The numbers of those that the rules let the asker destroy. Each due day is read, allowed or not, so that
-/// none stands that isn't one.
+/// The number of the deposit that stands there, where the rules let the asker destroy it. The due day is read,
+/// allowed or not, so that none stands that isn't one.
+fn allowed_number<'a, S: Alter>(
+    tx: &mut Transaction<'_, S>,
+    allowances: &mut Allowances<'a>,
+    place: &'a PlaceRow,
+) -> Result<Option<u32>, TableFault>
+    ensures inside { GoesOnInTurn S.Store tx.old.conn tx.new.conn result }
+    ensures reads { Shows S.Store tx.old.conn.now tx.new.conn.now result (λ tables number.
+        (role : List ℕ) (day : Date) → AreFor tables role day acts.Dispose allowances.old
+        → AreFor tables role day acts.Dispose allowances.new
+        × (place_told tables role day place.now ≡ Some number)) }
+{
+    due_numbered(place.due)?;
+    let allowed = allowances.allows(tx, &place.collection, &place.class)?;
+    Ok(allowed.then_some(place.number))
+}
+
+/// The numbers of those that the rules let the asker destroy.
 fn allowed_among<S: Alter>(
     alloc: Global,
     tx: &mut Transaction<'_, S>,
@@ -31,10 +51,8 @@ fn allowed_among<S: Alter>(
     let mut allowances = Allowances::read(alloc, tx, asker, Action::Dispose)?;
     let mut numbers = Vec::new(alloc);
     for place in places {
-        due_numbered(place.due)?;
-        let allowed = allowances.allows(tx, &place.collection, &place.class)?;
-        if allowed {
-            numbers.push(place.number)?;
+        if let Some(number) = allowed_number(tx, &mut allowances, place)? {
+            numbers.push(number)?;
         }
     }
     Ok(numbers)

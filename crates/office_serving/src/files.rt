@@ -3,10 +3,11 @@
 ghost use Rattle.std.specs.Prelude.{◌≡◌, None, Some, if◌then◌else◌, option_copied, option_map};
 ghost use Rattle.bag_text.specs.Paths.{is_good};
 ghost use Rattle.office_core.specs.declared.request.Request.TheVariants as requests;
-ghost use Rattle.office_tables.specs.Calls.{GoesOnInside};
+ghost use Rattle.office_tables.specs.Calls.{GoesOnInTurn, GoesOnInside};
+ghost use Rattle.office_tables.specs.Contents.{Does};
 ghost use Rattle.office_history.specs.Answers.{file_answer};
 ghost use Rattle.office_asking.specs.Asking.{visit_on};
-ghost use Rattle.office_serving.specs.Reading.{ServesReading};
+ghost use Rattle.office_serving.specs.Reading.{IsReadFor, ServesReading};
 
 use bag_text::laws::good_paths;
 use bag_text::{BagPath, as_text};
@@ -38,6 +39,28 @@ fn file_answer(content: Option<Vec<u8>>) -> Answer
     }
 }
 
+/// The answer with the file at that path of the bag of that deposit, where its content is intact, or that there
+/// is none.
+///
+/// Fails with `Memory` or `Store`.
+fn stored_file<S: Alter>(
+    tx: &mut Transaction<'_, S>,
+    number: u32,
+    path: &[u8],
+) -> Result<Answer, TableFault>
+    ensures inside { GoesOnInTurn S.Store tx.old.conn tx.new.conn result }
+    ensures reads { Does S.Store tx.old.conn.now tx.new.conn.now result
+        (IsReadFor (requests.DownloadFile number path.entry)) }
+{
+    match bag_path(path) {
+        Some(text) => {
+            let content = intact_file_of(tx, number, text)?;
+            Ok(file_answer(content))
+        }
+        None => Ok(file_answer(None)),
+    }
+}
+
 /// Answers the file at that path of a deposit's bag, where the SHA-256 of its content is still its mark. The
 /// path is any bytes: one that no bag may have is that of no file.
 ///
@@ -54,10 +77,7 @@ pub fn download_file<S: Alter>(
         (visit_on day caller.now) (requests.DownloadFile number path.entry) }
 {
     match kept_deposit(tx, day, caller, Action::Download, number)? {
-        Ok(_) => match bag_path(path) {
-            Some(text) => Ok(file_answer(intact_file_of(tx, number, text)?)),
-            None => Ok(file_answer(None)),
-        },
+        Ok(_) => stored_file(tx, number, path),
         Err(why) => Ok(Answer::Refused(why)),
     }
 }

@@ -2,15 +2,18 @@
 
 ghost use Rattle.std.specs.Prelude.{◌≡◌, Some, map, pos};
 ghost use Rattle.office_core.specs.declared.request.Request.TheVariants as requests;
+ghost use Rattle.office_rows.specs.Rows.{deposit_numbered};
 ghost use Rattle.office_tables.specs.Calls.{GoesOnInTurn, GoesOnInside, Shows};
+ghost use Rattle.office_tables.specs.Contents.{Does};
+ghost use Rattle.office_tables.specs.Tables.{tables_of};
 ghost use Rattle.office_by_rows.specs.Asking.{told_hold, told_holds};
 ghost use Rattle.office_by_rows.specs.Values.{all_told};
 ghost use Rattle.office_asking.specs.Asking.{visit_on};
-ghost use Rattle.office_serving.specs.Reading.{ServesReading};
+ghost use Rattle.office_serving.specs.Reading.{IsReadFor, ServesReading};
 
 use office_asking::{holds_over, kept_deposit, told_hold};
 use office_core::{Action, Answer, Day, LiveHold, Sequence};
-use office_tables::TableFault;
+use office_tables::{DepositRow, TableFault};
 use sqlite::{Alter, Transaction};
 use std::alloc::Global;
 
@@ -48,9 +51,29 @@ fn told_holds<S: Alter>(
     told_each(alloc, tx, &numbers)
 }
 
+/// The answer with the live holds that cover the deposit of that number, where it has this row.
+///
+/// Fails with `Memory` or `Store`.
+fn stored_holds<S: Alter>(
+    alloc: Global,
+    tx: &mut Transaction<'_, S>,
+    number: u32,
+    row: &DepositRow,
+) -> Result<Answer, TableFault>
+    ensures inside { GoesOnInside S.Store tx.old.conn tx.new.conn result }
+    ensures reads { Does S.Store tx.old.conn.now tx.new.conn.now result (λ old new given.
+        deposit_numbered (pos number) (tables_of old).deposits ≡ Some row.now
+        → IsReadFor (requests.Holds number) old new given) }
+{
+    Ok(Answer::Holds {
+        holds: Sequence::of(told_holds(alloc, tx, number, &row.collection, &row.class)?),
+    })
+}
+
 /// Answers the live holds that cover a deposit.
 ///
 /// Fails with `Memory` or `Store`.
+#[tactic(auto, using(office_tables::proofs::InTurn::inside_then))]
 pub fn holds<S: Alter>(
     alloc: Global,
     tx: &mut Transaction<'_, S>,
@@ -63,9 +86,7 @@ pub fn holds<S: Alter>(
         (visit_on day caller.now) (requests.Holds number) }
 {
     match kept_deposit(tx, day, caller, Action::Holds, number)? {
-        Ok(row) => Ok(Answer::Holds {
-            holds: Sequence::of(told_holds(alloc, tx, number, &row.collection, &row.class)?),
-        }),
+        Ok(row) => stored_holds(alloc, tx, number, &row),
         Err(why) => Ok(Answer::Refused(why)),
     }
 }

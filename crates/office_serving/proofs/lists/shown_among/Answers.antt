@@ -1,46 +1,28 @@
-use Rattle.std.proofs.Common.{arith, rules, ◌≡◌, ◌++◌, [], length, get_or, ap, sym, subst, ◌∙◌, append-nil, Some}
+use Rattle.std.proofs.Common.{arith, rules, ◌≡◌, ◌++◌, [], length, get_or, ap, sym, ◌∙◌, append-nil, Some}
 use Rattle.std.specs.List.{cons_option}
-use Rattle.sqlite.specs.State.{HasCleanDisk}
 use Rattle.sqlite.specs.Held.{state}
 use Rattle.office_core.specs.declared.action.Action.TheVariants as acts
 use Rattle.office_tables.specs.Tables.{tables_of}
-use Rattle.office_tables.proofs.InTurn.{clean_first, in_turn, turn_as, turn_failed, turn_then}
+use Rattle.office_tables.proofs.InTurn.{in_turn, turn_as, turn_failed, turn_then}
 use Rattle.office_by_rows.specs.Answers.{listed_record}
 use Rattle.office_asking.specs.Asking.{role_name}
-use Rattle.office_asking.proofs.RowsTold.{office_still, told_before}
-use Rattle.office_serving.specs.Allowances.{AreFor}
 use Rattle.office_serving.specs.Listing.{wanted_of}
-use Rattle.office_serving.proofs.ToldInTurn.{things_all, things_next}
+use Rattle.office_serving.proofs.ToldInTurn.{things_all, told_next}
 use Rattle.office_serving.proofs.lists.shown_among.Goals.{in-Some+in_ok-push, in_default}
 use Rattle.office_serving.proofs.lists.shown_among.Goals as goal
 
 pub loop-row-preserved : goal.loop-row-preserved
 loop-row-preserved g c =
     let a = c.args in
-    let old = state g.S.Store a.tx.now.conn.now in
-    let new = state g.S.Store c.shown_record.new.tx.conn.now in
     let inv = c.loop-row.invariant in
-    let place = c.loop-row.row-index in
-    let row = c.row-item.result in
-    let item : row ≡ get_or a.rows.now place row = search rules in
-    let early = λ (clean : HasCleanDisk new). clean_first c.shown_record.ensures.inside.stays clean in
+    let item : c.row-item.result ≡ get_or a.rows.now c.loop-row.row-index c.row-item.result = search rules in
+    let told = c.loop-row.told.items in
     record {
       inside = turn_as (turn_then inv.inside c.in_ok-record.ensures.inside) _ tt;
-      reads = λ clean office.
-          let before = inv.reads (early clean) office in
-          let found = c.in_ok-record.ensures.reads clean (office_still before.0 office) in
-          let role = role_name a.asker.now in
-          let day = a.asker.now.day in
-          let said = told_before before.0 (λ t. AreFor t role day acts.List c.loop-row.allowances → AreFor t role day acts.List c.shown_record.new.allowances × (listed_record t role day (wanted_of a.collection a.class) row ≡ Some c.in_ok-record.field-0))
-          (found.1 role day) before.1 in
-          let told = listed_record (tables_of old.now) role day (wanted_of a.collection a.class) in (
-            found.0 ∙ before.0,
-            said.0,
-            things_next told a.rows.now place row c.loop-row-test.true c.loop-row.told.items before.2 c.in_ok-record.field-0 (subst (λ r. told r ≡ Some c.in_ok-record.field-0) item said.1) _ (elim c.match-branch-3.branch [
-              | in-Some+in_ok-push w ↦ ap (λ v. v.items) w.told-is ∙ w.in_ok-push.ensures.items ∙ ap (λ o. c.loop-row.told.items ++ cons_option o []) (sym w.in-Some.is)
-              | in_default w ↦ ap (λ v. v.items) w.told-is ∙ sym (append-nil c.loop-row.told.items) ∙ ap (λ o. c.loop-row.told.items ++ cons_option o []) (sym w.in_default.is)
-            ]),
-          );
+      reads = told_next acts.List (λ t role day. listed_record t role day (wanted_of a.collection a.class)) (role_name a.asker.now) a.asker.now.day c.loop-row.allowances c.shown_record.new.allowances a.rows.now c.loop-row.row-index c.row-item.result c.loop-row-test.true item told _ (elim c.match-branch-3.branch [
+        | in-Some+in_ok-push w ↦ ap (λ v. v.items) w.told-is ∙ w.in_ok-push.ensures.items ∙ ap (λ o. told ++ cons_option o []) (sym w.in-Some.is)
+        | in_default w ↦ ap (λ v. v.items) w.told-is ∙ sym (append-nil told) ∙ ap (λ o. told ++ cons_option o []) (sym w.in_default.is)
+      ]) inv.inside inv.reads c.in_ok-record.ensures.inside c.in_ok-record.ensures.reads;
     }
 
 pub loop-row-init : goal.loop-row-init
