@@ -1,6 +1,6 @@
 //! Classes.
 
-ghost use Rattle.std.specs.Prelude.{◌≡◌, ◌∷◌, ◌+ℤ◌, IsTrue, option_map, pos};
+ghost use Rattle.std.specs.Prelude.{◌≡◌, ◌↔◌, ◌∷◌, ◌+ℤ◌, IsTrue, option_map, pos};
 ghost use Rattle.office_core.specs.Retention.{due_number};
 ghost use Rattle.office_core.specs.RetentionReading.{due_of};
 ghost use Rattle.office_core.specs.declared.request.Request.TheVariants as requests;
@@ -32,9 +32,9 @@ fn years_number(years: Years) -> i64
 /// Whether the deposit of the next row has the next number, and was closed on the same day.
 fn follows(row: &ClosingRow, next: &ClosingRow) -> bool
     ensures { IsTrue result
-        → next.now ≡ record { number = row.now.number +ℤ pos 1; closed = row.now.closed } }
+        ↔ next.now ≡ record { number = row.now.number +ℤ pos 1; closed = row.now.closed } }
 {
-    row.number.checked_add(1) == Some(next.number) && next.closed == row.closed
+    i64::from(next.number) == i64::from(row.number) + 1 && next.closed == row.closed
 }
 
 /// Sets the due day of a series: the deposits from the first row's number to the last's, which were closed on
@@ -143,10 +143,9 @@ pub fn define_class<S: Alter>(
     if let Some(why) = denial(tx, day, caller, Action::Class, None, Some(name.as_str()))? {
         return Ok(Answer::Refused(why));
     }
-    let defined = name.to_owned(alloc)?;
     put_years(alloc, tx, name.as_str(), years)?;
     Ok(Answer::Class {
-        name: defined,
+        name: name.to_owned(alloc)?,
         years,
     })
 }

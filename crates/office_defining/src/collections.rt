@@ -35,7 +35,8 @@ pub fn define_collection<S: Alter>(
     )? {
         return Ok(Answer::Refused(why));
     }
-    let defined = name.to_owned(alloc)?;
     put_collection(tx, name.as_str())?;
-    Ok(Answer::Collection { name: defined })
+    Ok(Answer::Collection {
+        name: name.to_owned(alloc)?,
+    })
 }

@@ -6,20 +6,23 @@ use Rattle.sqlite.specs.Held.{state}
 use Rattle.office_rows.specs.Rows.{with_class}
 use Rattle.office_rows.specs.Told.{class_closings}
 use Rattle.office_tables.specs.Tables.{tables_of}
+use Rattle.office_tables.proofs.InTurn.{inside_then}
 use Rattle.office_history.specs.Pictures.{years_number}
 use Rattle.office_by_rows.specs.Changes.{with_due_days, with_years}
 use Rattle.office_asking.proofs.ServedBy.{changed_as, changes_by, changes_then}
 use Rattle.office_defining.proofs.DueDaysByRows.{closings_still}
 use Rattle.office_defining.proofs.classes.put_years.Goals as goal
 
+pub returns-clause-inside : goal.returns-clause-inside
+returns-clause-inside g c = inside_then c.in_ok-put_class.ensures.inside c.set_days_of_class.ensures.inside
+
 pub returns-clause-changes : goal.returns-clause-changes
 returns-clause-changes g c clean office =
     let a = c.args in
     let t = tables_of (state g.S.Store a.tx.now.conn.now).now in
     let put = c.in_ok-put_class.ensures in
-    let set = c.set_days_of_class.ensures in
     let years : c.years_number.result ≡ years_number a.years = search rules in
     let fits : SFits w64 c.years_number.result = search rules in
     let puts = changes_by put.inside (with_class a.name.now (years_number a.years)) (rw (to_z-of_z w64 c.years_number.result fits, years) at put.becomes) put.contents in
     on_ok_weaker c.set_days_of_class.result (changed_as _ (with_years a.name.now a.years) (ap (λ rows. with_due_days a.years rows (with_class a.name.now (years_number a.years) t)) (closings_still a.name.now (years_number a.years) t)))
-    (changes_then put.inside set.inside (λ t. Some (with_class a.name.now (years_number a.years) t)) (λ t. with_due_days a.years (class_closings a.name.now t) t) puts set.changes clean office)
+    (changes_then put.inside c.set_days_of_class.ensures.inside (λ t. Some (with_class a.name.now (years_number a.years) t)) (λ t. with_due_days a.years (class_closings a.name.now t) t) puts c.set_days_of_class.ensures.changes clean office)

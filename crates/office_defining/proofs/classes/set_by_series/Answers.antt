@@ -21,7 +21,6 @@ loop-next-init g c = (begins [] _ c.args.row.now _ _ refl refl refl, none_called
 pub loop-next-preserved : goal.loop-next-preserved
 loop-next-preserved g c =
     let a = c.args in
-    let old = state g.S.Store a.tx.now.conn.now in
     let inv = c.loop-next.invariant in
     let i = c.loop-next.next-index in
     let rows : List ClosingRow = a.row.now ∷ take i a.others.now in
@@ -33,14 +32,14 @@ loop-next-preserved g c =
           let set = w.in_ok-set_series.ensures in
           let done : Done rows c.if-not-follows.tx = subst (Done rows) (sym w.tx-is) (
             turn_next inv.1 set.inside,
-            λ clean office. changed_as _ (with_due_days a.years rows) (days_with_series a.years rows _ _ inv.0 (tables_of old.now))
+            λ clean office. changed_as _ (with_due_days a.years rows) (days_with_series a.years rows _ _ inv.0 (tables_of (state g.S.Store a.tx.now.conn.now).now))
                 (changes_next inv.1 set.inside (with_due_days a.years inv.0.before) (with_series a.years c.loop-next.first.now c.loop-next.last.now) inv.2 set.changes clean office),
           ) in
           (begins rows _ next _ _ more (ap (λ row. row.now) w.first-is) (ap (λ row. row.now) w.last-is), done.0, done.1)
       | else-not-follows w ↦
           let is : IsTrue c.follows.result = search rules in
           let done : Done inv.0.before c.if-not-follows.tx = subst (Done inv.0.before) (sym w.tx-is) (inv.1, inv.2) in
-          (goes_on rows _ _ _ next _ _ inv.0 (c.follows.ensures is) more (ap (λ row. row.now) w.first-is) (ap (λ row. row.now) w.last-is), done.0, done.1)
+          (goes_on rows _ _ _ next _ _ inv.0 (c.follows.ensures.0 is) more (ap (λ row. row.now) w.first-is) (ap (λ row. row.now) w.last-is), done.0, done.1)
     ]
 
 pub returns-clause-inside : goal.returns-clause-inside
