@@ -1,7 +1,10 @@
 -- What stands first against a hold or a release, and what is answered and written where nothing does, by the rows that were read.
 use Rattle.std.proofs.Common.{◌≡◌, ℕ, pos, negsuc, not, Bool, true, false, List, [], ◌∷◌, Option, Some, None, option_map, unwrap_or, refl, sym, ap, ◌∙◌, if◌then◌else◌}
+use Rattle.std.specs.Borrow.{MutBor}
 use Rattle.std.proofs.lemmas.Option.{same_Some}
 use Rattle.jiff.specs.Words.{epoch_day}
+use Rattle.sqlite.specs.Held.{Held, state}
+use Rattle.sqlite.specs.Store.{Ghosts}
 use Rattle.office_core.specs.FirstOf.{◌>>=◌, answer_if}
 use Rattle.office_core.specs.declared.action.Action.{Action}
 use Rattle.office_core.specs.declared.action.Action.TheVariants as acts
@@ -11,6 +14,7 @@ use Rattle.office_core.specs.declared.refusal.Refusal.TheVariants.{NoSuch}
 use Rattle.office_core.specs.declared.refusal.Subject.TheVariants as subjects
 use Rattle.office_core.specs.declared.request.Request.TheVariants as requests
 use Rattle.office_rows.specs.Rows.{HoldRow, Tables, has_collection, hold_numbered, with_hold, with_released}
+use Rattle.office_tables.specs.Tables.{tables_of}
 use Rattle.office_history.specs.Histories.{Target, OnDeposit, OnCollection, OnClass}
 use Rattle.office_history.specs.Pictures.{held_deposit}
 use Rattle.office_by_rows.specs.Asking.{Visit, denial_in, target_of}
@@ -19,6 +23,10 @@ use Rattle.office_by_rows.specs.Changes.{allowed_rows, counted_over, new_hold}
 use Rattle.office_by_rows.specs.Refusals.{first_told, full_of_holds, highest_hold, hold_denials, hold_refusals, number_after, of_hold, refusal, release_denial, release_denial_on, released_refusal}
 use Rattle.office_asking.proofs.FirstTold.{none_first}
 use Rattle.office_holding.specs.Targets.{denial_of_name, hold_request, is_there_in, name_denial, subject_of}
+
+-- the tables before a call, by the connection that it was given
+abbrev pub tables_before : {S : Type 0} → Ghosts S → MutBor (Held S) → Tables
+tables_before g conn = tables_of (state g conn.now).now
 
 -- one that is told stands alone
 pub alone : (why : Option Refusal) → first_told (Some why ∷ []) ≡ Some why

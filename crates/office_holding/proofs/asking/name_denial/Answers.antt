@@ -1,26 +1,26 @@
 use Rattle.std.proofs.Common.{rules, ◌≡◌, true, false, ◌∙◌, Some}
-use Rattle.sqlite.specs.Held.{state}
-use Rattle.office_tables.specs.Tables.{tables_of}
-use Rattle.office_tables.proofs.InTurn.{clean_first}
+use Rattle.office_tables.proofs.InTurn.{clean_first, inside_after}
 use Rattle.office_asking.specs.Asking.{visit_on}
 use Rattle.office_asking.specs.Told.{held_target}
 use Rattle.office_asking.proofs.RowsTold.{office_still, told_before}
 use Rattle.office_holding.specs.Targets.{denial_of_name}
-use Rattle.office_holding.proofs.Denied.{no_name, of_name}
+use Rattle.office_holding.proofs.Denied.{no_name, of_name, tables_before}
 use Rattle.office_holding.proofs.asking.name_denial.Goals as goal
 
 pub returns-then-not-branch-clause-reads : goal.returns-then-not-branch-clause-reads
 returns-then-not-branch-clause-reads g c clean office =
     let a = c.args in
-    let t = tables_of (state g.S.Store a.tx.now.conn.now).now in
     let none : false ≡ c.in_ok-is_there.field-0 = search rules in
     let there = c.in_ok-is_there.ensures.reads clean office in
-    (there.0, no_name t (visit_on a.day a.caller.now) a.action (held_target a.target) (none ∙ there.1))
+    (there.0, no_name (tables_before g.S.Store a.tx.now.conn) (visit_on a.day a.caller.now) a.action (held_target a.target) (none ∙ there.1))
+
+pub returns-clause-inside : goal.returns-clause-inside
+returns-clause-inside g c = inside_after c.in_ok-is_there.ensures.inside c.in_ok-why.ensures.inside _ (search rules)
 
 pub returns-clause-reads : goal.returns-clause-reads
 returns-clause-reads g c clean office =
     let a = c.args in
-    let t = tables_of (state g.S.Store a.tx.now.conn.now).now in
+    let t = tables_before g.S.Store a.tx.now.conn in
     let visit = visit_on a.day a.caller.now in
     let early = clean_first c.denial.ensures.inside.stays clean in
     let there = c.in_ok-is_there.ensures.reads early office in

@@ -2,12 +2,11 @@ use Rattle.std.proofs.Common.{rules, ◌≡◌, w64, pos, sym, ◌∙◌}
 use mir.Val.{SFits}
 use Rattle.std.proofs.lemmas.Int.{to_z-of_z}
 use Rattle.std.proofs.lemmas.Result.{IfOk-weaker}
-use Rattle.sqlite.specs.Held.{state}
 use Rattle.office_rows.specs.Rows.{due_numbered}
-use Rattle.office_tables.specs.Tables.{tables_of}
 use Rattle.office_tables.specs.declared.fault.TableFault.TheVariants.{Store}
 use Rattle.office_tables.proofs.InTurn.{clean_first, inside_after, inside_failed}
 use Rattle.office_asking.proofs.RowsTold.{there_is, office_still, told_before}
+use Rattle.office_holding.proofs.Denied.{tables_before}
 use Rattle.office_holding.proofs.Counted.{counted_told}
 use Rattle.office_holding.proofs.counting.count_after.Goals as goal
 
@@ -23,7 +22,6 @@ returns-in_err-row-clause-inside g c = inside_failed c.in_ok-limits.ensures.insi
 pub returns-clause-reads : goal.returns-clause-reads
 returns-clause-reads g c clean office =
     let a = c.args in
-    let t = tables_of (state g.S.Store a.tx.now.conn.now).now in
     let early = clean_first c.due_row.ensures.inside.stays clean in
     let same = c.in_ok-limits.ensures.same early office in
     let row = c.in_ok-row.row in
@@ -33,6 +31,5 @@ returns-clause-reads g c clean office =
     let held : c.row.inside.holds ≡ row.holds = search rules in
     let most = c.in_ok-limits.limits in
     let result = rw (to_z-of_z w64 c.row.inside.holds fits, to_z-of_z w64 a.by c.ranges.by, held) at c.count_with.ensures.reads in
-    let still = c.in_ok-found.ensures.same clean (office_still same office) ∙ same in
-    IfOk-weaker c.count_with.result _ _ (λ count told. (still, told))
-    (counted_told t a.number a.by (record { max_deposits = pos most.max_deposits; max_holds = pos most.max_holds }) (c.in_ok-limits.ensures.found early office) row there c.count_with.result result)
+    IfOk-weaker c.count_with.result _ _ (λ count told. (c.in_ok-found.ensures.same clean (office_still same office) ∙ same, told))
+    (counted_told (tables_before g.S.Store a.tx.now.conn) a.number a.by (record { max_deposits = pos most.max_deposits; max_holds = pos most.max_holds }) (c.in_ok-limits.ensures.found early office) row there c.count_with.result result)

@@ -1,10 +1,8 @@
-use Rattle.std.proofs.Common.{◌≡◌, ◌∙◌, ap, subst, pos, refl, Some, IfOk}
+use Rattle.std.proofs.Common.{rules, ◌≡◌, ◌∙◌, ap, subst, pos, refl, Some, IfOk}
 use Rattle.std.specs.Result.{result_err}
-use Rattle.sqlite.specs.Held.{state}
 use Rattle.office_core.specs.declared.answer.Answer.TheVariants as answers
 use Rattle.office_rows.specs.Rows.{Tables, with_hold}
-use Rattle.office_tables.specs.Tables.{tables_of}
-use Rattle.office_tables.proofs.InTurn.{clean_first}
+use Rattle.office_tables.proofs.InTurn.{clean_first, inside_after, inside_failed}
 use Rattle.office_by_rows.specs.Changes.{allowed_rows, counted_over, new_hold}
 use Rattle.office_by_rows.specs.Refusals.{highest_hold, number_after}
 use Rattle.office_asking.specs.Asking.{visit_on}
@@ -12,13 +10,19 @@ use Rattle.office_asking.specs.Told.{held_target}
 use Rattle.office_asking.proofs.RowsTold.{office_still}
 use Rattle.office_asking.proofs.ServedBy.{allowed_by, changed_after, changed_as, refused_by}
 use Rattle.office_holding.specs.Targets.{hold_request}
-use Rattle.office_holding.proofs.Denied.{hold_answered, hold_refused, hold_rows}
+use Rattle.office_holding.proofs.Denied.{hold_answered, hold_refused, hold_rows, tables_before}
 use Rattle.office_holding.proofs.placing.hold.Goals as goal
+
+pub returns-in_err-place-in-Ok-clause-inside : goal.returns-in_err-place-in-Ok-clause-inside
+returns-in_err-place-in-Ok-clause-inside g c = inside_failed c.in_ok-hold.ensures.inside c.place.ensures.inside _ (search rules) (search rules)
+
+pub returns-in_ok-place-in-Ok-clause-inside : goal.returns-in_ok-place-in-Ok-clause-inside
+returns-in_ok-place-in-Ok-clause-inside g c = inside_after c.in_ok-hold.ensures.inside c.in_ok-place-in-Ok.ensures.inside _ (search rules)
 
 pub returns-in_ok-place-in-Ok-clause-serves : goal.returns-in_ok-place-in-Ok-clause-serves
 returns-in_ok-place-in-Ok-clause-serves g c clean office =
     let a = c.args in
-    let t = tables_of (state g.S.Store a.tx.now.conn.now).now in
+    let t = tables_before g.S.Store a.tx.now.conn in
     let visit = visit_on a.day a.caller.now in
     let target = held_target a.target in
     let request = hold_request target a.matter.now in
@@ -33,8 +37,7 @@ returns-in_ok-place-in-Ok-clause-serves g c clean office =
 pub returns-in-Err-clause-serves : goal.returns-in-Err-clause-serves
 returns-in-Err-clause-serves g c clean office =
     let a = c.args in
-    let t = tables_of (state g.S.Store a.tx.now.conn.now).now in
     let visit = visit_on a.day a.caller.now in
     let target = held_target a.target in
     let asked = c.in_ok-hold.ensures.reads clean office in
-    refused_by visit (hold_request target a.matter.now) c.in-Err.why office asked.0 (hold_refused t visit target a.matter.now ∙ asked.1.0 ∙ ap (λ r. Some (result_err r)) c.in-Err.is)
+    refused_by visit (hold_request target a.matter.now) c.in-Err.why office asked.0 (hold_refused (tables_before g.S.Store a.tx.now.conn) visit target a.matter.now ∙ asked.1.0 ∙ ap (λ r. Some (result_err r)) c.in-Err.is)

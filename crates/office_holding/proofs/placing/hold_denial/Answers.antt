@@ -1,16 +1,13 @@
 use Rattle.std.proofs.Common.{rules, ◌≡◌, ◌∙◌, None}
-use Rattle.sqlite.specs.Held.{state}
-use Rattle.office_tables.specs.Tables.{tables_of}
 use Rattle.office_history.specs.Pictures.{held_deposit}
 use Rattle.office_asking.specs.Asking.{visit_on}
 use Rattle.office_asking.specs.Told.{held_target}
-use Rattle.office_holding.proofs.Denied.{name_denied}
+use Rattle.office_holding.proofs.Denied.{name_denied, tables_before}
 use Rattle.office_holding.proofs.placing.hold_denial.Goals as goal
 
 pub returns-in_ok-said-in-Collection-clause-reads : goal.returns-in_ok-said-in-Collection-clause-reads
 returns-in_ok-said-in-Collection-clause-reads g c clean office =
     let a = c.args in
-    let t = tables_of (state g.S.Store a.tx.now.conn.now).now in
     let by_name : held_deposit (held_target a.target) ≡ None = search rules in
     let asked = c.in_ok-said-in-Collection.ensures.reads clean office in
-    (asked.0, name_denied t (visit_on a.day a.caller.now) (held_target a.target) c.in_ok-said-in-Collection.said by_name asked.1 ∙ search rules)
+    (asked.0, name_denied (tables_before g.S.Store a.tx.now.conn) (visit_on a.day a.caller.now) (held_target a.target) c.in_ok-said-in-Collection.said by_name asked.1 ∙ search rules)

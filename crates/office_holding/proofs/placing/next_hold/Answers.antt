@@ -1,17 +1,22 @@
-use Rattle.std.proofs.Common.{◌≡◌, pos, Some, option_map, sym, ap, ◌∙◌}
+use Rattle.std.proofs.Common.{rules, ◌≡◌, pos, Some, option_map, sym, ap, ◌∙◌}
 use Rattle.std.specs.Result.{result_err}
 use Rattle.std.proofs.lemmas.Result.{IfOk-weaker}
-use Rattle.sqlite.specs.Held.{state}
-use Rattle.office_tables.specs.Tables.{tables_of}
-use Rattle.office_tables.proofs.InTurn.{clean_first}
+use Rattle.office_tables.proofs.InTurn.{clean_first, inside_after, inside_failed}
 use Rattle.office_by_rows.specs.Refusals.{highest_hold, number_after}
 use Rattle.office_asking.proofs.RowsTold.{office_still, told_before}
+use Rattle.office_holding.proofs.Denied.{tables_before}
 use Rattle.office_holding.proofs.Counted.{full_told}
 use Rattle.office_holding.proofs.placing.next_hold.Goals as goal
 
+pub returns-in_err-last-clause-inside : goal.returns-in_err-last-clause-inside
+returns-in_err-last-clause-inside g c = inside_failed c.in_ok-limits.ensures.inside c.last_hold.ensures.inside _ (search rules) (search rules)
+
+pub returns-clause-inside : goal.returns-clause-inside
+returns-clause-inside g c = inside_after c.in_ok-limits.ensures.inside c.in_ok-last.ensures.inside _ (search rules)
+
 pub returns-clause-reads : goal.returns-clause-reads
 returns-clause-reads g c clean office =
-    let t = tables_of (state g.S.Store c.args.tx.now.conn.now).now in
+    let t = tables_before g.S.Store c.args.tx.now.conn in
     let early = clean_first c.last_hold.ensures.inside.stays clean in
     let same = c.in_ok-limits.ensures.same early office in
     let most = c.in_ok-limits.limits in

@@ -1,32 +1,32 @@
 use Rattle.std.proofs.Common.{rules, ◌≡◌, [], ◌∷◌, ◌∙◌, Some, None, ap, IfOk}
 use Rattle.std.specs.Result.{result_err}
 use Rattle.std.proofs.lemmas.Result.{IfOk-weaker}
-use Rattle.sqlite.specs.Held.{state}
-use Rattle.office_tables.specs.Tables.{tables_of}
-use Rattle.office_tables.proofs.InTurn.{clean_first}
+use Rattle.office_tables.proofs.InTurn.{clean_first, inside_then}
 use Rattle.office_by_rows.specs.Refusals.{full_of_holds, highest_hold, hold_denials, number_after}
 use Rattle.office_asking.specs.Asking.{visit_on}
 use Rattle.office_asking.specs.Told.{held_target}
 use Rattle.office_asking.proofs.FirstTold.{one_first}
 use Rattle.office_asking.proofs.RowsTold.{office_still, told_before}
-use Rattle.office_holding.proofs.Denied.{full_first}
+use Rattle.office_holding.proofs.Denied.{full_first, tables_before}
 use Rattle.office_holding.proofs.placing.place_for.Goals as goal
 
 pub returns-in-Some-clause-reads : goal.returns-in-Some-clause-reads
 returns-in-Some-clause-reads g c clean office =
     let a = c.args in
-    let t = tables_of (state g.S.Store a.tx.now.conn.now).now in
+    let t = tables_before g.S.Store a.tx.now.conn in
     let asked = c.in_ok-why.ensures.reads clean office in
     (asked.0, (one_first (hold_denials t (visit_on a.day a.caller.now) (held_target a.target)) (full_of_holds t ∷ []) c.in-Some.why (asked.1 ∙ ap Some c.in-Some.is), tt))
+
+pub returns-clause-inside : goal.returns-clause-inside
+returns-clause-inside g c = inside_then c.in_ok-why.ensures.inside c.next_hold.ensures.inside
 
 pub returns-clause-reads : goal.returns-clause-reads
 returns-clause-reads g c clean office =
     let a = c.args in
-    let t = tables_of (state g.S.Store a.tx.now.conn.now).now in
     let asked = c.in_ok-why.ensures.reads (clean_first c.next_hold.ensures.inside.stays clean) office in
     let none : c.in_ok-why.field-0 ≡ None = search rules in
     IfOk-weaker c.next_hold.result _ _
     (λ place next.
     let told = told_before asked.0 (λ t. (full_of_holds t ≡ Some (result_err place)) × IfOk place (λ number. number_after (highest_hold t) ≡ Some number)) next.1 in
-    (next.0 ∙ asked.0, (full_first t (visit_on a.day a.caller.now) (held_target a.target) (result_err place) (asked.1 ∙ ap Some none) told.0, told.1)))
+    (next.0 ∙ asked.0, (full_first (tables_before g.S.Store a.tx.now.conn) (visit_on a.day a.caller.now) (held_target a.target) (result_err place) (asked.1 ∙ ap Some none) told.0, told.1)))
     (c.next_hold.ensures.reads clean (office_still asked.0 office))

@@ -1,19 +1,20 @@
 use Rattle.std.proofs.Common.{rules, ◌≡◌, ◌∙◌, Some, ap, sym}
 use Rattle.std.proofs.lemmas.Result.{IfOk-weaker}
-use Rattle.sqlite.specs.Held.{state}
 use Rattle.office_core.specs.declared.action.Action.TheVariants as acts
-use Rattle.office_tables.specs.Tables.{tables_of}
 use Rattle.office_tables.specs.declared.fault.TableFault.TheVariants.{Store}
-use Rattle.office_tables.proofs.InTurn.{clean_first}
+use Rattle.office_tables.proofs.InTurn.{clean_first, inside_then}
 use Rattle.office_by_rows.specs.Refusals.{denial_at, release_denial_at}
 use Rattle.office_asking.specs.Asking.{visit_on}
 use Rattle.office_asking.proofs.RowsTold.{office_still, there_is, told_before}
+use Rattle.office_holding.proofs.Denied.{tables_before}
 use Rattle.office_holding.proofs.releasing.deposit_release_denial.Goals as goal
+
+pub returns-clause-inside : goal.returns-clause-inside
+returns-clause-inside g c = inside_then c.in_ok-found.ensures.inside c.denial.ensures.inside
 
 pub returns-clause-reads : goal.returns-clause-reads
 returns-clause-reads g c clean office =
     let a = c.args in
-    let t = tables_of (state g.S.Store a.tx.now.conn.now).now in
     let visit = visit_on a.day a.caller.now in
     let early = clean_first c.denial.ensures.inside.stays clean in
     let same = c.in_ok-found.ensures.same early office in
@@ -21,5 +22,5 @@ returns-clause-reads g c clean office =
     let there = there_is c.in_ok-found.found Store row c.in_ok-deposit.ensures ∙ c.in_ok-found.ensures.found early office in
     let collection : c.deref.result.now ≡ row.collection = search rules in
     let class : c.deref-2.result.now ≡ row.class = search rules in
-    IfOk-weaker c.denial.result _ _ (λ why asked. (asked.0 ∙ same, ap (release_denial_at t visit) (sym there) ∙ told_before same (λ t. denial_at t visit acts.Release row ≡ Some why) (rw (collection, class) at asked.1)))
+    IfOk-weaker c.denial.result _ _ (λ why asked. (asked.0 ∙ same, ap (release_denial_at (tables_before g.S.Store a.tx.now.conn) visit) (sym there) ∙ told_before same (λ t. denial_at t visit acts.Release row ≡ Some why) (rw (collection, class) at asked.1)))
     (c.denial.ensures.reads clean (office_still same office))

@@ -1,27 +1,23 @@
 use Rattle.std.proofs.Common.{rules, ◌≡◌, sym, ◌∙◌, Some, None, ap}
 use Rattle.std.specs.Result.{result_err}
 use Rattle.std.proofs.lemmas.Result.{IfOk-weaker}
-use Rattle.sqlite.specs.Held.{state}
-use Rattle.office_tables.specs.Tables.{tables_of}
 use Rattle.office_tables.proofs.InTurn.{clean_first, inside_after}
 use Rattle.office_by_rows.specs.Refusals.{release_denial_on}
 use Rattle.office_asking.specs.Asking.{visit_on}
 use Rattle.office_asking.specs.Told.{held_target}
 use Rattle.office_asking.proofs.RowsTold.{office_still, told_before}
-use Rattle.office_holding.proofs.Denied.{no_hold, release_refused}
+use Rattle.office_holding.proofs.Denied.{no_hold, release_refused, tables_before}
 use Rattle.office_holding.proofs.releasing.releasable_hold.Goals as goal
 
 pub returns-in_default-clause-reads : goal.returns-in_default-clause-reads
 returns-in_default-clause-reads g c clean office =
     let a = c.args in
-    let t = tables_of (state g.S.Store a.tx.now.conn.now).now in
     let none : None ≡ c.in_ok-hold.field-0 = search rules in
-    (c.in_ok-hold.ensures.same clean office, (no_hold t (visit_on a.day a.caller.now) a.number (sym (none ∙ c.in_ok-hold.ensures.found clean office)), tt))
+    (c.in_ok-hold.ensures.same clean office, (no_hold (tables_before g.S.Store a.tx.now.conn) (visit_on a.day a.caller.now) a.number (sym (none ∙ c.in_ok-hold.ensures.found clean office)), tt))
 
 pub returns-clause-reads : goal.returns-clause-reads
 returns-clause-reads g c clean office =
     let a = c.args in
-    let t = tables_of (state g.S.Store a.tx.now.conn.now).now in
     let visit = visit_on a.day a.caller.now in
     let early = clean_first c.release_denial.ensures.inside.stays clean in
     let same = c.in_ok-hold.ensures.same early office in
@@ -31,7 +27,7 @@ returns-clause-reads g c clean office =
     let denial = told_before same (λ t. release_denial_on t visit target ≡ Some c.in_ok-denied.denied) denied.1 in
     IfOk-weaker c.unless_refused.result _ _
     (λ found first.
-    let refused = release_refused t visit a.number c.in-Some.hold target there c.in_ok-target.ensures.reads c.in_ok-denied.denied (result_err found) denial first.0 in
+    let refused = release_refused (tables_before g.S.Store a.tx.now.conn) visit a.number c.in-Some.hold target there c.in_ok-target.ensures.reads c.in_ok-denied.denied (result_err found) denial first.0 in
     (denied.0 ∙ same, (refused, IfOk-weaker found _ _ (λ row is. there ∙ ap Some (sym is)) first.1)))
     c.unless_refused.ensures.reads
 

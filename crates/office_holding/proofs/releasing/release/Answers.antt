@@ -1,18 +1,16 @@
-use Rattle.std.proofs.Common.{◌≡◌, negsuc, refl, subst, ◌∙◌, ap, pos, Some, IfOk}
+use Rattle.std.proofs.Common.{rules, ◌≡◌, negsuc, refl, subst, ◌∙◌, ap, pos, Some, IfOk}
 use Rattle.std.specs.Result.{result_err}
 use Rattle.jiff.specs.Words.{epoch_day}
-use Rattle.sqlite.specs.Held.{state}
 use Rattle.office_core.specs.declared.answer.Answer.TheVariants as answers
 use Rattle.office_core.specs.declared.request.Request.TheVariants as requests
 use Rattle.office_rows.specs.Rows.{Tables, hold_numbered, with_released}
-use Rattle.office_tables.specs.Tables.{tables_of}
-use Rattle.office_tables.proofs.InTurn.{clean_first}
+use Rattle.office_tables.proofs.InTurn.{clean_first, inside_after, inside_failed}
 use Rattle.office_by_rows.specs.Changes.{allowed_rows, counted_over}
 use Rattle.office_asking.specs.Asking.{visit_on}
 use Rattle.office_asking.specs.Told.{held_target}
 use Rattle.office_asking.proofs.RowsTold.{office_still}
 use Rattle.office_asking.proofs.ServedBy.{allowed_by, changed_after, changed_as, refused_by}
-use Rattle.office_holding.proofs.Denied.{released_rows}
+use Rattle.office_holding.proofs.Denied.{released_rows, tables_before}
 use Rattle.office_holding.proofs.releasing.release.Goals as goal
 
 pub returns-in-Err-clause-serves : goal.returns-in-Err-clause-serves
@@ -21,10 +19,16 @@ returns-in-Err-clause-serves g c clean office =
     let asked = c.in_ok-row.ensures.reads clean office in
     refused_by (visit_on a.day a.caller.now) (requests.Release a.hold) c.in-Err.why office asked.0 (asked.1.0 ∙ ap (λ r. Some (result_err r)) c.in-Err.is)
 
+pub returns-in_err-end-in-Ok-clause-inside : goal.returns-in_err-end-in-Ok-clause-inside
+returns-in_err-end-in-Ok-clause-inside g c = inside_failed c.in_ok-row.ensures.inside c.end.ensures.inside _ (search rules) (search rules)
+
+pub returns-in_ok-end-in-Ok-clause-inside : goal.returns-in_ok-end-in-Ok-clause-inside
+returns-in_ok-end-in-Ok-clause-inside g c = inside_after c.in_ok-row.ensures.inside c.in_ok-end-in-Ok.ensures.inside _ (search rules)
+
 pub returns-in_ok-end-in-Ok-clause-serves : goal.returns-in_ok-end-in-Ok-clause-serves
 returns-in_ok-end-in-Ok-clause-serves g c clean office =
     let a = c.args in
-    let t = tables_of (state g.S.Store a.tx.now.conn.now).now in
+    let t = tables_before g.S.Store a.tx.now.conn in
     let visit = visit_on a.day a.caller.now in
     let early = clean_first c.end.ensures.inside.stays clean in
     let asked = c.in_ok-row.ensures.reads early office in
