@@ -1,8 +1,8 @@
 #!/usr/bin/env python3
 """Shows how much memory it takes to open an office, as docs/OPERATING.md says under "Limits": the most that `depot ask` has
-resident, for files of several lengths, with bags of 1 MiB, with many small ones, and with holds alone, which Python's
-`sqlite3` writes. No peak is over the page's bound. With less memory than that the command says `memory` and ends with
-status 3, and the office is as it was.
+resident, for files of several lengths, with bags of 1 MiB (in the end in pages of 64 KiB), with many small ones, and with
+holds alone, which Python's `sqlite3` writes. No peak is over the page's bound. With less memory than that the command says
+`memory` and ends with status 3, and the office is as it was.
 
 Words: the program, that of the variable DEPOT or `depot` of the repository if left out; and a length in MiB up to which
 files are tried, 160 if left out.
@@ -80,6 +80,18 @@ def hold(store, count):
     office.close()
 
 
+def with_pages(store, length):
+    """Writes the file anew with pages of this length, in a process of its own (a child's peak begins with its parent's)."""
+    anew = f"""
+import sqlite3
+office = sqlite3.connect({store!r})
+office.execute("PRAGMA journal_mode = DELETE")
+office.execute("PRAGMA page_size = {length}")
+office.execute("VACUUM")
+"""
+    subprocess.run([sys.executable, "-c", anew], check=True)
+
+
 def opened(program, store):
     """The most memory, and the processor time, of an opening."""
     with subprocess.Popen([program, "ask", store, DAY], stdin=subprocess.DEVNULL, stdout=subprocess.DEVNULL) as running:
@@ -130,6 +142,15 @@ def main():
                 length = os.path.getsize(store)
                 peak, seconds = opened(program, store)
                 print(f"open_memory: {name}, a file of {length / MIB:.0f} MiB: {peak / MIB:.0f} MiB, and {seconds:.2f} s of processor time")
+                if peak > bound(length):
+                    fail(f"the page says at most {bound(length) / MIB:.0f} MiB")
+                tried += 1
+            if size == MIB:
+                # (as many pages of 64 KiB as of 4 KiB would take 2 GiB)
+                with_pages(store, 65_536)
+                length = os.path.getsize(store)
+                peak, seconds = opened(program, store)
+                print(f"open_memory: {name}, pages of 64 KiB, a file of {length / MIB:.0f} MiB: {peak / MIB:.0f} MiB")
                 if peak > bound(length):
                     fail(f"the page says at most {bound(length) / MIB:.0f} MiB")
                 tried += 1
