@@ -1,8 +1,8 @@
 #!/usr/bin/env python3
 """Answers the request records on standard input from a dict, for `desk.py`.
 
-Each request is read by the parser of Python's http.server. The dict stands in the file that the word
-names: the answer's bytes by method, target and caller.
+Each request is read by the parser of Python's http.server. The argument is the file of the
+dict: the answer's bytes by method, target and caller.
 """
 import pickle
 import sys

@@ -4,63 +4,35 @@
 Prints a ratio for each case: the median time of `depot check` over that of the other run, which
 take turns, in going first too. `depot` opens one file, the form, where `sha256sum -c` opens each: so
 the sum of the form alone, by `sha256sum` and by `openssl dgst`, is a second ratio. Run it after
-`./depot check examples/bag-a.bagset` has built the program. Words behind `bench.py` name the cases
+`./depot check examples/bag-a.bagset` has built the program. The arguments of `bench.py` name the cases
 that are run; with none, all are.
 """
-import hashlib
 import os
 import pathlib
 import subprocess
-import sys
 import tempfile
 import time
 
-from turns import ratio, say_machine, spreads, turns
+from shared.comparing import fail
+from shared.forms import bag, form, lay
+from shared.peaks import watched
+from shared.places import DEPOT, needs_built
+from turns import chosen, ratio, say_machine, spreads, turns
 
-TOP = pathlib.Path(__file__).resolve().parent.parent
-DEPOT = TOP / "crates" / "depot" / "out" / "depot-program"
 LIMIT = 16_777_216
 RUNS = int(os.environ.get("RUNS", "15"))
-DECLARATION = b"BagIt-Version: 1.0\nTag-File-Character-Encoding: UTF-8\n"
-
-
-def form(files):
-    """The transfer form of a bag, of a map from paths to contents."""
-    parts = [b"BAGSET 1\n"]
-    for path in sorted(files):
-        content = files[path]
-        parts += [b"FILE %d %d\n" % (len(path), len(content)), path, content, b"\n"]
-    parts.append(b"END\n")
-    return b"".join(parts)
-
-
-def manifest(algorithm, files):
-    """The lines that list these files."""
-    lines = [hashlib.new(algorithm, files[p]).hexdigest().encode() + b"  " + p + b"\n" for p in sorted(files)]
-    return b"".join(lines)
-
-
-def bag(payload):
-    """A bag with this payload and a sha256 manifest."""
-    return {b"bagit.txt": DECLARATION, b"manifest-sha256.txt": manifest("sha256", payload), **payload}
+BOTH = ("sha256", "sha512")
 
 
 def tagged_bag(payload):
     """A bag with this payload, manifests of both algorithms, and tag manifests of both."""
-    tags = {b"bagit.txt": DECLARATION}
-    for algorithm in ("sha256", "sha512"):
-        tags[b"manifest-%s.txt" % algorithm.encode()] = manifest(algorithm, payload)
-    tagged = {b"tagmanifest-%s.txt" % a.encode(): manifest(a, tags) for a in ("sha256", "sha512")}
-    return {**tags, **tagged, **payload}
+    return bag(payload, BOTH, BOTH)
 
 
 def write(folder, files, name):
     """Writes the files of a bag below the folder, and its form beside them."""
     base = pathlib.Path(folder) / name
-    for path, content in files.items():
-        file = base / os.fsdecode(path)
-        file.parent.mkdir(parents=True, exist_ok=True)
-        file.write_bytes(content)
+    lay(base, files)
     text = pathlib.Path(folder) / (name + ".bagset")
     text.write_bytes(form(files))
     return base, text
@@ -74,25 +46,8 @@ def run(commands, cwd=None):
         status = subprocess.run(words, cwd=cwd, stdout=subprocess.DEVNULL).returncode
         seconds += time.perf_counter() - begin
         if status != 0:
-            sys.exit(f"{words} ended with {status}")
+            fail(f"{words} ended with {status}")
     return seconds
-
-
-# A process counts as its own the memory of the one that started it, so a small one starts the run.
-PEAK = """
-import os, sys
-child = os.fork()
-if child == 0:
-    os.dup2(os.open(os.devnull, os.O_WRONLY), 1)
-    os.execv(sys.argv[1], sys.argv[1:])
-print(os.wait4(child, 0)[2].ru_maxrss)
-"""
-
-
-def peak(words):
-    """The peak memory of a run, in bytes."""
-    said = subprocess.run([sys.executable, "-I", "-S", "-c", PEAK, *words], capture_output=True, check=True)
-    return int(said.stdout) * 1024
 
 
 def beside(tools, most, folder, name, files):
@@ -100,7 +55,7 @@ def beside(tools, most, folder, name, files):
     base, text = write(folder, files, name)
     check = [str(DEPOT), "check", str(text)]
     found = turns(lambda: run([check]), lambda: run(tools, base), RUNS)
-    memory = max(peak(check) for _ in range(3)) - text.stat().st_size
+    memory = max(watched(*check)[1] for _ in range(3)) - text.stat().st_size
     named = " and then ".join(tool[0] + " -c" for tool in tools)
     print(
         f"{name}: {ratio(*found):.2f} times {named} (at most {most}; {spreads(*found)});"
@@ -150,7 +105,8 @@ def both_algorithms_small_files(folder):
 
 
 def long_paths(folder):
-    """1,998 paths that share 1,000 bytes, beside as many short paths with contents that make both forms equally long."""
+    """1,998 paths that share 1,000 bytes, beside as many short paths with contents that make both forms equally
+    long."""
     front = b"data/" + b"/".join([b"x" * 198] * 5)
     front += b"y" * (1000 - len(front))
     long = bag({front + b"/%04d" % n: b"" for n in range(1998)})
@@ -187,12 +143,8 @@ CASES = {
 
 
 def main():
-    if not DEPOT.exists():
-        sys.exit("build the program first: ./depot check examples/bag-a.bagset")
-    names = sys.argv[1:] or list(CASES)
-    for name in names:
-        if name not in CASES:
-            sys.exit("the cases are " + ", ".join(CASES))
+    needs_built(DEPOT)
+    names = chosen(CASES)
     say_machine("sha256sum", "openssl")
     with tempfile.TemporaryDirectory() as folder:
         for name in names:

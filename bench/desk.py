@@ -9,7 +9,7 @@ both programs counts. The program crates/depot has to be built.
 from the same pipe. The start of the program doesn't count. `peak`: the most memory that it takes, above
 the program's that hears a GET. The program crates/office_file has to be built.
 
-Prints ratios of the medians of runs that take turns (RUNS=n, 7 if left out). Words behind `desk.py`
+Prints ratios of the medians of runs that take turns (RUNS=n, 7 if left out). The arguments of `desk.py`
 name the cases that are run; with none, all are.
 """
 import os
@@ -23,39 +23,25 @@ from pathlib import Path
 from statistics import median
 
 from answering import Request, records
-from turns import ratio, spreads, turns
+from shared.comparing import fail
+from shared.places import DEPOT, EXAMPLE_BAG, OFFICE_FILE, POLICY, TOP, needs_built
+from shared.requests import deposit_target, record, request
+from turns import chosen, ratio, spreads, turns
 
-TOP = Path(__file__).resolve().parent.parent
-PROGRAM = TOP / "crates/depot/out/depot-program"
-HEARING = TOP / "crates/office_file/out/office_file"
-POLICY = TOP / "examples/policy.toml"
-DEPOSIT = "/deposits?collection=maps&class=y1&accession=A-1&closed=2024-02-29"
+DAY = "2024-03-01"
+DEPOSIT = deposit_target("A-1")
 BODY = 16 * 1024 * 1024
 RUNS = int(os.environ.get("RUNS", "7"))
 
 
-def request(method, target, body=b""):
-    """The bytes of a request by `anna`."""
-    head = f"{method} {target} HTTP/1.1\r\nDepot-Caller: anna\r\n"
-    if body:
-        head += f"Content-Length: {len(body)}\r\n"
-    return (head + "\r\n").encode() + body
-
-
-def record(method, target, body=b"", day="2024-03-01"):
-    """The record of a request by `anna`."""
-    text = request(method, target, body)
-    return b"REQ %s %d\n" % (day.encode(), len(text)) + text + b"\n"
-
-
 def deposited():
     """The records that define a class and a collection, and deposit a bag."""
-    bag = (TOP / "examples/bag-a.bagset").read_bytes()
-    return (
-        record("PUT", "/classes/y1", b'{"years":1}')
-        + record("PUT", "/collections/maps")
-        + record("POST", DEPOSIT, bag)
-    )
+    asked = [
+        request("PUT", "/classes/y1", b'{"years":1}'),
+        request("PUT", "/collections/maps"),
+        request("POST", DEPOSIT, EXAMPLE_BAG.read_bytes()),
+    ]
+    return b"".join(record(DAY, it) for it in asked)
 
 
 def took(words, given):
@@ -64,14 +50,14 @@ def took(words, given):
     done = subprocess.run(list(map(str, words)), input=given, stdout=subprocess.PIPE)
     seconds = time.perf_counter() - begin
     if done.returncode != 0:
-        sys.exit(f"{words} ended with {done.returncode}")
+        fail(f"{words} ended with {done.returncode}")
     return seconds, done.stdout
 
 
 def gets(folder):
     """2,000 GETs of a record."""
-    asked = deposited() + record("GET", "/deposits/1") * 2_000
-    replay = [PROGRAM, "replay", "--policy", POLICY, ":memory:"]
+    asked = deposited() + record(DAY, request("GET", "/deposits/1")) * 2_000
+    replay = [DEPOT, "replay", "--policy", POLICY, ":memory:"]
     answered = took(replay, asked)[1]
     pairs = zip(records(BytesIO(asked)), records(BytesIO(answered)))
     with open(folder / "answers", "wb") as file:
@@ -81,7 +67,7 @@ def gets(folder):
     def side(words):
         seconds, written = took(words, asked)
         if written != answered:
-            sys.exit(f"{words} wrote other answers")
+            fail(f"{words} wrote other answers")
         return seconds
 
     ours, theirs = turns(lambda: side(replay), lambda: side(answer), RUNS)
@@ -97,9 +83,9 @@ def heard(word, file):
     takes, in bytes."""
     with subprocess.Popen(["cat", file], stdout=subprocess.PIPE) as given:
         time.sleep(0.01)
-        found = subprocess.run([HEARING, word], stdin=given.stdout, capture_output=True, text=True)
+        found = subprocess.run([OFFICE_FILE, word], stdin=given.stdout, capture_output=True, text=True)
     if found.returncode != 0:
-        sys.exit(found.stderr)
+        fail(found.stderr)
     count, took, peak = map(int, found.stdout.split())
     return count, took, peak * 1024
 
@@ -113,7 +99,7 @@ def body(folder):
     def side(word, length):
         count, microseconds, _ = heard(word, deposit)
         if count != length:
-            sys.exit(f"{word} found {count} bytes")
+            fail(f"{word} found {count} bytes")
         return microseconds
 
     whole = deposit.stat().st_size
@@ -132,19 +118,12 @@ def body(folder):
     )
 
 
-CASES = {
-    "gets": (gets, PROGRAM, "./depot check examples/bag-a.bagset"),
-    "body": (body, HEARING, "in crates/office_file, rt run -- make /tmp/a-new-file.db"),
-}
+CASES = {"gets": (gets, DEPOT), "body": (body, OFFICE_FILE)}
 
 
 def main():
-    names = sys.argv[1:] or list(CASES)
-    for name in names:
-        if name not in CASES:
-            sys.exit("the cases are " + ", ".join(CASES))
-        if not CASES[name][1].is_file():
-            sys.exit("build the program first: " + CASES[name][2])
+    names = chosen(CASES)
+    needs_built(*(CASES[name][1] for name in names))
     with tempfile.TemporaryDirectory() as folder:
         for name in names:
             CASES[name][0](Path(folder))

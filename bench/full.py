@@ -1,10 +1,10 @@
 #!/usr/bin/env python3
 """What a full office takes: 999,999 deposits of at most 1,000,000.
 
-Python fills the file (`stores.py`): each deposit has three small files, of which two are its own, and a hold of its own;
-but one in ten thousand is due and has none. One in a thousand is of another collection. `depot serve` over that file is
-asked requests of fourteen kinds, readings first: the small ones many times, over scattered deposits; those that go over
-all deposits once. Prints for each how much processor time the server takes, how long the client waits, and the
+Python fills the file (`stores.py`): each deposit has three small files, of which two are its own, and a hold of its
+own; but one in ten thousand is due and has none. One in a thousand is of another collection. `depot serve` over that
+file is asked requests of fourteen kinds, readings first: the small ones many times, over scattered deposits; those that
+go over all deposits once. Prints for each how much processor time the server takes, how long the client waits, and the
 most memory that the server has had until then. Then the office is stopped, backed up as the unit `depot-backup@` does
 it, and started again. No figure has a target, and nothing is on the other side.
 
@@ -13,27 +13,28 @@ another program than the built one. crates/office_file has to be built too, sinc
 """
 import os
 import re
-import signal
 import subprocess
-import sys
 import tempfile
 import time
 from contextlib import closing
 from pathlib import Path
 from statistics import median
 
-import bench
-from office_file import FILES, TOP, opened
-from offices import DAY, TARGET, request
+from office_file import FILES, opened
+from offices import DAY, deposit
 from servers import asked, processor_time
+from shared.comparing import fail
+from shared.forms import form
+from shared.offices import Server
+from shared.places import DEPOT, OFFICE_FILE, TOP, needs_built
+from shared.requests import request
 from stores import small_bag, stored
 from turns import say_machine
 
-DEPOT = Path(os.environ.get("DEPOT", bench.DEPOT))
 ROWS = int(os.environ.get("ROWS", "999999"))
 # How many times a small request is made.
 MANY = 1_000
-BAG = bench.form({path.encode(): content for path, content in FILES})
+BAG = form(dict(FILES))
 MIB = 2**20
 
 
@@ -52,25 +53,21 @@ def special(number):
     return few | ({"closed": 16_801} if is_due(number) else {"held": True})
 
 
-class Office:
-    """A `depot serve` over a file."""
+class Office(Server):
+    """A `depot serve` over a file, which takes as long as it may."""
 
     def __init__(self, file):
         begin = time.perf_counter()
-        words = [str(DEPOT), "serve", "--port", "0", "--count", "1000000", str(file), DAY]
-        self.server = subprocess.Popen(words, stdout=subprocess.PIPE)
-        found = re.match(rb"listening (\d+)\n", self.server.stdout.readline())
-        if not found:
-            sys.exit(f"{words} ended with {self.server.wait()}")
-        self.port, self.opening = int(found[1]), time.perf_counter() - begin
+        super().__init__(DEPOT, file, DAY, patience=None)
+        self.opening = time.perf_counter() - begin
 
     def used(self):
         """The seconds of processor time that the server has taken."""
-        return processor_time(self.server)
+        return processor_time(self.process)
 
     def peak(self):
         """The most memory that the server has had, in MiB."""
-        return int(re.search(r"VmHWM:\s+(\d+) kB", Path(f"/proc/{self.server.pid}/status").read_text())[1]) / 1024
+        return int(re.search(r"VmHWM:\s+(\d+) kB", Path(f"/proc/{self.process.pid}/status").read_text())[1]) / 1024
 
     def ask(self, name, texts, status):
         """Makes requests of one kind, and says what they took."""
@@ -80,18 +77,13 @@ class Office:
             found, body = asked(self.port, text)
             waits.append(time.perf_counter() - begin)
             if found != status:
-                sys.exit(f"{name}: {status} is wanted, and {found} came: {body[:200]}")
+                fail(f"{name}: {status} is wanted, and {found} came: {body[:200]}")
         took = (self.used() - before) / len(texts)
         print(
             f"{name}: {shown(took)} of processor time, {shown(median(waits))} until the answer was there"
             f" ({len(texts):,} of them, the last with a body of {len(body):,} bytes; at most {self.peak():.0f} MiB so far)",
             flush=True,
         )
-
-    def stop(self):
-        """Ends it, as a unit does."""
-        self.server.send_signal(signal.SIGTERM)
-        self.server.wait()
 
     def __enter__(self):
         return self
@@ -134,7 +126,7 @@ def change(office):
         return [request("PUT", target % n, body) for n in range(number)]
 
     office.ask("a disposal", [request("DELETE", f"/deposits/{n}") for n in DUE], 200)
-    office.ask("a deposit of 10 KiB", [request("POST", TARGET % (ROWS + 1), BAG)], 201)
+    office.ask("a deposit of 10 KiB", [deposit(ROWS + 1, BAG)], 201)
     office.ask("a collection defined", defined("/collections/c%d", 100), 200)
     office.ask("a class defined", defined("/classes/k%d", 100, b'{"years":3}'), 200)
     office.ask("a hold on a deposit", [request("POST", "/holds", b'{"deposit":2,"matter":"suit"}')], 201)
@@ -158,8 +150,8 @@ def measure(folder):
     """All of it."""
     begin = time.perf_counter()
     file = stored(folder, "full", ROWS, special, bag=small_bag)
-    with closing(opened(file)) as conn:
-        conn.execute("UPDATE office SET max_deposits = 1000000, max_holds = 1000000")
+    with closing(opened(file)) as connection:
+        connection.execute("UPDATE office SET max_deposits = 1000000, max_holds = 1000000")
     size = file.stat().st_size / MIB
     print(f"a file of {size:.0f} MiB, filled in {shown(time.perf_counter() - begin)}", flush=True)
     with Office(file) as office:
@@ -174,8 +166,7 @@ def measure(folder):
 
 
 if __name__ == "__main__":
-    if not DEPOT.exists():
-        sys.exit("build the program first: ./depot check examples/bag-a.bagset")
+    needs_built(DEPOT, OFFICE_FILE)
     say_machine()
     with tempfile.TemporaryDirectory() as room:
         measure(room)

@@ -1,8 +1,6 @@
 """What the speed scripts of the office share: the program `crates/office_file`, and files that hold
 an office, which Python fills.
 """
-import calendar
-import datetime
 import functools
 import hashlib
 import os
@@ -14,19 +12,16 @@ import sys
 import tempfile
 from statistics import median
 
-from turns import say_machine, spreads
+from shared import days
+from shared.comparing import fail
+from shared.forms import bag
+from shared.places import OFFICE_FILE, needs_built
+from turns import chosen, say_machine, spreads
 from turns import turns as taking_turns
 
-TOP = pathlib.Path(__file__).resolve().parent.parent
-PROGRAM = TOP / "crates" / "office_file" / "out" / "office_file"
 # Another build of the program that is measured, where the environment names one: it takes the other side.
 BESIDE = os.environ.get("BESIDE")
 RUNS = int(os.environ.get("RUNS", "7"))
-# The bag of 10,240 bytes that the program deposits, too.
-DECLARATION = b"BagIt-Version: 1.0\nTag-File-Character-Encoding: UTF-8\n"
-RECORD = b"r" * 10_108
-MANIFEST = hashlib.sha256(RECORD).hexdigest().encode() + b"  data/record\n"
-FILES = [("bagit.txt", DECLARATION), ("data/record", RECORD), ("manifest-sha256.txt", MANIFEST)]
 PUT_DEPOSIT = (
     "INSERT INTO deposit (number, accession, collection, class, closed, deposited, files, bytes, due, holds)"
     " VALUES (?1, ?2, ?3, ?4, ?5, ?6, ?7, ?8, ?9, ?10)"
@@ -40,7 +35,6 @@ COUNT_HOLDS = (
     " + (SELECT count(*) FROM hold_4 AS hold WHERE hold.collection = deposit.collection AND released IS NULL)"
     " + (SELECT count(*) FROM hold_4 AS hold WHERE hold.class = deposit.class AND released IS NULL)"
 )
-EPOCH = datetime.date(1970, 1, 1)
 CONTENT_ALIKE = "SELECT id FROM content WHERE mark = ?1 AND bytes = ?2 ORDER BY id"
 PUT_CONTENT = "INSERT INTO content (mark, size, bytes) VALUES (?1, ?2, ?3)"
 LAST_CONTENT = "SELECT id FROM content ORDER BY id DESC LIMIT 1"
@@ -54,27 +48,28 @@ CONTENT_ID = "SELECT content FROM file WHERE deposit = ?1 AND path = ?2"
 CONTENT_OF = "SELECT mark, bytes FROM content WHERE id = ?1"
 
 
-@functools.cache
-def due_day(closed, years):
-    """The number of the day so many years after the day of this number: of 29 February 28 February in other years."""
-    day = EPOCH + datetime.timedelta(closed)
-    last = calendar.monthrange(day.year + years, day.month)[1]
-    return (day.replace(year=day.year + years, day=min(day.day, last)) - EPOCH).days
+def files_with(record):
+    """The files of a bag with this record, and their paths, in order."""
+    return [(path.decode(), content) for path, content in sorted(bag({b"data/record": record}).items())]
 
 
+# The bag of 10,240 bytes that the program deposits, too.
+RECORD = b"r" * 10_108
+FILES = files_with(RECORD)
+due_day = functools.cache(days.due_day)
 # The due day of a bag: ten years after its closing day.
 DUE = due_day(20454, 10)
 
 
-def ours(*words, program=PROGRAM):
+def ours(*words, program=OFFICE_FILE):
     """What the program prints, or another build of it."""
     found = subprocess.run([str(program), *map(str, words)], capture_output=True, text=True)
     if found.returncode != 0:
-        sys.exit(f"{words} ended with {found.returncode}: {found.stderr}")
+        fail(f"{words} ended with {found.returncode}: {found.stderr}")
     return found.stdout
 
 
-# Runs the program that its words name, and prints the most memory that it took, in bytes.
+# Runs the program of its arguments, and prints the most memory that it took, in bytes.
 WAIT = """
 import os, sys
 _, status, used = os.wait4(os.posix_spawn(sys.argv[1], sys.argv[1:], os.environ), 0)
@@ -87,70 +82,68 @@ print(used.ru_maxrss * 1024)
 def watched(*words):
     """The microseconds that the program prints, and the most memory that it takes, in bytes. A small process starts
     it, since a process counts as its own what the one that starts it holds."""
-    words = [sys.executable, "-c", WAIT, str(PROGRAM), *map(str, words)]
+    words = [sys.executable, "-c", WAIT, str(OFFICE_FILE), *map(str, words)]
     found = subprocess.run(words, capture_output=True, text=True)
     if found.returncode != 0:
-        sys.exit(found.stderr)
+        fail(found.stderr)
     took, peak = map(int, found.stdout.split())
     return took, peak
 
 
 def opened(file):
     """The file, as Python opens it. Like the program, it copies a log of 1,000 pages into the file."""
-    conn = sqlite3.connect(file, isolation_level=None)
-    conn.execute("PRAGMA journal_mode = WAL").fetchall()
-    conn.execute("PRAGMA synchronous = FULL")
-    conn.execute("PRAGMA foreign_keys = ON")
-    return conn
+    connection = sqlite3.connect(file, isolation_level=None)
+    connection.execute("PRAGMA journal_mode = WAL").fetchall()
+    connection.execute("PRAGMA synchronous = FULL")
+    connection.execute("PRAGMA foreign_keys = ON")
+    return connection
 
 
-def put_file(conn, number, path, content):
+def put_file(connection, number, path, content):
     """A file of a deposit, whose content is kept once."""
     mark = hashlib.sha256(content).digest()
-    found = conn.execute(CONTENT_ALIKE, (mark, content)).fetchone()
+    found = connection.execute(CONTENT_ALIKE, (mark, content)).fetchone()
     if not found:
-        conn.execute(PUT_CONTENT, (mark, len(content), content))
-        found = conn.execute(LAST_CONTENT).fetchone()
-    conn.execute(PUT_FILE, (number, path, found[0]))
+        connection.execute(PUT_CONTENT, (mark, len(content), content))
+        found = connection.execute(LAST_CONTENT).fetchone()
+    connection.execute(PUT_FILE, (number, path, found[0]))
 
 
-def file_of(conn, number, path):
+def file_of(connection, number, path):
     """The content of a file."""
-    found = conn.execute(CONTENT_ID, (number, path)).fetchone()
-    return conn.execute(CONTENT_OF, found).fetchone()[1]
+    found = connection.execute(CONTENT_ID, (number, path)).fetchone()
+    return connection.execute(CONTENT_OF, found).fetchone()[1]
 
 
-def intact(conn, content):
+def intact(connection, content):
     """The bytes of the content of this number, whose SHA-256 is its mark."""
-    mark, found = conn.execute(CONTENT_OF, (content,)).fetchone()
+    mark, found = connection.execute(CONTENT_OF, (content,)).fetchone()
     if hashlib.sha256(found).digest() != mark:
         raise ValueError(f"content {content} was altered")
     return found
 
 
-def put_row(conn, number, due=None, holds=0):
+def put_row(connection, number, due=None, holds=0):
     """The row of a deposit of a bag of 10 KiB, with its due day and its count of holds."""
     row = (number, f"2026-{number:07}", "tax", "y10", 20454, 20500, 1, 10108, due, holds)
-    conn.execute(PUT_DEPOSIT, row)
+    connection.execute(PUT_DEPOSIT, row)
 
 
-def put_files(conn, number, files):
+def put_files(connection, number, files):
     """The files of a deposit."""
     for path, content in files:
-        put_file(conn, number, path, content)
+        put_file(connection, number, path, content)
 
 
-def put_bag(conn, number):
+def put_bag(connection, number):
     """A deposit of the bag and its three files."""
-    put_row(conn, number)
-    put_files(conn, number, FILES)
+    put_row(connection, number)
+    put_files(connection, number, FILES)
 
 
 def own_files(number, like=RECORD):
     """The files of a bag with a record as long as `like`, whose record and manifest no other deposit has."""
-    record = b"%010d" % number + like[10:]
-    manifest = hashlib.sha256(record).hexdigest().encode() + b"  data/record\n"
-    return [("bagit.txt", DECLARATION), ("data/record", record), ("manifest-sha256.txt", manifest)]
+    return files_with(b"%010d" % number + like[10:])
 
 
 def held_elsewhere(number):
@@ -163,26 +156,26 @@ def held_elsewhere(number):
 
 
 def filled(folder, rows):
-    """An office with so many deposits, each of a bag of its own, and holds; three live holds are over
+    """An office with this number of deposits, each of a bag of its own, and holds; three live holds are over
     deposit 1: one on it, one on its collection and one on its class."""
     file = pathlib.Path(folder) / f"{rows}.db"
     if file.exists():
         return file
     ours("make", file)
-    conn = opened(file)
-    conn.execute("BEGIN")
+    connection = opened(file)
+    connection.execute("BEGIN")
     for number in range(1, rows + 1):
-        put_row(conn, number, DUE)
-        put_files(conn, number, own_files(number))
+        put_row(connection, number, DUE)
+        put_files(connection, number, own_files(number))
     few = {rows // 4: (1, None, None), rows // 2: (None, "tax", None), rows: (None, None, "y10")}
     for number in range(1, rows + 1):
-        conn.execute(PUT_HOLD, (number, *few.get(number, held_elsewhere(number)), "suit", 20_600))
+        connection.execute(PUT_HOLD, (number, *few.get(number, held_elsewhere(number)), "suit", 20_600))
         if number not in few and number % 3:
-            conn.execute(END_HOLD, (number, 20_700))
-    conn.execute(COUNT_HOLDS)
-    conn.execute("COMMIT")
-    conn.execute("PRAGMA wal_checkpoint(TRUNCATE)").fetchall()
-    conn.close()
+            connection.execute(END_HOLD, (number, 20_700))
+    connection.execute(COUNT_HOLDS)
+    connection.execute("COMMIT")
+    connection.execute("PRAGMA wal_checkpoint(TRUNCATE)").fetchall()
+    connection.close()
     return file
 
 
@@ -209,13 +202,9 @@ def say(name, count, ones, others, other, most=None):
 
 
 def main(cases):
-    """Runs the cases that the words behind the script's name ask for, or all."""
-    if not PROGRAM.exists():
-        sys.exit("build the program first: in crates/office_file, rt run -- make /tmp/a-new-file.db")
-    names = sys.argv[1:] or list(cases)
-    for name in names:
-        if name not in cases:
-            sys.exit("the cases are " + ", ".join(cases))
+    """Runs the cases that the script's arguments name, or all."""
+    needs_built(OFFICE_FILE)
+    names = chosen(cases)
     say_machine()
     with tempfile.TemporaryDirectory() as folder:
         for name in names:

@@ -2,48 +2,46 @@
 """Speed of several offices on one machine.
 
 1, 2 and 4 offices at once, each a `depot serve` with a file of its own, take the same load: as many clients and as many
-requests in all, shared out evenly. `records` are GETs of a record, `deposits` are bags of 10 KiB with three files, each with
-bytes of its own, and each on the disk before it is answered. A client is a process that asks one office, a connection for each
-request, and waits for the answer before it asks again. The clients take the machine's processors, too.
+requests in all, shared out evenly. `records` are GETs of a record, `deposits` are bags of 10 KiB with three files, each
+with bytes of its own, and each on the disk before it is answered. A client is a process that asks one office, a
+connection for each request, and waits for the answer before it asks again. The clients take the machine's processors,
+too.
 
-Prints for each case how many requests a second all offices answer, and how many times as many that is as one office answers:
-medians of runs that take turns (RUNS=n, 5 if left out). CLIENTS=n is another number of clients than 8. DEPOT names another
-program than the built one. Words behind `offices.py` name the cases that are run; with none, all are.
+Prints for each case how many requests a second all offices answer, and how many times as many that is as one office
+answers: medians of runs that take turns (RUNS=n, 5 if left out). CLIENTS=n is another number of clients than 8. DEPOT
+names another program than the built one. The arguments of `offices.py` name the cases that are run; with none, all are.
 """
 import multiprocessing
 import os
-import re
-import socket
-import subprocess
-import sys
 import tempfile
 import time
 from pathlib import Path
 from statistics import median
 
-import bench
-from desk import record
 from office_file import own_files
-from turns import say_machine, spread
+from shared.comparing import fail
+from shared.forms import form
+from shared.offices import Server, answer_to, replay
+from shared.places import DEPOT, POLICY, needs_built
+from shared.requests import deposit_target, record, request
+from turns import chosen, say_machine, spread
 
-DEPOT = Path(os.environ.get("DEPOT", bench.DEPOT))
 RUNS = int(os.environ.get("RUNS", "5"))
 CLIENTS = int(os.environ.get("CLIENTS", "8"))
 OFFICES = [1, 2, 4]
 DAY = "2026-02-16"
 # How many deposits an office has before the load comes.
 KEPT = 100
-TARGET = "/deposits?collection=tax&class=y10&accession=A-%d&closed=2026-01-01"
 
 
-def bag(number):
-    """The transfer form of a bag that no other deposit has."""
-    return bench.form({path.encode(): content for path, content in own_files(number)})
+def deposit(number, form):
+    """A request that deposits this form."""
+    return request("POST", deposit_target(f"A-{number}", "tax", "y10", "2026-01-01"), form)
 
 
-def request(method, target, body=b""):
-    """The bytes of a request by `anna`."""
-    return f"{method} {target} HTTP/1.1\r\nDepot-Caller: anna\r\nContent-Length: {len(body)}\r\n\r\n".encode() + body
+def own_deposit(number):
+    """A request that deposits a bag that no other deposit has."""
+    return deposit(number, form(dict(own_files(number))))
 
 
 def records(count):
@@ -54,7 +52,7 @@ def records(count):
 def deposits(count):
     """Deposits, and the beginning of each answer."""
     numbers = range(KEPT + 1, KEPT + 1 + count)
-    return [request("POST", TARGET % n, bag(n)) for n in numbers], b"HTTP/1.1 201 "
+    return [own_deposit(n) for n in numbers], b"HTTP/1.1 201 "
 
 
 # How many requests each case has in all, and what makes them.
@@ -63,12 +61,11 @@ CASES = {"records": (8_000, records), "deposits": (1_600, deposits)}
 
 def new_office(file):
     """Makes the office that the others are copies of."""
-    given = record("PUT", "/classes/y10", b'{"years":10}', DAY) + record("PUT", "/collections/tax", b"", DAY)
-    given += b"".join(record("POST", TARGET % n, bag(n), DAY) for n in range(1, KEPT + 1))
-    words = [DEPOT, "replay", "--policy", bench.TOP / "examples/policy.toml", file]
-    found = subprocess.run(words, input=given, capture_output=True, check=True).stdout
-    if found.count(b"HTTP/1.1 20") != KEPT + 2:
-        sys.exit("the office wasn't made")
+    given = [request("PUT", "/classes/y10", b'{"years":10}'), request("PUT", "/collections/tax")]
+    given += map(own_deposit, range(1, KEPT + 1))
+    done = replay(DEPOT, file, [record(DAY, it) for it in given], "--policy", POLICY)
+    if done.returncode != 0 or done.stdout.count(b"HTTP/1.1 20") != KEPT + 2:
+        fail("the office wasn't made")
 
 
 def client(port, requests, wanted, start, ended):
@@ -76,12 +73,7 @@ def client(port, requests, wanted, start, ended):
     start.wait()
     try:
         for text in requests:
-            with socket.create_connection(("127.0.0.1", port), timeout=60) as stream:
-                stream.sendall(text)
-                parts = []
-                while part := stream.recv(65536):
-                    parts.append(part)
-            if not b"".join(parts).startswith(wanted):
+            if not answer_to(port, text, 60).startswith(wanted):
                 ended.put(None)
                 return
         ended.put(time.monotonic())
@@ -90,21 +82,19 @@ def client(port, requests, wanted, start, ended):
 
 
 def per_second(folder, made, count, offices, made_by):
-    """How many requests a second so many offices answer."""
+    """How many requests a second this number of offices answers."""
     requests, wanted = made_by(count)
-    servers, ports = [], []
+    servers = []
     for at in range(offices):
         file = folder / f"{at}.db"
         file.write_bytes(made.read_bytes())
         mine = sum(len(requests[it::CLIENTS]) for it in range(at, CLIENTS, offices))
-        words = [DEPOT, "serve", "--port", "0", "--count", str(mine), file, DAY]
-        servers.append(subprocess.Popen(words, stdout=subprocess.PIPE))
-        ports.append(int(re.match(rb"listening (\d+)\n", servers[-1].stdout.readline())[1]))
+        servers.append(Server(DEPOT, file, DAY, mine))
     os.sync()
     context = multiprocessing.get_context("fork")
     start, ended = context.Barrier(CLIENTS + 1), context.Queue()
     clients = [
-        context.Process(target=client, args=(ports[it % offices], requests[it::CLIENTS], wanted, start, ended))
+        context.Process(target=client, args=(servers[it % offices].port, requests[it::CLIENTS], wanted, start, ended))
         for it in range(CLIENTS)
     ]
     for each in clients:
@@ -115,20 +105,16 @@ def per_second(folder, made, count, offices, made_by):
     for each in clients:
         each.join()
     # (each office ends by itself after its last connection)
-    if None in ends or any(each.wait(timeout=60) != 0 for each in servers):
-        sys.exit("an office answers otherwise")
+    if None in ends or any(each.ended() != 0 for each in servers):
+        fail("an office answers otherwise")
     return count / (max(ends) - begun)
 
 
 def main():
-    names = sys.argv[1:] or list(CASES)
-    for name in names:
-        if name not in CASES:
-            sys.exit("the cases are " + ", ".join(CASES))
+    names = chosen(CASES)
     if CLIENTS < max(OFFICES):
-        sys.exit(f"CLIENTS is at least {max(OFFICES)}")
-    if not DEPOT.exists():
-        sys.exit("build the program first: ./depot check examples/bag-a.bagset")
+        fail(f"CLIENTS is at least {max(OFFICES)}")
+    needs_built(DEPOT)
     say_machine()
     with tempfile.TemporaryDirectory() as name:
         folder = Path(name)

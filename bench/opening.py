@@ -13,7 +13,8 @@ import time
 from statistics import median
 
 from office_file import RUNS, main, opened, ours
-from stores import SCHEMA, VERSION_3, small_bag, stored
+from shared.stores import SCHEMA, VERSION_3
+from stores import small_bag, stored
 
 TEXTS = "".join(f"{text};\n" for text in SCHEMA)
 TEXTS_3 = "".join(f"{text};\n" for text in VERSION_3)
@@ -48,7 +49,7 @@ def layouts():
 
 
 def rows_for(table, texts):
-    """Where the rows of a table of these texts stand in the base."""
+    """Where the base has the rows of a table of these texts."""
     if table == "file" and "content BLOB" in texts:
         return WHOLE_FILES
     successor = SUCCESSORS.get(table, table)
@@ -58,17 +59,17 @@ def rows_for(table, texts):
 def laid_out(base, name, texts):
     """The rows of the file in tables of these texts, in a file beside it."""
     file = base.with_name(f"{name}.db")
-    conn = opened(file)
-    conn.execute("PRAGMA foreign_keys = OFF")
-    conn.executescript(texts)
-    conn.execute("ATTACH ?1 AS base", (str(base),))
-    conn.execute("BEGIN")
+    connection = opened(file)
+    connection.execute("PRAGMA foreign_keys = OFF")
+    connection.executescript(texts)
+    connection.execute("ATTACH ?1 AS base", (str(base),))
+    connection.execute("BEGIN")
     for table in re.findall(r"CREATE TABLE (\w+)", texts):
-        columns = ", ".join(it[1] for it in conn.execute(f"PRAGMA main.table_info({table})"))
-        conn.execute(f"INSERT INTO main.{table} ({columns}) SELECT {columns} FROM {rows_for(table, texts)}")
-    conn.execute("COMMIT")
-    conn.execute("PRAGMA wal_checkpoint(TRUNCATE)").fetchall()
-    conn.close()
+        columns = ", ".join(it[1] for it in connection.execute(f"PRAGMA main.table_info({table})"))
+        connection.execute(f"INSERT INTO main.{table} ({columns}) SELECT {columns} FROM {rows_for(table, texts)}")
+    connection.execute("COMMIT")
+    connection.execute("PRAGMA wal_checkpoint(TRUNCATE)").fetchall()
+    connection.close()
     return file
 
 

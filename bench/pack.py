@@ -4,17 +4,20 @@
 `pack` is measured beside `tar -cf`, and beside `tar -cf` and `sync` of what it wrote, since `pack` brings
 its file to the disk; `unpack` beside `tar -xf`. Prints the ratios of each case: the median time of `depot`
 over that of the other, which take turns (RUNS=n, 15 if left out), in going first too. Run it after
-`./depot check examples/bag-a.bagset` has built the program. Words behind `pack.py` name the cases that are
+`./depot check examples/bag-a.bagset` has built the program. The arguments of `pack.py` name the cases that are
 run; with none, all are.
 """
 import os
 import pathlib
 import shutil
-import sys
 import tempfile
 
 import bench
-from turns import ratio, say_machine, spreads, turns
+from shared.comparing import fail
+from shared.forms import bag
+from shared.peaks import watched
+from shared.places import DEPOT, needs_built
+from turns import chosen, ratio, say_machine, spreads, turns
 
 
 def cleared(clear, commands):
@@ -24,62 +27,73 @@ def cleared(clear, commands):
     return bench.run(commands)
 
 
-def round_trip(folder, name, files):
-    """A folder with these files is packed, and what was packed is unpacked."""
-    base, text = bench.write(folder, files, name)
-    written, archive = (str(pathlib.Path(folder) / (name + end)) for end in (".packed", ".tar"))
-    there, other = (pathlib.Path(folder) / (name + end) for end in ("-unpacked", "-other"))
+class RoundTrip:
+    """A folder with these files that is packed, and the form of it that is unpacked."""
 
-    def clear():
-        for made in (there, other):
+    def __init__(self, folder, name, files):
+        self.folder, self.name = pathlib.Path(folder), name
+        self.base, self.form = bench.write(folder, files, name)
+        self.packed, self.archive = self.folder / f"{name}.packed", self.folder / f"{name}.tar"
+        self.unpacked, self.other = self.folder / f"{name}-unpacked", self.folder / f"{name}-other"
+        self.size = self.form.stat().st_size
+
+    def clear(self):
+        for made in (self.unpacked, self.other):
             shutil.rmtree(made, ignore_errors=True)
-        other.mkdir()
+        self.other.mkdir()
 
-    pack = [str(bench.DEPOT), "pack", str(base), written]
-    unpack = [str(bench.DEPOT), "unpack", written, str(there)]
-    size = text.stat().st_size
-    tar = ["tar", "-cf", archive, "-C", str(base), "."]
-    plain = turns(lambda: cleared(clear, [pack]), lambda: cleared(clear, [tar]), bench.RUNS)
-    synced = turns(lambda: cleared(clear, [pack]), lambda: cleared(clear, [tar, ["sync", archive]]), bench.RUNS)
-    if pathlib.Path(written).read_bytes() != text.read_bytes():
-        sys.exit(f"{name}: another form")
-    memory = max(bench.peak(pack) for _ in range(3)) - size
-    print(
-        f"pack {name}: {ratio(*plain):.2f} times tar -cf (at most 1.5; {spreads(*plain)}), and"
-        f" {ratio(*synced):.2f} times tar -cf and sync (at most 1.15; {spreads(*synced)});"
-        f" memory: the form and {memory / 2**20:.1f} MiB (at most 8)",
-        flush=True,
-    )
-    unpacks = [["tar", "-xf", archive, "-C", str(other)]]
-    found = turns(lambda: cleared(clear, [unpack]), lambda: cleared(clear, unpacks), bench.RUNS)
-    clear()
-    memory = bench.peak(unpack) - size
-    print(
-        f"unpack {name}: {ratio(*found):.2f} times tar -xf (at most 2; {spreads(*found)});"
-        f" memory: the form and {memory / 2**20:.1f} MiB (at most 8)",
-        flush=True,
-    )
+    def turns(self, ours, theirs):
+        """What `depot` and the other commands take in turns, each once what was written before is gone."""
+        return turns(lambda: cleared(self.clear, [ours]), lambda: cleared(self.clear, theirs), bench.RUNS)
+
+    def pack(self):
+        pack = [str(DEPOT), "pack", str(self.base), str(self.packed)]
+        tar = ["tar", "-cf", str(self.archive), "-C", str(self.base), "."]
+        plain = self.turns(pack, [tar])
+        synced = self.turns(pack, [tar, ["sync", str(self.archive)]])
+        if self.packed.read_bytes() != self.form.read_bytes():
+            fail(f"{self.name}: another form")
+        memory = max(watched(*pack)[1] for _ in range(3)) - self.size
+        print(
+            f"pack {self.name}: {ratio(*plain):.2f} times tar -cf (at most 1.5; {spreads(*plain)}), and"
+            f" {ratio(*synced):.2f} times tar -cf and sync (at most 1.15; {spreads(*synced)});"
+            f" memory: the form and {memory / 2**20:.1f} MiB (at most 8)",
+            flush=True,
+        )
+
+    def unpack(self):
+        unpack = [str(DEPOT), "unpack", str(self.packed), str(self.unpacked)]
+        found = self.turns(unpack, [["tar", "-xf", str(self.archive), "-C", str(self.other)]])
+        self.clear()
+        memory = watched(*unpack)[1] - self.size
+        print(
+            f"unpack {self.name}: {ratio(*found):.2f} times tar -xf (at most 2; {spreads(*found)});"
+            f" memory: the form and {memory / 2**20:.1f} MiB (at most 8)",
+            flush=True,
+        )
+
+
+def round_trip(folder, name, files):
+    it = RoundTrip(folder, name, files)
+    it.pack()
+    it.unpack()
 
 
 def one_large_file(folder):
-    round_trip(folder, "one-large-file", bench.large_file(bench.bag))
+    round_trip(folder, "one-large-file", bench.large_file(bag))
 
 
 def many_small_files(folder):
     payload = {b"data/%04d" % n: os.urandom(1000) for n in range(1998)}
-    round_trip(folder, "many-small-files", bench.bag(payload))
+    round_trip(folder, "many-small-files", bag(payload))
 
 
 CASES = {"one-large-file": one_large_file, "many-small-files": many_small_files}
 
 
 def main():
-    if not bench.DEPOT.exists():
-        sys.exit("build the program first: ./depot check examples/bag-a.bagset")
-    names = sys.argv[1:] or list(CASES)
-    for name in names:
-        if name not in CASES:
-            sys.exit("the cases are " + ", ".join(CASES))
+    needs_built(DEPOT)
+    names = chosen(CASES)
     say_machine("tar", "sync")
     with tempfile.TemporaryDirectory() as folder:
         for name in names:

@@ -10,43 +10,45 @@ program, the opening of the file and its closing count on both sides. `open` is 
 changes nothing by `depot ask`, of files of several sizes with rows of 1 MiB, and of one with 100 MiB of
 bags of 10 KiB: figures alone.
 Prints a ratio for each case: of the medians of runs that take turns (RUNS=n, 7 if left out). The programs
-`depot` and crates/office_file have to be built. Words behind `program.py` name the cases that are run;
+`depot` and crates/office_file have to be built. The arguments of `program.py` name the cases that are run;
 with none, all are.
 """
 import os
-import re
 import subprocess
 import sys
 import time
 from statistics import median
 
-from bench import DEPOT, TOP, form
-from desk import record as request_record
 from office_file import BESIDE, END_HOLD, FILES, PUT_HOLD, SET_HOLDS
 from office_file import copy, filled, main, opened, put_file, say, turns
 from servers import asked, processor_time
+from shared.comparing import fail
+from shared.forms import form
+from shared.offices import replay as replayed
+from shared.offices import started
+from shared.places import DEPOT, TOP, needs_built
+from shared.requests import deposit_target, parts, record, records_in, request
 from statements import DAY as DAY_NUMBER
 from statements import DUE_ROW, HOLD, LIMITS, Statements
 
 SERVING = TOP / "bench" / "serving.py"
 DAY = "2026-02-16"
-BAG = form({path.encode(): content for path, content in FILES})
+BAG = form(dict(FILES))
 
 
 def served(words, requests):
     """The microseconds that a server takes for these requests, those of its processor time, and the bodies of its
     answers."""
-    server = subprocess.Popen(list(map(str, words)), stdout=subprocess.PIPE)
-    port = int(re.match(rb"listening (\d+)\n", server.stdout.readline())[1])
-    started = processor_time(server)
+    server, port = started(words)
+    before = processor_time(server)
     begin = time.perf_counter()
     bodies = [asked(port, it)[1] for it in requests]
     took = time.perf_counter() - begin
     _, status, used = os.wait4(server.pid, 0)
     server.returncode = os.waitstatus_to_exitcode(status)
     if server.returncode != 0:
-        sys.exit(f"{words} ended with {server.returncode}")
-    return took * 1e6, (used.ru_utime + used.ru_stime - started) * 1e6, bodies
+        fail(f"{words} ended with {server.returncode}")
+    return took * 1e6, (used.ru_utime + used.ru_stime - before) * 1e6, bodies
 
 
 def through_servers(folder, name, requests, most):
@@ -68,30 +70,24 @@ def through_servers(folder, name, requests, most):
         other, of_other = "http.server and sqlite3", lambda to: [sys.executable, SERVING, to, DAY, count]
     first, second = turns(lambda: side("ours", through(DEPOT)), lambda: side("theirs", of_other))
     if last["ours"] != last["theirs"]:
-        sys.exit(f"{name}: other answers")
+        fail(f"{name}: other answers")
     say(name, count, first, second, other, most)
     say(f"{name}, processor time of the server", count, *processor.values(), other)
 
 
-def head(method, target, body=b""):
-    """The bytes of a request by `anna`."""
-    length = f"Content-Length: {len(body)}\r\n" if body else ""
-    return f"{method} {target} HTTP/1.1\r\nDepot-Caller: anna\r\n{length}\r\n".encode() + body
-
-
-def deposit_target(number):
+def target_of(number):
     """The target that deposits the bag with the accession of this number."""
-    return f"/deposits?collection=tax&class=y10&accession=2026-{number:07}&closed=2026-01-01"
+    return deposit_target(f"2026-{number:07}", "tax", "y10", "2026-01-01")
 
 
 def get(folder):
     """GETs of a record."""
-    through_servers(folder, "get", [head("GET", f"/deposits/{n % 100 + 1}") for n in range(2_000)], 1)
+    through_servers(folder, "get", [request("GET", f"/deposits/{n % 100 + 1}") for n in range(2_000)], 1)
 
 
 def deposit(folder):
     """Deposits of a bag of 10 KiB with three files."""
-    requests = [head("POST", deposit_target(100 + n), BAG) for n in range(1, 201)]
+    requests = [request("POST", target_of(100 + n), BAG) for n in range(1, 201)]
     through_servers(folder, "deposit", requests, 1)
 
 
@@ -101,7 +97,7 @@ class Mixed(Statements):
     HOLDS = 100
 
     def count(self, number, by):
-        """So many more live holds over the deposit."""
+        """Changes the number of live holds over the deposit."""
         self.rows(LIMITS, 1)
         self.rows(SET_HOLDS, number, self.rows(DUE_ROW, number)[0][2] + by)
 
@@ -130,12 +126,12 @@ def mixed(turn):
     other = turn % 100 + 1
     matter = b'{"deposit":%d,"matter":"suit"}' % other
     return [
-        (("POST", deposit_target(new), BAG), ("deposit", new)),
+        (("POST", target_of(new), BAG), ("deposit", new)),
         (("GET", f"/deposits/{new}"), ("record", new)),
         (("POST", "/holds", matter), ("hold", hold, other)),
         (("DELETE", f"/deposits/{other}"), ("disposal", other)),
         (("GET", f"/deposits/{new}/bag"), ("bag", new)),
-        (("POST", deposit_target(new + 1), BAG), ("deposit", new + 1)),
+        (("POST", target_of(new + 1), BAG), ("deposit", new + 1)),
         (("GET", f"/deposits/{other}"), ("record", other)),
         (("DELETE", f"/holds/{hold}"), ("release", hold)),
         (("GET", f"/deposits/{new + 1}"), ("record", new + 1)),
@@ -147,16 +143,16 @@ def replay(folder):
     """2,000 mixed requests into a file of 100 deposits and holds."""
     file = filled(folder, 100)
     items = [it for turn in range(200) for it in mixed(turn)]
-    text = b"".join(request_record(*words, day=DAY) for words, _ in items)
+    text = b"".join(record(DAY, request(*words)) for words, _ in items)
 
     def ours():
         to = copy(file, "ours.db")
         begin = time.perf_counter()
-        done = subprocess.run([str(DEPOT), "replay", str(to)], input=text, capture_output=True)
+        done = replayed(DEPOT, to, [text])
         took = time.perf_counter() - begin
-        statuses = [int(it) for it in re.findall(rb"^ANS \d+\nHTTP/1.1 (\d+) ", done.stdout, re.M)]
+        statuses = [parts(it)[0] for it in records_in(done.stdout)[0]]
         if done.returncode != 0 or statuses != [STATUS[name] for _, (name, *_) in items]:
-            sys.exit(f"replay ended with {done.returncode}, or answers otherwise: {done.stderr.decode()}")
+            fail(f"replay ended with {done.returncode}, or answers otherwise: {done.stderr.decode()}")
         return took * 1e6
 
     def theirs():
@@ -164,10 +160,10 @@ def replay(folder):
         begin = time.perf_counter()
         statements = Mixed(to)
         for _, (name, *numbers) in items:
-            statements.conn.execute("BEGIN")
+            statements.connection.execute("BEGIN")
             getattr(statements, name)(*numbers)
-            statements.conn.execute("COMMIT" if name in ("deposit", "hold", "release") else "ROLLBACK")
-        statements.conn.close()
+            statements.connection.execute("COMMIT" if name in ("deposit", "hold", "release") else "ROLLBACK")
+        statements.connection.close()
         return (time.perf_counter() - begin) * 1e6
 
     first, second = turns(ours, theirs)
@@ -176,13 +172,13 @@ def replay(folder):
 
 def opens(file, rows):
     """A request that changes nothing, of this file: the figure alone."""
-    text, found = head("GET", "/deposits/1"), []
+    text, found = request("GET", "/deposits/1"), []
     for _ in range(3):
         begin = time.perf_counter()
         done = subprocess.run([str(DEPOT), "ask", str(file), DAY], input=text, capture_output=True)
         found.append(time.perf_counter() - begin)
         if not done.stdout.startswith(b"HTTP/1.1 200 "):
-            sys.exit(f"ask ended with {done.returncode}: {done.stderr.decode()}")
+            fail(f"ask ended with {done.returncode}: {done.stderr.decode()}")
     size = file.stat().st_size / 2**20
     print(f"open: {median(found):.2f} seconds of a file of {size:.0f} MiB, {rows}", flush=True)
 
@@ -192,13 +188,13 @@ def opening(folder):
     file = filled(folder, 100)
     for size in (10, 50, 100):
         large = copy(file, f"large-{size}.db")
-        conn = opened(large)
-        conn.execute("BEGIN")
+        connection = opened(large)
+        connection.execute("BEGIN")
         for n in range(size):
-            put_file(conn, 1, f"data/large{n}", b"%04d" % n + b"r" * (2**20 - 4))
-        conn.execute("COMMIT")
-        conn.execute("PRAGMA wal_checkpoint(TRUNCATE)").fetchall()
-        conn.close()
+            put_file(connection, 1, f"data/large{n}", b"%04d" % n + b"r" * (2**20 - 4))
+        connection.execute("COMMIT")
+        connection.execute("PRAGMA wal_checkpoint(TRUNCATE)").fetchall()
+        connection.close()
         opens(large, f"{size} rows of 1 MiB in one deposit")
     opens(filled(folder, 10_240), "10,240 deposits of 10 KiB with three files each, and as many holds")
 
@@ -206,6 +202,5 @@ def opening(folder):
 CASES = {"get": get, "deposit": deposit, "replay": replay, "open": opening}
 
 if __name__ == "__main__":
-    if not DEPOT.exists():
-        sys.exit("build the program first: ./depot check examples/bag-a.bagset")
+    needs_built(DEPOT)
     main(CASES)

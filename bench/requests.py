@@ -6,11 +6,12 @@ one transaction, through Python's sqlite3 (WAL, synchronous FULL, foreign keys o
 each: of the medians of runs that take turns (RUNS=n, 7 if left out). `large`, `several` and `many` are
 ratios of peak memory. The program crates/office_file, which makes the requests, has to be built; it
 doesn't count the opening of the file, and nor does the other side. BESIDE=PROGRAM measures beside another
-build of it instead of the statements. Words behind `requests.py` name the cases that are run; with none,
+build of it instead of the statements. The arguments of `requests.py` name the cases that are run; with none,
 all are.
 """
-from office_file import BESIDE, FILES, PROGRAM, PUT_DEPOSIT
+from office_file import BESIDE, FILES, PUT_DEPOSIT
 from office_file import copy, filled, main, opened, ours, own_files, put_file, say, turns, watched
+from shared.places import OFFICE_FILE
 from statements import scattered, theirs
 from stores import LONG, ROLES, naming, put_policy, stored
 
@@ -18,9 +19,9 @@ MANY = 100_000
 
 
 def beside(name, count, asked, stated, most):
-    """What the program takes for so many requests, beside their statements or another build of the program."""
+    """What the program takes for this number of requests, beside their statements or another build of the program."""
     other = (lambda: asked(BESIDE)) if BESIDE else stated
-    first, second = turns(lambda: asked(PROGRAM), other)
+    first, second = turns(lambda: asked(OFFICE_FILE), other)
     if BESIDE:
         say(name, count, first, second, "the other program")
     else:
@@ -28,7 +29,7 @@ def beside(name, count, asked, stated, most):
 
 
 def reading(name, file, words, last, count, most=None):
-    """A request that changes nothing. `words` are what the program and the statements call it."""
+    """A request that changes nothing. `words` has its names: of the program, and of the statements."""
     asked = lambda program: ours(words[0], file, count, program=program)
     beside(name, count, asked, lambda: theirs(file, words[1], scattered(last, count), "ROLLBACK"), most)
 
@@ -57,11 +58,11 @@ def again(folder):
 def by_rules(file, name, policy):
     """The same office by another policy."""
     to = copy(file, f"{file.stem} by {name}.db")
-    conn = opened(to)
-    conn.execute("BEGIN")
-    put_policy(conn, policy)
-    conn.execute("COMMIT")
-    conn.close()
+    connection = opened(to)
+    connection.execute("BEGIN")
+    put_policy(connection, policy)
+    connection.execute("COMMIT")
+    connection.close()
     return to
 
 
@@ -96,7 +97,7 @@ def whole_list(folder):
     """A list of 10,000 records by 200 rules, over 10 pairs of collection and class, and over 5,000, also by
     rules that name 100 of their collections."""
     for pairs in (10, 5_000):
-        of = lambda n: {"collection": f"a{n % pairs // 10}", "klass": f"y{n % 10}"}
+        of = lambda n: {"collection": f"a{n % pairs // 10}", "class": f"y{n % 10}"}
         file = stored(folder, f"{pairs} pairs", 10_000, of, LONG)
         reading(f"list over {pairs:,} pairs", file, ("ask-lists", "list"), 10_000, 5, 1.5)
     named = by_rules(file, "rules of 100 collections", naming([f"a{n}" for n in range(100)]))
@@ -135,7 +136,7 @@ def over_many(folder, name, words, most):
     """A request that changes 100,000 deposits, 10,000, and 1,000 of 100,000: those of the collection `tax`
     and the class `y10`."""
     for rows, among, count in ((MANY, MANY, 2), (10_000, 10_000, 10), (1_000, MANY, 10)):
-        of = lambda n: {"collection": "tax"} if n % (among // rows) == 0 else {"klass": "y5"}
+        of = lambda n: {"collection": "tax"} if n % (among // rows) == 0 else {"class": "y5"}
         file = stored(folder, f"{rows} of {among}", among, of)
         wanted = most if rows == among else None
         changing(f"{name} of {rows:,} of {among:,}", file, words, range(1, count + 1), wanted)
@@ -154,7 +155,7 @@ def revision(folder):
 
 
 def peak_of(folder, name, count):
-    """A download of a bag of 16 MiB in so many payload files: peak memory beside the same program's
+    """A download of a bag of 16 MiB in this number of payload files: peak memory beside the same program's
     once it had opened the file."""
     file = copy(filled(folder, 100), f"{name}.db")
     size = 16 * 1024 * 1024
@@ -162,17 +163,17 @@ def peak_of(folder, name, count):
     # What is left for the contents of the payload, with some room for the headers of the form.
     left = size - sum(len(path) + len(it) for path, it in tags) - 200 - 40 * count
     each = left // count
-    conn = opened(file)
-    conn.execute("DELETE FROM file")
-    conn.execute("DELETE FROM content")
-    conn.execute("DELETE FROM deposit")
-    conn.execute(PUT_DEPOSIT, (1, "2026-0000001", "tax", "y10", 20454, 20500, count, count * each, None, 0))
+    connection = opened(file)
+    connection.execute("DELETE FROM file")
+    connection.execute("DELETE FROM content")
+    connection.execute("DELETE FROM deposit")
+    connection.execute(PUT_DEPOSIT, (1, "2026-0000001", "tax", "y10", 20454, 20500, count, count * each, None, 0))
     # No two have the same content, which would be kept once.
     records = [(f"data/record{n:04}", b"%04d" % n + b"r" * (each - 4)) for n in range(count)]
     for path, it in tags + records:
-        put_file(conn, 1, path, it)
-    conn.execute("PRAGMA wal_checkpoint(TRUNCATE)").fetchall()
-    conn.close()
+        put_file(connection, 1, path, it)
+    connection.execute("PRAGMA wal_checkpoint(TRUNCATE)").fetchall()
+    connection.close()
     _, opening = watched("ask-records", file, 0)
     _, whole = watched("ask-bags", file, 1)
     print(

@@ -1,17 +1,14 @@
 """What the speed scripts ask of a server that runs: an answer, and the processor time that it has taken."""
-import socket
 from pathlib import Path
+
+from shared.offices import answer_to
+from shared.requests import parts
 
 
 def asked(port, text):
     """The status of the answer to a request, and its body, by a connection of its own."""
-    with socket.create_connection(("127.0.0.1", port)) as stream:
-        stream.sendall(text)
-        parts = []
-        while part := stream.recv(2**20):
-            parts.append(part)
-    head, body = b"".join(parts).split(b"\r\n\r\n", 1)
-    return int(head.split(b" ", 2)[1]), body
+    status, _, body = parts(answer_to(port, text, patience=None, piece=1 << 20))
+    return status, body
 
 
 def processor_time(process):

@@ -1,7 +1,7 @@
 #!/usr/bin/env python3
 """Serves an office over HTTP by http.server and sqlite3 (WAL, synchronous FULL), for `program.py`.
 
-The words are the file of an office, a day and how many connections are served. It answers two requests,
+The arguments are the file of an office, a day and how many connections are served. It answers two requests,
 with the same bodies as `depot serve`: `GET /deposits/N` and `POST /deposits?..`. Each is one
 transaction, the policy is read for each, and a bag is checked by its sha256 manifest.
 """
@@ -79,10 +79,10 @@ class Desk(BaseHTTPRequestHandler):
     def rows(self, text, *values):
         return self.server.office.execute(text, values).fetchall()
 
-    def may(self, caller, action, collection, kind):
+    def may(self, caller, action, collection, retention_class):
         """Whether the first rule that matches on the day allows it."""
         role = self.rows("SELECT role FROM caller WHERE name = ?1", caller)
-        asked = (role[0][0] if role else "stranger", action, collection, kind)
+        asked = (role[0][0] if role else "stranger", action, collection, retention_class)
         rules = self.rows(RULES, self.server.day)
         for effect, *wanted in rules:
             if all(want in ("*", it) for want, it in zip(wanted, asked)):
@@ -101,9 +101,9 @@ class Desk(BaseHTTPRequestHandler):
         number = int(self.path.rsplit("/", 1)[1])
         self.rows("BEGIN")
         row = self.rows("SELECT * FROM deposit WHERE number = ?1", number)
-        number, accession, collection, kind, closed, deposited, files, count, *_ = row[0]
-        may = self.may(self.headers["Depot-Caller"], "record", collection, kind)
-        years = self.rows("SELECT years FROM class WHERE name = ?1", kind)[0][0]
+        number, accession, collection, retention_class, closed, deposited, files, count, *_ = row[0]
+        may = self.may(self.headers["Depot-Caller"], "record", collection, retention_class)
+        years = self.rows("SELECT years FROM class WHERE name = ?1", retention_class)[0][0]
         self.rows("ROLLBACK")
         if not may:
             return self.answer(403, {"error": "Denied"})
@@ -112,7 +112,7 @@ class Desk(BaseHTTPRequestHandler):
             {
                 "accession": accession,
                 "bytes": count,
-                "class": kind,
+                "class": retention_class,
                 "closed": day_of(closed),
                 "collection": collection,
                 "deposit": number,
@@ -126,12 +126,12 @@ class Desk(BaseHTTPRequestHandler):
         asked = {key: it[0] for key, it in parse_qs(urlsplit(self.path).query).items()}
         files = files_of(self.rfile.read(int(self.headers["Content-Length"])))
         count, size = payload(files)
-        kind, collection = asked["class"], asked["collection"]
+        retention_class, collection = asked["class"], asked["collection"]
         self.rows("BEGIN IMMEDIATE")
         known = (
             self.rows("SELECT name FROM collection WHERE name = ?1", collection)
-            and (years := self.rows("SELECT years FROM class WHERE name = ?1", kind))
-            and self.may(self.headers["Depot-Caller"], "deposit", collection, kind)
+            and (years := self.rows("SELECT years FROM class WHERE name = ?1", retention_class))
+            and self.may(self.headers["Depot-Caller"], "deposit", collection, retention_class)
             and not self.rows("SELECT number FROM deposit WHERE accession = ?1", asked["accession"])
         )
         most = self.rows("SELECT max_deposits FROM office WHERE id = 1")[0][0]
@@ -141,9 +141,9 @@ class Desk(BaseHTTPRequestHandler):
             self.rows("ROLLBACK")
             return self.answer(409, {"error": "refused"})
         closed = number_of(asked["closed"])
-        row = (number, asked["accession"], collection, kind, closed, self.server.day, count, size)
+        row = (number, asked["accession"], collection, retention_class, closed, self.server.day, count, size)
         due_day = due(closed, years[0][0])
-        live = self.rows(LIVE_HOLDS, number, collection, kind)[0][0]
+        live = self.rows(LIVE_HOLDS, number, collection, retention_class)[0][0]
         self.rows(PUT_DEPOSIT, *row, None if due_day == "permanent" else number_of(due_day), live)
         put_files(self.server.office, number, files)
         self.rows("COMMIT")

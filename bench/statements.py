@@ -1,10 +1,11 @@
 """The SQL statements that the office makes for a request, in their order, through Python's sqlite3."""
 import itertools
-import sys
 import time
 
 from office_file import CONTENT_ID, DUE, FILES, PUT_HOLD, SET_DUES
 from office_file import due_day, intact, opened, put_files, put_row
+from shared.comparing import fail
+from shared.days import FIRST, LAST
 
 DEPOSIT = "SELECT number, accession, collection, class, closed, deposited, files, bytes, gone FROM deposit"
 DEPOSITS_AND_DUES = DEPOSIT.replace("gone", "gone, due, holds") + " ORDER BY number"
@@ -46,7 +47,7 @@ LIMITS = "SELECT max_deposits, max_holds FROM office WHERE id = ?1"
 # The day of each request.
 DAY = 20_500
 # The first day of the office, and its last.
-DAYS = (-25_567, 2_859_848)
+DAYS = (FIRST, LAST)
 
 
 def runs(rows):
@@ -60,16 +61,16 @@ class Statements:
     """The statements of requests, by the caller `anna`."""
 
     def __init__(self, file):
-        self.conn = opened(file)
+        self.connection = opened(file)
 
     def rows(self, text, *values):
-        return self.conn.execute(text, values).fetchall()
+        return self.connection.execute(text, values).fetchall()
 
     def role(self):
         return self.rows("SELECT role FROM caller WHERE name = ?1", "anna")[0][0]
 
-    def asker(self, action, collection="tax", klass="y10"):
-        self.rows(MATCH_RULE, self.role(), action, collection, klass, DAY)
+    def asker(self, action, collection="tax", retention_class="y10"):
+        self.rows(MATCH_RULE, self.role(), action, collection, retention_class, DAY)
 
     def each_kind(self, role, action, pairs):
         """The rules, and the rule asked for once for each kind of pair of collection and class: names that no
@@ -93,13 +94,13 @@ class Statements:
     def years(self):
         return self.rows("SELECT years FROM class WHERE name = ?1", "y10")[0][0]
 
-    def holds(self, number, collection, klass):
+    def holds(self, number, collection, retention_class):
         self.rows(RELEASED_ON_DEPOSIT, number, *DAYS)
         self.rows(RELEASED_ON_COLLECTION, collection, *DAYS)
-        self.rows(RELEASED_ON_CLASS, klass, *DAYS)
+        self.rows(RELEASED_ON_CLASS, retention_class, *DAYS)
         on_deposit = self.rows(HOLDS_ON_DEPOSIT, number)
         on_collection = self.rows(HOLDS_ON_COLLECTION, number, collection)
-        return on_deposit + on_collection + self.rows(HOLDS_ON_CLASS, number, collection, klass)
+        return on_deposit + on_collection + self.rows(HOLDS_ON_CLASS, number, collection, retention_class)
 
     def next_hold(self):
         self.rows(LIMITS, 1)
@@ -112,8 +113,8 @@ class Statements:
         self.rows(DEPOSIT + " WHERE accession = ?1", f"2026-{number:07}")
         self.rows(LIMITS, 1)
         self.rows("SELECT number FROM deposit ORDER BY number DESC LIMIT 1")
-        put_row(self.conn, number, DUE, len(self.holds(number, "tax", "y10")))
-        put_files(self.conn, number, files)
+        put_row(self.connection, number, DUE, len(self.holds(number, "tax", "y10")))
+        put_files(self.connection, number, files)
 
     def own_deposit(self, given):
         """A deposit of this number and these files."""
@@ -124,22 +125,22 @@ class Statements:
         self.rows(DUE_ROW, number)
 
     def disposal(self, number):
-        collection, klass = self.kept_row(number, "dispose")[2:4]
+        collection, retention_class = self.kept_row(number, "dispose")[2:4]
         if self.rows(DUE_ROW, number)[0][2] == 0:
-            sys.exit("no hold")
+            fail("no hold")
         self.rows(LIMITS, 1)
-        self.rows(HOLD + " WHERE number = ?1", min(self.holds(number, collection, klass))[0])
+        self.rows(HOLD + " WHERE number = ?1", min(self.holds(number, collection, retention_class))[0])
 
     def bag(self, number):
         self.kept_row(number, "download")
         for _, content in self.rows("SELECT path, content FROM file WHERE deposit = ?1 ORDER BY path", number):
-            intact(self.conn, content)
+            intact(self.connection, content)
 
     def bag_by_paths(self, number):
         """A download of a bag as the office made it until 2026-11-30: by two statements for each file."""
         self.kept_row(number, "download")
         for (path,) in self.rows("SELECT path FROM file WHERE deposit = ?1 ORDER BY path", number):
-            intact(self.conn, self.rows(CONTENT_ID, number, path)[0][0])
+            intact(self.connection, self.rows(CONTENT_ID, number, path)[0][0])
 
     def list(self, _number):
         role = self.role()
@@ -151,7 +152,7 @@ class Statements:
 
     def hold_collection(self, _number):
         self.rows("SELECT name FROM collection WHERE name = ?1", "tax")
-        self.asker("hold", klass="")
+        self.asker("hold", retention_class="")
         self.rows(PUT_HOLD, self.next_hold(), None, "tax", None, "suit", DAY)
         self.rows(ADD_HOLDS, "tax", 1)
 
@@ -166,7 +167,7 @@ class Statements:
 
 
 def scattered(last, count):
-    """So many numbers from 1 to `last`, here and there, as the program takes them."""
+    """This number of numbers from 1 to `last`, scattered as the program takes them."""
     return [turn * 7919 % 2**32 % last + 1 for turn in range(1, count + 1)]
 
 
@@ -176,9 +177,9 @@ def theirs(file, name, given, end):
     ask = getattr(statements, name)
     begin = time.perf_counter()
     for it in given:
-        statements.conn.execute("BEGIN")
+        statements.connection.execute("BEGIN")
         ask(it)
-        statements.conn.execute(end)
+        statements.connection.execute(end)
     took = time.perf_counter() - begin
-    statements.conn.close()
+    statements.connection.close()
     return took * 1e6

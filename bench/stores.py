@@ -1,57 +1,48 @@
 """Files that hold an office with many deposits: Python puts the rows in, as the office writes them."""
 import hashlib
 import pathlib
-import sys
 import tomllib
 from collections import Counter
 
-from office_file import PUT_CONTENT, PUT_FILE, PUT_HOLD, RECORD, SET_HOLDS, TOP
+from office_file import PUT_CONTENT, PUT_FILE, PUT_HOLD, RECORD, SET_HOLDS
 from office_file import due_day, opened, ours, own_files
+from shared.days import FIRST, LAST
+from shared.histories import holds_of, rules_of
+from shared.places import POLICY
+from shared.policies import allow, deny
+from shared.stores import VERSION_3, VERSION_4
 
-# Stores of older versions are made as `diff/upgrade.py` makes them.
-sys.path.append(str(TOP / "diff"))
-from upgrade import FOURTH as VERSION_4
-from upgrade import THIRD as VERSION_3
-from upgrade import holds_of, rules_of
-
-# The texts of the tables and indexes of today, which begin with those of versions 3 and 4.
-SCHEMA = (TOP / "diff" / "schema.sql").read_text().replace(";", "").splitlines()
 # The policy of the examples, by which `anna` may do all but dispose in the collection `tax`.
-SMALL = tomllib.loads((TOP / "examples" / "policy.toml").read_text())
-
-
-def rule(effect, collection="*", role="archivist", action="*"):
-    """A rule, by default one for the role of `anna`."""
-    return dict(effect=effect, role=role, action=action, collection=collection, **{"class": "*"})
+SMALL = tomllib.loads(POLICY.read_text())
 
 
 def naming(collections):
     """A policy of 200 rules: one for each of these collections, others for collections that no deposit is in, and the
     last for all."""
-    others = [rule("deny", f"c{n}") for n in range(1, 200 - len(collections))]
-    return SMALL | {"rule": [rule("allow", it) for it in collections] + others + [rule("allow")]}
+    others = [deny("archivist", "*", f"c{n}") for n in range(1, 200 - len(collections))]
+    return SMALL | {"rule": [allow("archivist", "*", it) for it in collections] + others + [allow("archivist", "*")]}
 
 
 # 200 rules, of which the last alone fits what is asked: the others are of other collections, or of other roles and
 # another action.
 LONG = naming([])
-ROLES = SMALL | {"rule": [rule("deny", role=f"r{n}", action="audit") for n in range(1, 200)] + [rule("allow")]}
+ROLES = SMALL | {"rule": [deny(f"r{n}", "audit") for n in range(1, 200)] + [allow("archivist", "*")]}
 PUT_DEPOSIT = (
     "INSERT INTO deposit (number, accession, collection, class, closed, deposited, files, bytes, gone,"
     " due, holds) VALUES (?1, ?2, ?3, ?4, ?5, 20500, 1, ?6, ?7, ?8, ?9)"
 )
 YEARS = 10
-USUAL = {"collection": "maps", "klass": "y10", "closed": 20_454, "gone": None, "held": False}
+USUAL = {"collection": "maps", "class": "y10", "closed": 20_454, "gone": None, "held": False}
 
 
-def put_policy(conn, policy):
+def put_policy(connection, policy):
     """A policy in the place of the one that is there."""
-    conn.execute("DELETE FROM caller")
-    conn.execute("DELETE FROM rule_5")
-    conn.executemany("INSERT INTO caller (name, role) VALUES (?1, ?2)", policy["callers"].items())
+    connection.execute("DELETE FROM caller")
+    connection.execute("DELETE FROM rule_5")
+    connection.executemany("INSERT INTO caller (name, role) VALUES (?1, ?2)", policy["callers"].items())
     for place, it in enumerate(policy["rule"], 1):
-        row = (place, it["effect"] == "allow", it["role"], it["action"], it["collection"], it["class"])
-        conn.execute("INSERT INTO rule_5 VALUES (?1, ?2, ?3, ?4, ?5, ?6, -25567, 2859848)", row)
+        row = (place, it["effect"] == "allow", it["role"], it["action"], it["collection"], it["class"], FIRST, LAST)
+        connection.execute("INSERT INTO rule_5 VALUES (?1, ?2, ?3, ?4, ?5, ?6, ?7, ?8)", row)
 
 
 BAGS = [own_files(number) for number in range(1_000)]
@@ -69,84 +60,84 @@ def small_bag(number):
 
 def deposit_row(number, it, files):
     """The row of a deposit of which `it` says what is special."""
-    place = (f"2026-{number:07}", it["collection"], it["klass"], it["closed"])
+    place = (f"2026-{number:07}", it["collection"], it["class"], it["closed"])
     due = due_day(it["closed"], YEARS)
     return (number, *place, len(files[1][1]), it["gone"], due, int(it["held"]))
 
 
-def put_contents(conn, bags):
+def put_contents(connection, bags):
     """Contents, each kept once. The numbers of their rows."""
     contents = dict.fromkeys(content for files in bags for _, content in files)
     marked = ((hashlib.sha256(it).digest(), len(it), it) for it in contents)
-    conn.executemany(PUT_CONTENT, marked)
+    connection.executemany(PUT_CONTENT, marked)
     return {content: at for at, content in enumerate(contents, 1)}
 
 
-def put_deposits(conn, deposits, bag):
+def put_deposits(connection, deposits, bag):
     """Deposits, by number what is special of each, into an office that has none."""
-    conn.executemany(
+    connection.executemany(
         "INSERT OR IGNORE INTO collection VALUES (?1)", {(it["collection"],) for it in deposits.values()}
     )
-    conn.executemany(
-        "INSERT OR IGNORE INTO class VALUES (?1, ?2)", {(it["klass"], YEARS) for it in deposits.values()}
+    connection.executemany(
+        "INSERT OR IGNORE INTO class VALUES (?1, ?2)", {(it["class"], YEARS) for it in deposits.values()}
     )
-    conn.executemany(PUT_DEPOSIT, (deposit_row(n, it, bag(n)) for n, it in deposits.items()))
+    connection.executemany(PUT_DEPOSIT, (deposit_row(n, it, bag(n)) for n, it in deposits.items()))
     kept = [n for n, it in deposits.items() if it["gone"] is None]
-    ids = put_contents(conn, map(bag, kept))
-    conn.executemany(PUT_FILE, ((n, path, ids[content]) for n in kept for path, content in bag(n)))
+    ids = put_contents(connection, map(bag, kept))
+    connection.executemany(PUT_FILE, ((n, path, ids[content]) for n in kept for path, content in bag(n)))
 
 
-def put_holds(conn, deposits):
+def put_holds(connection, deposits):
     """A hold on each deposit that is to have one."""
     held = (n for n, it in deposits.items() if it["held"])
-    conn.executemany(PUT_HOLD, ((at, n, None, None, "suit", 20_500) for at, n in enumerate(held, 1)))
+    connection.executemany(PUT_HOLD, ((at, n, None, None, "suit", 20_500) for at, n in enumerate(held, 1)))
 
 
 def stored(folder, name, rows, of=lambda number: {}, policy=SMALL, bag=shared_bag):
-    """The file of this name, an office with so many deposits. `of` says what is special of a deposit: its
+    """The file of this name, an office with this number of deposits. `of` says what is special of a deposit: its
     collection, its class, the days on which it is closed and gone, and whether it has a hold of its own."""
     file = pathlib.Path(folder) / f"{name}.db"
     if file.exists():
         return file
     ours("make", file)
-    conn = opened(file)
-    conn.execute("BEGIN")
-    put_policy(conn, policy)
+    connection = opened(file)
+    connection.execute("BEGIN")
+    put_policy(connection, policy)
     deposits = {number: USUAL | of(number) for number in range(1, rows + 1)}
-    put_deposits(conn, deposits, bag)
-    put_holds(conn, deposits)
-    conn.execute("COMMIT")
-    conn.execute("PRAGMA wal_checkpoint(TRUNCATE)").fetchall()
-    conn.close()
+    put_deposits(connection, deposits, bag)
+    put_holds(connection, deposits)
+    connection.execute("COMMIT")
+    connection.execute("PRAGMA wal_checkpoint(TRUNCATE)").fetchall()
+    connection.close()
     return file
 
 
 def stored_before(folder, version, holds, rows=100_000):
-    """An office in the tables of version 3 or 4, with so many deposits in 20 collections and 10 classes, so many
-    holds, of each kind that the version has and a third of them released, and 200 rules."""
+    """An office in the tables of version 3 or 4. The deposits are in 20 collections and 10 classes. The holds are of
+    each kind that the version has, and a third of them is released. There are 200 rules."""
     file = pathlib.Path(folder) / f"version {version}, {holds} holds.db"
     if file.exists():
         return file
-    deposits = {n: USUAL | {"collection": f"c{n % 20}", "klass": f"y{n % 10}"} for n in range(1, rows + 1)}
+    deposits = {n: USUAL | {"collection": f"c{n % 20}", "class": f"y{n % 10}"} for n in range(1, rows + 1)}
     kinds = 2 if version == 3 else 3
     held = holds_of(version, rows, -(-holds // kinds))[:holds]
     live = Counter(it[1:4] for it in held if it[6] is None)
-    conn = opened(file)
-    conn.execute("BEGIN")
+    connection = opened(file)
+    connection.execute("BEGIN")
     for text in VERSION_3 if version == 3 else VERSION_4:
-        conn.execute(text)
-    conn.execute("INSERT INTO office VALUES (1, ?1, 1000000, 1000000)", (version,))
-    conn.executemany("INSERT INTO caller VALUES (?1, ?2)", SMALL["callers"].items())
-    conn.executemany("INSERT INTO rule VALUES (?1, ?2, ?3, ?4, ?5, ?6)", rules_of(200))
-    put_deposits(conn, deposits, shared_bag)
+        connection.execute(text)
+    connection.execute("INSERT INTO office VALUES (1, ?1, 1000000, 1000000)", (version,))
+    connection.executemany("INSERT INTO caller VALUES (?1, ?2)", SMALL["callers"].items())
+    connection.executemany("INSERT INTO rule VALUES (?1, ?2, ?3, ?4, ?5, ?6)", rules_of(200))
+    put_deposits(connection, deposits, shared_bag)
     if version == 3:
-        conn.executemany("INSERT INTO hold VALUES (?1, ?2, ?3, ?4, ?5, ?6)", (it[:3] + it[4:] for it in held))
+        connection.executemany("INSERT INTO hold VALUES (?1, ?2, ?3, ?4, ?5, ?6)", (it[:3] + it[4:] for it in held))
     else:
-        conn.executemany("INSERT INTO hold_4 VALUES (?1, ?2, ?3, ?4, ?5, ?6, ?7)", held)
+        connection.executemany("INSERT INTO hold_4 VALUES (?1, ?2, ?3, ?4, ?5, ?6, ?7)", held)
     for number, it in deposits.items():
-        over = (number, None, None), (None, it["collection"], None), (None, None, it["klass"])
-        conn.execute(SET_HOLDS, (number, sum(live[target] for target in over)))
-    conn.execute("COMMIT")
-    conn.execute("PRAGMA wal_checkpoint(TRUNCATE)").fetchall()
-    conn.close()
+        over = (number, None, None), (None, it["collection"], None), (None, None, it["class"])
+        connection.execute(SET_HOLDS, (number, sum(live[target] for target in over)))
+    connection.execute("COMMIT")
+    connection.execute("PRAGMA wal_checkpoint(TRUNCATE)").fetchall()
+    connection.close()
     return file

@@ -5,38 +5,38 @@
 synchronous FULL), `live` and `last` at 10,000 rows beside 100 rows. Prints a ratio for each case:
 of the medians of runs that take turns (RUNS=n, 7 if left out). The program crates/office_file, which
 makes the calls, has to be built; it doesn't count the opening of the file, and nor does the other
-side. Words behind `tables.py` name the cases that are run; with none, all are.
+side. The arguments of `tables.py` name the cases that are run; with none, all are.
 """
-import sys
 import time
 
 from office_file import copy, file_of, filled, main, opened, ours, put_bag, say, turns
+from shared.comparing import fail
 
 
 def their_deposits(file, count):
-    """Microseconds of so many deposits through Python."""
-    conn = opened(file)
-    last = conn.execute("SELECT number FROM deposit ORDER BY number DESC LIMIT 1").fetchone()[0]
+    """Microseconds of this number of deposits through Python."""
+    connection = opened(file)
+    last = connection.execute("SELECT number FROM deposit ORDER BY number DESC LIMIT 1").fetchone()[0]
     begin = time.perf_counter()
     for number in range(last + 1, last + count + 1):
-        conn.execute("BEGIN")
-        put_bag(conn, number)
-        conn.execute("COMMIT")
+        connection.execute("BEGIN")
+        put_bag(connection, number)
+        connection.execute("COMMIT")
     took = time.perf_counter() - begin
-    conn.close()
+    connection.close()
     return took * 1e6
 
 
 def their_reads(file, last, count):
-    """Microseconds of so many point reads through Python, of the same files in the same order."""
-    conn = opened(file)
+    """Microseconds of this number of point reads through Python, of the same files in the same order."""
+    connection = opened(file)
     begin = time.perf_counter()
     for turn in range(1, count + 1):
         number = (turn * 7919) % 2**32 % last + 1
-        if len(file_of(conn, number, "data/record")) != 10_108:
-            sys.exit("another content")
+        if len(file_of(connection, number, "data/record")) != 10_108:
+            fail("another content")
     took = time.perf_counter() - begin
-    conn.close()
+    connection.close()
     return took * 1e6
 
 

@@ -4,7 +4,18 @@ import platform
 import sqlite3
 import statistics
 import subprocess
+import sys
 import tempfile
+
+from shared.comparing import fail
+
+
+def chosen(cases):
+    """The cases that the script's arguments name, or all."""
+    names = sys.argv[1:] or list(cases)
+    if any(name not in cases for name in names):
+        fail("the cases are " + ", ".join(cases))
+    return names
 
 
 def turns(ours, theirs, runs):

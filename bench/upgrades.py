@@ -2,22 +2,25 @@
 """Speed and memory of an upgrade: the tables of version 3 or 4 become those of version 5.
 
 `third` and `fourth` are the upgrade of an office of 100,000 deposits, 10,000 holds and 200 rules from that version,
-beside the same SQL statements in one transaction through Python's sqlite3 (WAL, synchronous FULL, foreign keys on):
-the ratio of the medians of runs that take turns (RUNS=n, 7 if left out), each over a fresh copy of the file that is
-on the disk. The opening of the file counts on neither side. Then the peak memory, above the same program's that opened
-the file, by how much the file grows, its log folded in, and how long the log was. `growth` and `later` are the time,
-the memory and the file at 1,000,000 holds beside 10,000, from version 3 and from version 4.
+beside the same SQL statements in one transaction through Python's sqlite3 (WAL, synchronous FULL, foreign keys on): the
+ratio of the medians of runs that take turns (RUNS=n, 7 if left out), each over a fresh copy of the file that is on the
+disk. The opening of the file counts on neither side. Then the peak memory, above the same program's that opened the
+file, by how much the file grows, its log folded in, and how long the log was. `growth` and `later` are the time, the
+memory and the file at 1,000,000 holds beside 10,000, from version 3 and from version 4.
 
-The program crates/office_file, which makes the upgrade, has to be built. Words behind `upgrades.py` name the cases that
-are run; with none, all are.
+The program crates/office_file, which makes the upgrade, has to be built. The arguments of `upgrades.py` name the cases
+that are run; with none, all are.
 """
 import os
 import subprocess
 import time
 from statistics import median
 
-from office_file import PROGRAM, copy, main, opened, say, turns, watched
-from stores import SCHEMA, VERSION_3, VERSION_4, stored_before
+from office_file import copy, main, opened, say, turns, watched
+from shared.days import FIRST, LAST
+from shared.places import OFFICE_FILE
+from shared.stores import SCHEMA, VERSION_3, VERSION_4
+from stores import stored_before
 from turns import ratio, spreads
 
 FEW, MANY = 10_000, 1_000_000
@@ -32,7 +35,7 @@ MOVE_HOLDS = [
 MOVE_RULES = [
     *SCHEMA[len(VERSION_4) :],
     "INSERT INTO rule_5 (place, effect, role, action, collection, class, first, last)"
-    " SELECT place, effect, role, action, collection, class, -25567, 2859848 FROM rule ORDER BY place",
+    f" SELECT place, effect, role, action, collection, class, {FIRST}, {LAST} FROM rule ORDER BY place",
     "DELETE FROM rule",
 ]
 MOVES = {3: MOVE_HOLDS + MOVE_RULES, 4: MOVE_RULES}
@@ -70,16 +73,16 @@ class Ours:
 
 def theirs(file, version):
     """Microseconds of the statements of an upgrade from that version through Python."""
-    conn = opened(fresh(file, "theirs.db"))
+    connection = opened(fresh(file, "theirs.db"))
     begin = time.perf_counter()
-    conn.execute("BEGIN")
-    conn.execute(LOOK).fetchall()
+    connection.execute("BEGIN")
+    connection.execute(LOOK).fetchall()
     for text in MOVES[version]:
-        conn.execute(text)
-    conn.execute(SET_VERSION, (1, 5))
-    conn.execute("COMMIT")
+        connection.execute(text)
+    connection.execute(SET_VERSION, (1, 5))
+    connection.execute("COMMIT")
     took = time.perf_counter() - begin
-    conn.close()
+    connection.close()
     return took * 1e6
 
 
@@ -87,7 +90,7 @@ def longest_log(file):
     """How many bytes the log beside the file has at most while the program upgrades a copy."""
     to = fresh(file)
     log, longest = to.with_name(to.name + "-wal"), 0
-    with subprocess.Popen([PROGRAM, "upgrade", to], stdout=subprocess.DEVNULL, stderr=subprocess.DEVNULL) as running:
+    with subprocess.Popen([OFFICE_FILE, "upgrade", to], stdout=subprocess.DEVNULL, stderr=subprocess.DEVNULL) as running:
         while running.poll() is None:
             longest = max(longest, log.stat().st_size if log.exists() else 0)
             time.sleep(0.0005)
@@ -95,7 +98,7 @@ def longest_log(file):
 
 
 def mebibytes(count):
-    """So many bytes, as they are printed."""
+    """A number of bytes as it is printed."""
     return f"{count / 2**20:.2f} MiB"
 
 

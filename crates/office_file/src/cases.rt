@@ -1,6 +1,6 @@
 //! Want of memory: each case has the answer that was worked out, or want of memory, and nothing else.
 //!
-//! Standard input may name one group of cases, whose allocations `diff/memory.py` has refused, one after the
+//! Standard input may name one group of cases, whose allocations `trials/memory.py` has refused, one after the
 //! other.
 
 use crate::bags::bags;

@@ -1,4 +1,4 @@
-//! The worked office, whose rows are in the file `diff/rows.txt`.
+//! The worked office, whose rows are in the file `trials/rows.txt`.
 
 use crate::changes::{Change, commit};
 use office_tables::{HoldTarget, NewDeposit, TableFault, create};
