@@ -1,16 +1,8 @@
 -- What an answer says, where it is what judging gives.
-use Rattle.std.proofs.Common.{◌≡◌, ◌⊎◌, inl, inr, List, refl, sym, ap, subst, ◌∙◌}
-use Rattle.std.specs.Prelude.{Option, Some, None, Result, Ok, Err, IfOk, IfErr, IsErrAnd, MatchResult}
-use Rattle.bag_text.specs.TransferForm.{File, IsBag}
-use Rattle.bag_text.specs.declared.declaration.Version.{Version}
+use Rattle.bag_check.proofs.Common.{◌≡◌, ◌⊎◌, inl, inr, List, refl, sym, ap, subst, ◌∙◌, Option, Some, None, Result, Ok, Err, IfOk, IfErr, IsErrAnd, MatchResult, File, IsBag, Version, Report, Valid, report_of, Fault, FirstFault, judge, FailsAs, Gives, named_fault, NamesFirst, report_seen}
 use Rattle.bag_check.specs.declared.fault.BagFault.{BagFault}
 use Rattle.bag_check.specs.declared.fault.BagFault.TheVariants as faults
 use Rattle.bag_check.specs.declared.report.BagReport.{BagReport}
-use Rattle.bag_check.specs.Validity.{Report, Valid, report_of}
-use Rattle.bag_check.specs.Faults.{Fault, FirstFault}
-use Rattle.bag_check.specs.Judging.{judge}
-use Rattle.bag_text.specs.Answers.{FailsAs, Gives}
-use Rattle.bag_check.specs.Answers.{named_fault, NamesFirst, report_seen}
 use Rattle.bag_check.proofs.JudgeLaws.{judged_valid, judged_fault, valid_judged, fault_judged}
 
 -- an answer that gives what judging gives, as a word over the result

@@ -1,17 +1,6 @@
 -- Files of a bag by their paths.
-use Rattle.std.proofs.Common.{◌≡◌, ℕ, ◌⊎◌, inl, inr, Bool, true, false, cond, List, [], ◌∷◌, map, filter, refl, sym, ap, subst, ◌∙◌}
-use Rattle.std.specs.Prelude.{Option, Some, None, option_map, is_some, find, bytes_eq, codes}
-use Rattle.std.proofs.lemmas.Option.{same_Some}
-use Rattle.std.proofs.lemmas.Bool.{false≢true}
-use Rattle.std.proofs.lemmas.Bool.Decides.{Decides-eqb}
-use Rattle.std.proofs.lemmas.Slice.Eq.{bytes_eq-Decides, starts_is}
-use Rattle.bag_text.specs.Paths.{comes_before}
-use Rattle.bag_text.specs.TransferForm.{File, IsBag, Ascends, content_at}
-use Rattle.bag_check.specs.Contents.{Holds, HasFile, IsPayload, is_payload}
-use Rattle.bag_check.specs.Judging.{has_path}
-use Rattle.bag_text.proofs.OrderLemmas.{before_chain}
+use Rattle.bag_check.proofs.Common.{◌≡◌, ℕ, ◌⊎◌, inl, inr, Bool, true, false, cond, List, [], ◌∷◌, map, filter, refl, sym, ap, subst, ◌∙◌, Option, Some, None, option_map, is_some, find, bytes_eq, codes, same_Some, false≢true, Decides-eqb, bytes_eq-Decides, starts_is, comes_before, File, IsBag, Ascends, content_at, Holds, HasFile, IsPayload, is_payload, has_path, before_chain, Has, contains_has, has_contains, has_map, map_has, has_filter, filter_has}
 use Rattle.bag_check.proofs.OrderLemmas.{apart, Up, Ascending, ascending_rest, later_path}
-use Rattle.bag_text.proofs.ElementLemmas.{Has, contains_has, has_contains, has_map, map_has, has_filter, filter_has}
 
 -- ---- a bag's paths
 

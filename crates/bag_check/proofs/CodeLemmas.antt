@@ -1,42 +1,22 @@
 -- Reading and judging, item after item.
-use Rattle.std.proofs.Common.{◌≡◌, ℕ, zero, suc, ◌+◌, ◌*◌, ◌<◌, ◌≤◌, Bool, true, false, cond, not, ◌&&◌, ◌||◌, List, [], ◌∷◌, ◌++◌, length, get_or, drop, map, filter, nat_lt, refl, sym, ap, ◌∙◌, arith, append_assoc}
-use Rattle.std.specs.Prelude.{Option, Some, None, Result, Ok, Err, sum_by, is_some, option_and_then, codes, decimal}
+use Rattle.bag_check.proofs.Common.{◌≡◌, ℕ, zero, suc, ◌+◌, ◌*◌, ◌<◌, ◌≤◌, Bool, true, false, cond, not, ◌&&◌, ◌||◌, List, [], ◌∷◌, ◌++◌, length, get_or, drop, map, filter, refl, sym, ap, ◌∙◌, arith, append_assoc, Option, Some, None, Result, Ok, Err, sum_by, is_some, option_and_then, codes, decimal, cow_str_bytes, list_any, count_by, AllByRecursion, append-nil, drop_more, length-map, and_parts, nat_tests, File, Fits, max_content, Version, entry_in, is_path_listed, manifest_of, Pair, Kept, pair_in, pairs_of, Rule, Kind, Algorithm, is_payload, payload_of, manifest_name, algorithm_named, is_oxum, oxums_of, payload_files, payload_bytes, manifest_count, Report, Fault, NoDeclaration, Declaration, FetchNotSupported, UnsupportedAlgorithm, NoPayloadManifest, ManifestText, Breaks, InfoText, OxumForm, OxumTwice, OxumWrong, rule_number, number_or, manifest_in, path_in, after_space, cause_or, text_or, ◌>>=◌, FailsAs, Named, Listed, named_of, with_manifest, manifests_in, listed_or_fault, listings_of, asks_for, first_unlisted, first_in, first_place, kept_by, named_by, named_or_fault, version_declared, no_fetch, some_payload, listings_in, keeps, listing_rules, keeps_contents, judge, bind_ok, fronted, again_onto, nothing_onto}
+use Rattle.std.proofs.Common.{nat_lt}
 use Rattle.std.specs.Fmt.{digits}
 use Rattle.std.specs.Ordering.{nat_cmp}
 use Rattle.std.specs.Cmp.Lexicographic.{slice_cmp}
 use Rattle.std.specs.BTreeMap.{is_at}
 use Rattle.std.specs.Map.{lookup}
-use Rattle.std.specs.Cow.{cow_str_bytes}
 use Rattle.std.specs.declared.borrow.CowStr.{CowStr}
 use Rattle.std.specs.Global.{Global}
-use Rattle.std.specs.List.{list_any, count_by, AllByRecursion}
-use Rattle.std.proofs.lemmas.List.{append-nil, drop_more, length-map}
 use Rattle.std.proofs.lemmas.List.Recursion.{is_count_by}
 use Rattle.std.proofs.lemmas.List.Sums.{sum-map, sum_by-cons}
-use Rattle.std.proofs.lemmas.Bool.{and_parts}
-use Rattle.std.proofs.lemmas.Bool.Decides.{nat_tests}
 use Rattle.percent_encoding.specs.declared.ascii_set.AsciiSet.{AsciiSet}
 use Rattle.percent_encoding.specs.AsciiSet.{should_percent_encode}
 use Rattle.percent_encoding.specs.Percent.{percent_encode}
-use Rattle.bag_text.specs.TransferForm.{File, Fits, max_content}
 use Rattle.bag_text.specs.declared.listing.Listing.{Listing}
 use Rattle.bag_text.specs.declared.listing.Manifest.{Manifest}
-use Rattle.bag_text.specs.declared.declaration.Version.{Version}
-use Rattle.bag_text.specs.ManifestReading.{entry_in, is_path_listed, manifest_of}
-use Rattle.bag_text.specs.BagInfo.{Pair}
-use Rattle.bag_text.specs.InfoReading.{Kept, pair_in, pairs_of}
-use Rattle.bag_check.specs.declared.rule.Rule.{Rule}
-use Rattle.bag_check.specs.declared.names.Kind.{Kind}
-use Rattle.bag_text.specs.declared.checksum.Algorithm.{Algorithm}
-use Rattle.bag_check.specs.Contents.{is_payload, payload_of, manifest_name, algorithm_named}
-use Rattle.bag_check.specs.Validity.{is_oxum, oxums_of, payload_files, payload_bytes, manifest_count, Report}
 use Rattle.bag_check.specs.FaultTexts.{is_escaped, printed_text, printed_byte}
-use Rattle.bag_check.specs.Faults.{Fault, NoDeclaration, Declaration, FetchNotSupported, UnsupportedAlgorithm, NoPayloadManifest, ManifestText, Breaks, InfoText, OxumForm, OxumTwice, OxumWrong, rule_number}
-use Rattle.bag_check.specs.Answers.{number_or, manifest_in, path_in, after_space, cause_or, text_or}
-use Rattle.bag_text.specs.Answers.{◌>>=◌, FailsAs}
-use Rattle.bag_check.specs.Judging.{Named, Listed, named_of, with_manifest, manifests_in, listed_or_fault, listings_of, asks_for, first_unlisted, first_in, first_place, kept_by, named_by, named_or_fault, version_declared, no_fetch, some_payload, listings_in, keeps, listing_rules, keeps_contents, judge}
 use Rattle.bag_check.proofs.ManifestLemmas.{all_read}
-use Rattle.bag_text.proofs.ResultLemmas.{bind_ok, fronted, again_onto, nothing_onto}
 
 -- ---- bytes that are printed as escapes
 

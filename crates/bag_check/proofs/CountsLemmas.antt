@@ -1,16 +1,7 @@
 -- Reading the value of a `Payload-Oxum` gives the counts that it names.
-use Rattle.std.proofs.Common.{◌≡◌, one-add, ℕ, ◌+◌, ◌≤◌, Bool, true, false, cond, not, eqb, ◌&&◌, List, [], ◌∷◌, ◌++◌, length, take, drop, refl, sym, ap, subst, ◌∙◌, arith, append_assoc}
-use Rattle.std.specs.Prelude.{Option, Some, None, nat_le}
-use Rattle.std.specs.List.{list_all}
-use Rattle.std.specs.Char.{is_ascii_digit}
-use Rattle.std.proofs.lemmas.Bool.{and_parts, and_from, eqb-true}
-use Rattle.std.proofs.lemmas.Bool.Decides.{nat_tests}
-use Rattle.std.proofs.lemmas.List.{take-append-drop}
+use Rattle.bag_check.proofs.Common.{◌≡◌, one-add, ℕ, ◌+◌, ◌≤◌, Bool, true, false, cond, not, eqb, ◌&&◌, List, [], ◌∷◌, ◌++◌, length, take, drop, refl, sym, ap, subst, ◌∙◌, arith, append_assoc, Option, Some, None, nat_le, list_all, is_ascii_digit, and_parts, and_from, eqb-true, nat_tests, take-append-drop, same_Some, number_from, IsNumber, NamesCounts, digit_len, digits_in, behind_digits, number_spelled, behind_stop, number_at_end, oxum_with_files, with_rest, with_bytes, counts_of}
 use Rattle.std.proofs.lemmas.List.Sums.{prefix_len-le-length}
-use Rattle.std.proofs.lemmas.Option.{same_Some}
 use Rattle.bag_text.specs.Text.{is_blank, AreBlanks}
-use Rattle.bag_check.specs.Validity.{number_from, IsNumber, NamesCounts}
-use Rattle.bag_check.specs.OxumReading.{digit_len, digits_in, behind_digits, number_spelled, behind_stop, number_at_end, oxum_with_files, with_rest, with_bytes, counts_of}
 use Rattle.bag_check.proofs.OxumLemmas.{Stops, same_run, blanks_stop}
 
 -- ---- the digits at the front

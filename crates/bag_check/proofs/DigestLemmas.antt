@@ -1,20 +1,9 @@
 -- Where no checksum is wrong, each SHA-256 that a manifest lists of a file is that of its content.
-use Rattle.std.proofs.Common.{◌≡◌, ℕ, zero, suc, ◌<◌, Bool, true, false, cond, not, bytes_eq, List, [], ◌∷◌, map, length, slice_index_or, Bor, inl, inr, refl, sym, ap, subst, ◌∙◌, arith}
-use Rattle.std.specs.Prelude.{Option, Some, None, Result, Ok, Contains, option_map, find}
-use Rattle.std.proofs.lemmas.Slice.Eq.{bytes_eq-Decides}
+use Rattle.bag_check.proofs.Common.{◌≡◌, ℕ, zero, suc, ◌<◌, Bool, true, false, cond, not, List, [], ◌∷◌, map, length, slice_index_or, Bor, inl, inr, refl, sym, ap, subst, ◌∙◌, arith, Option, Some, None, Result, Ok, Contains, option_map, find, bytes_eq-Decides, ◌>>=◌, File, IsBag, content_at, files_of, Entries, Entry, HasEntry, entries_in, entry_in, is_owned, Has, contains_has, has_contains, has_map, bind_ok, Rule, ChecksumWrong, Fault, Listed, breaks_at, first_in, first_place, is_wrong, keeps, keeps_contents, keeps_info, kept_by, or_place}
+use Rattle.std.proofs.Common.{bytes_eq}
 use Rattle.sha2.specs.Sha256.{sha256}
-use Rattle.bag_text.specs.Answers.{◌>>=◌}
-use Rattle.bag_text.specs.TransferForm.{File, IsBag, content_at}
-use Rattle.bag_text.specs.TransferReading.{files_of}
-use Rattle.bag_text.specs.ManifestReading.{Entries, Entry, HasEntry, entries_in, entry_in, is_owned}
 use Rattle.bag_text.specs.declared.checksum.Checksum.TheVariants.{Sha256}
 use Rattle.bag_text.specs.declared.listing.Manifest.{Manifest}
-use Rattle.bag_text.proofs.ElementLemmas.{Has, contains_has, has_contains, has_map}
-use Rattle.bag_text.proofs.ResultLemmas.{bind_ok}
-use Rattle.bag_check.specs.declared.rule.Rule.{Rule}
-use Rattle.bag_check.specs.declared.rule.Rule.TheVariants.{ChecksumWrong}
-use Rattle.bag_check.specs.Faults.{Fault}
-use Rattle.bag_check.specs.Judging.{Listed, breaks_at, first_in, first_place, is_wrong, keeps, keeps_contents, keeps_info, kept_by, or_place}
 use Rattle.bag_check.specs.Digests.{AreRightOf, ListsSha256, digests_of}
 use Rattle.bag_check.proofs.BagLemmas.{content_there}
 

@@ -1,18 +1,11 @@
 -- The definitions at small names, values and bags.
-use Rattle.std.proofs.Common.{◌≡◌, [], ◌∷◌, ◌++◌, Err, refl, arith}
-use Rattle.std.specs.Prelude.{codes, Some, None}
+use Rattle.bag_check.proofs.Common.{◌≡◌, [], ◌∷◌, ◌++◌, refl, arith, codes, Some, None, Payload, Tag, Missing, manifest_name, NamesCounts, oxums_of, counts_of, NoDeclaration, NoPayloadManifest, Breaks, judge, manifests_in}
+use Rattle.std.proofs.Common.{Err}
 use Rattle.std.specs.Fmt.{digits}
 use Rattle.std.specs.Str.{is_utf8, chars}
 use Rattle.percent_encoding.specs.Percent.{percent_encode_byte}
 use Rattle.bag_text.specs.Lines.{lines}
-use Rattle.bag_check.specs.declared.names.Kind.TheVariants.{Payload, Tag}
-use Rattle.bag_check.specs.declared.rule.Rule.TheVariants.{Missing}
-use Rattle.bag_check.specs.Contents.{manifest_name}
-use Rattle.bag_check.specs.Validity.{NamesCounts, oxums_of}
-use Rattle.bag_check.specs.OxumReading.{counts_of}
-use Rattle.bag_check.specs.Faults.{NoDeclaration, NoPayloadManifest, Breaks}
 use Rattle.bag_check.specs.FaultTexts.{printed_text, fault_text}
-use Rattle.bag_check.specs.Judging.{judge, manifests_in}
 
 is_a_manifest : (manifest_name (codes "manifest-sha256.txt") ≡ Some (Payload, codes "sha256")) × (manifest_name (codes "tagmanifest-md5.txt") ≡ Some (Tag, codes "md5"))
 is_a_manifest = (refl, refl)

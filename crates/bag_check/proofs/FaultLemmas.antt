@@ -1,29 +1,9 @@
 -- Faults by their numbers, and that of a bag only one comes first.
-use Rattle.std.proofs.Common.{◌≡◌, ℕ, ◌+◌, ◌<◌, ◌≤◌, ◌⊎◌, inl, inr, Bool, true, false, List, [], ◌∷◌, refl, sym, ap, subst, ◌∙◌, arith}
-use Rattle.std.specs.Prelude.{nat_eq}
-use Rattle.std.specs.List.{list_any}
-use Rattle.std.proofs.lemmas.Bool.{false≢true, cases_order}
-use Rattle.std.proofs.lemmas.Option.{same_Some}
-use Rattle.bag_text.specs.TransferForm.{File, IsBag}
-use Rattle.bag_text.specs.declared.declaration.Version.{Version}
+use Rattle.bag_check.proofs.Common.{◌≡◌, ℕ, ◌+◌, ◌<◌, ◌≤◌, ◌⊎◌, inl, inr, Bool, true, false, List, [], ◌∷◌, refl, sym, ap, subst, ◌∙◌, arith, nat_eq, list_any, false≢true, cases_order, same_Some, File, IsBag, Version, Algorithm, LineFault, InfoFault, declaration_of, manifest_of, info_of, info_fault, Kind, Rule, declaration_path, info_path, DeclaresVersion, HasManifest, word_of, Fault, NoDeclaration, Declaration, FetchNotSupported, UnsupportedAlgorithm, NoPayloadManifest, ManifestText, Breaks, InfoText, OxumForm, OxumTwice, OxumWrong, Stands, rule_number, fault_number, fault_name, fault_path, PlaceBefore, ComesFirst, FirstFault, same_ok, same_err, declared_again, fault_is_refused}
 use Rattle.bag_text.specs.declared.declaration.DeclFault.{DeclFault}
-use Rattle.bag_text.specs.declared.checksum.Algorithm.{Algorithm}
-use Rattle.bag_text.specs.declared.listing.LineFault.{LineFault}
-use Rattle.bag_text.specs.declared.bag_info.InfoFault.{InfoFault}
 use Rattle.bag_text.specs.Declaration.{declaration_fault}
-use Rattle.bag_text.specs.DeclarationReading.{declaration_of}
-use Rattle.bag_text.specs.ManifestReading.{manifest_of}
-use Rattle.bag_text.specs.InfoReading.{info_of}
-use Rattle.bag_text.proofs.InfoLemmas.{info_fault}
-use Rattle.bag_check.specs.declared.names.Kind.{Kind}
-use Rattle.bag_check.specs.declared.rule.Rule.{Rule}
 use Rattle.bag_check.specs.declared.rule.Rule.TheVariants as rules_of
-use Rattle.bag_check.specs.Contents.{declaration_path, info_path, DeclaresVersion, HasManifest, word_of}
-use Rattle.bag_check.specs.Faults.{Fault, NoDeclaration, Declaration, FetchNotSupported, UnsupportedAlgorithm, NoPayloadManifest, ManifestText, Breaks, InfoText, OxumForm, OxumTwice, OxumWrong, Stands, rule_number, fault_number, fault_name, fault_path, PlaceBefore, ComesFirst, FirstFault}
-use Rattle.bag_text.proofs.ResultLemmas.{same_ok, same_err}
 use Rattle.bag_check.proofs.OrderLemmas.{apart, one_first}
-use Rattle.bag_text.proofs.DeclarationLemmas.{declared_again}
-use Rattle.bag_text.proofs.ManifestLaws.{fault_is_refused}
 use Rattle.bag_check.proofs.BagLemmas.{one_content}
 use Rattle.bag_check.proofs.NameLemmas.{one_name, one_algorithm}
 

@@ -1,26 +1,9 @@
 -- The step of judging that reads `bag-info.txt`: it names the first fault of that file, or none stands.
-use Rattle.std.proofs.Common.{◌≡◌, ℕ, ◌<◌, ◌≤◌, ◌⊎◌, inl, inr, Bool, true, false, cond, not, eqb, ◌||◌, List, length, refl, sym, ap, subst, ◌∙◌, arith}
-use Rattle.std.specs.Prelude.{Option, Some, None, Result, Ok, Err, is_some, nat_lt, Contains, ◌≢◌}
-use Rattle.std.specs.List.{list_any}
-use Rattle.std.proofs.lemmas.Bool.{false≢true, eqb-true, eqb-false, ltb-true, ltb-false}
-use Rattle.bag_text.specs.TransferForm.{File, IsBag, content_at}
-use Rattle.bag_text.specs.BagInfo.{Pair, SaysInfo}
-use Rattle.bag_text.specs.InfoReading.{info_of}
-use Rattle.bag_text.specs.declared.bag_info.InfoFault.{InfoFault}
-use Rattle.bag_text.specs.declared.declaration.Version.{Version}
-use Rattle.bag_text.proofs.InfoLemmas.{info_said, info_fault}
-use Rattle.bag_check.specs.Contents.{Holds, HasFile, info_path, DeclaresVersion}
-use Rattle.bag_check.specs.Validity.{NamesCounts, oxums_of, payload_bytes, payload_files, InfoIsRight}
-use Rattle.bag_check.specs.Faults.{Fault, InfoText, OxumForm, OxumTwice, OxumWrong, HasOxum, Stands, FirstFault}
-use Rattle.bag_check.specs.OxumReading.{counts_of}
-use Rattle.bag_text.specs.Answers.{◌>>=◌}
-use Rattle.bag_check.specs.Judging.{are_others, oxums_kept, or_info, info_kept, keeps_info}
-use Rattle.bag_text.proofs.ResultLemmas.{same_err, never_both}
+use Rattle.bag_check.proofs.Common.{◌≡◌, ℕ, ◌<◌, ◌≤◌, ◌⊎◌, inl, inr, Bool, true, false, cond, not, eqb, ◌||◌, List, length, refl, sym, ap, subst, ◌∙◌, arith, Option, Some, None, Result, Ok, Err, is_some, nat_lt, Contains, ◌≢◌, list_any, false≢true, eqb-true, eqb-false, ltb-true, ltb-false, File, IsBag, content_at, Pair, SaysInfo, info_of, InfoFault, Version, info_said, info_fault, Holds, HasFile, info_path, DeclaresVersion, NamesCounts, oxums_of, payload_bytes, payload_files, InfoIsRight, Fault, InfoText, OxumForm, OxumTwice, OxumWrong, HasOxum, Stands, FirstFault, counts_of, ◌>>=◌, are_others, oxums_kept, or_info, info_kept, keeps_info, same_err, never_both, Has, contains_has, has_contains, any_has, none_has}
 use Rattle.bag_check.proofs.BagLemmas.{one_content, content_found, no_content}
 use Rattle.bag_check.proofs.FaultLemmas.{at_13, at_14, at_15, at_16, Earlier, none_earlier, NoneBelow, none_more, named_first}
 use Rattle.bag_check.proofs.OxumLemmas.{one_info}
 use Rattle.bag_check.proofs.CountsLemmas.{counts_is, counts_again}
-use Rattle.bag_text.proofs.ElementLemmas.{Has, contains_has, has_contains, any_has, none_has}
 
 -- ---- a bag-info.txt that is read
 

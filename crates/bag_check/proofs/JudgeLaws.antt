@@ -1,24 +1,7 @@
 -- Judging a bag gives its report exactly where it is valid, and else the fault that comes first.
-use Rattle.std.proofs.Common.{◌≡◌, ℕ, ◌↔◌, ◌⊎◌, inl, inr, Bool, true, false, List, [], ◌∷◌, refl, sym, ap, subst, ◌∙◌}
-use Rattle.std.specs.Prelude.{Result, Ok, Err}
-use Rattle.std.proofs.lemmas.Bool.{false≢true}
-use Rattle.bag_text.specs.TransferForm.{File, IsBag}
-use Rattle.bag_text.specs.declared.declaration.Version.{Version}
-use Rattle.bag_text.specs.declared.checksum.Algorithm.{Algorithm}
-use Rattle.bag_text.specs.Manifest.{Lists, checksum_of}
-use Rattle.bag_text.specs.ManifestReading.{is_path_listed}
-use Rattle.bag_check.specs.declared.names.Kind.{Kind}
-use Rattle.bag_check.specs.declared.names.Kind.TheVariants.{Payload, Tag}
-use Rattle.bag_check.specs.declared.rule.Rule.{Rule}
+use Rattle.bag_check.proofs.Common.{◌≡◌, ℕ, ◌↔◌, ◌⊎◌, inl, inr, Bool, true, false, List, [], ◌∷◌, refl, sym, ap, subst, ◌∙◌, Result, Ok, Err, false≢true, File, IsBag, Version, Algorithm, Lists, checksum_of, is_path_listed, Kind, Payload, Tag, Rule, Holds, HasFile, IsPayload, is_payload, fetch_path, DeclaresVersion, IsManifestName, word_of, HasManifest, ListsAt, digest, Report, report_of, Valid, Fault, Breaks, IsBroken, Stands, FirstFault, ◌>>=◌, has_path, version_declared, no_fetch, Named, manifests_in, some_payload, Listed, listings_of, listings_in, keeps, listing_rules, keeps_info, keeps_contents, judge, bind_ok, bind_err, same_ok, read_is_manifest, Has, contains_has, has_contains}
 use Rattle.bag_check.specs.declared.rule.Rule.TheVariants as rules_of
-use Rattle.bag_check.specs.Contents.{Holds, HasFile, IsPayload, is_payload, fetch_path, DeclaresVersion, IsManifestName, word_of, HasManifest, ListsAt, digest}
 use Rattle.bag_check.specs.Fixity.{matches_of}
-use Rattle.bag_check.specs.Validity.{Report, report_of, Valid}
-use Rattle.bag_check.specs.Faults.{Fault, Breaks, IsBroken, Stands, FirstFault}
-use Rattle.bag_text.specs.Answers.{◌>>=◌}
-use Rattle.bag_check.specs.Judging.{has_path, version_declared, no_fetch, Named, manifests_in, some_payload, Listed, listings_of, listings_in, keeps, listing_rules, keeps_info, keeps_contents, judge}
-use Rattle.bag_text.proofs.ResultLemmas.{bind_ok, bind_err, same_ok}
-use Rattle.bag_text.proofs.ManifestLaws.{read_is_manifest}
 use Rattle.bag_check.proofs.BagLemmas.{at, has_path_is, no_path_is, is_payload_is, is_payload_again}
 use Rattle.bag_check.proofs.FaultLemmas.{number_range, NoneBelow, one_version, one_first_fault}
 use Rattle.bag_check.proofs.ManifestLemmas.{Found, found_all, payload_manifest, all_read}
@@ -26,7 +9,6 @@ use Rattle.bag_check.proofs.RuleLemmas.{AreListed, listed, lists_found, found_li
 use Rattle.bag_check.proofs.StepLemmas.{version_ok, version_err, below_3, fetch_ok, fetch_err, below_4, names_err, below_5, payload_err, below_6, are_listed, texts_err, below_7, Follow, rules_ok, rules_err}
 use Rattle.bag_check.proofs.InfoStepLemmas.{info_ok, info_err, info_right}
 use Rattle.bag_check.proofs.ValidLemmas.{none_stands}
-use Rattle.bag_text.proofs.ElementLemmas.{Has, contains_has, has_contains}
 
 -- what judging knows once the manifests are read
 record IsRead (bag : List File) (v : Version) (ms : List Named) (ls : List Listed) : Type 0 where

@@ -1,3 +1,4 @@
+pub mod Common
 pub mod OrderLemmas
 pub mod TextFacts
 pub mod BagLemmas
@@ -16,3 +17,4 @@ pub mod CodeLemmas
 pub mod AnswerLemmas
 pub mod DigestLemmas
 mod Examples
+pub mod Lemmas

@@ -1,25 +1,8 @@
 -- The manifests of a bag, found and read.
-use Rattle.std.proofs.Common.{◌≡◌, ℕ, ◌⊎◌, inl, inr, Bool, true, false, cond, List, [], ◌∷◌, map, refl, sym, ap, subst, ◌∙◌}
-use Rattle.std.specs.Prelude.{Option, Some, None, Result, Ok, Err, ◌≢◌}
-use Rattle.std.specs.List.{list_any}
-use Rattle.bag_text.specs.Paths.{comes_before}
-use Rattle.bag_text.specs.TransferForm.{File}
-use Rattle.bag_text.specs.declared.declaration.Version.{Version}
-use Rattle.bag_text.specs.declared.checksum.Algorithm.{Algorithm}
-use Rattle.bag_text.specs.declared.listing.LineFault.{LineFault}
-use Rattle.bag_text.specs.ManifestReading.{Entries, manifest_of}
-use Rattle.bag_check.specs.declared.names.Kind.{Kind}
-use Rattle.bag_check.specs.declared.names.Kind.TheVariants.{Payload}
-use Rattle.bag_check.specs.Contents.{IsManifestName, manifest_name, is_kind, word_of, algorithm_named}
-use Rattle.bag_check.specs.Faults.{Fault, UnsupportedAlgorithm, NoPayloadManifest, ManifestText}
-use Rattle.bag_text.specs.Answers.{◌>>=◌}
-use Rattle.bag_check.specs.Judging.{Named, named_by, named_or_fault, named_of, with_manifest, manifests_in, some_payload, Listed, listed_or_fault, listings_of}
-use Rattle.bag_text.proofs.ResultLemmas.{bind_ok, bind_err, same_ok, same_err, never_both}
-use Rattle.bag_text.proofs.OrderLemmas.{before_chain}
+use Rattle.bag_check.proofs.Common.{◌≡◌, ℕ, ◌⊎◌, inl, inr, Bool, true, false, cond, List, [], ◌∷◌, map, refl, sym, ap, subst, ◌∙◌, Option, Some, None, Result, Ok, Err, ◌≢◌, list_any, comes_before, File, Version, Algorithm, LineFault, Entries, manifest_of, Kind, Payload, IsManifestName, manifest_name, is_kind, word_of, algorithm_named, Fault, UnsupportedAlgorithm, NoPayloadManifest, ManifestText, ◌>>=◌, Named, named_by, named_or_fault, named_of, with_manifest, manifests_in, some_payload, Listed, listed_or_fault, listings_of, bind_ok, bind_err, same_ok, same_err, never_both, before_chain, Has, any_has, none_has, has_map}
 use Rattle.bag_check.proofs.OrderLemmas.{apart, Up, Ascending, ascending_rest, later_path}
 use Rattle.bag_check.proofs.BagLemmas.{paths, up_skip, at}
 use Rattle.bag_check.proofs.NameLemmas.{kind_is, kind_again, name_is, no_name, one_name, algorithm_is, no_algorithm}
-use Rattle.bag_text.proofs.ElementLemmas.{Has, any_has, none_has, has_map}
 
 -- ---- what a file is
 

@@ -1,17 +1,6 @@
 -- The names of manifests: what computing gives is what the definitions say.
-use Rattle.std.proofs.Common.{◌≡◌, ℕ, ◌+◌, ◌-◌, ◌<◌, Bool, true, false, cond, not, ◌&&◌, ltb, List, [], ◌∷◌, ◌++◌, length, take, drop, get_or, refl, sym, ap, subst, ◌∙◌, arith, append_assoc, length-append}
-use Rattle.std.specs.Prelude.{Option, Some, None, bytes_eq, nat_eq, codes, ◌≢◌}
-use Rattle.std.specs.List.{list_any, starts_with, ends_with}
-use Rattle.std.proofs.lemmas.Option.{same_Some}
-use Rattle.std.proofs.lemmas.Bool.{false≢true, and_parts, and_from, ltb-true, lt-ltb, not-true, not_from_false}
-use Rattle.std.proofs.lemmas.Bool.Decides.{Decides-eqb}
-use Rattle.std.proofs.lemmas.List.{take-append-drop, take-take, take_at, drop_at, length-take-le, length-drop}
-use Rattle.std.proofs.lemmas.Slice.Eq.{bytes_eq-Decides, starts_is, ends_is}
-use Rattle.bag_text.specs.declared.checksum.Algorithm.{Algorithm}
+use Rattle.bag_check.proofs.Common.{◌≡◌, ℕ, ◌+◌, ◌-◌, ◌<◌, Bool, true, false, cond, not, ◌&&◌, ltb, List, [], ◌∷◌, ◌++◌, length, take, drop, get_or, refl, sym, ap, subst, ◌∙◌, arith, append_assoc, length-append, Option, Some, None, bytes_eq, nat_eq, codes, ◌≢◌, list_any, starts_with, ends_with, same_Some, false≢true, and_parts, and_from, ltb-true, lt-ltb, not-true, not_from_false, Decides-eqb, take-append-drop, take-take, take_at, drop_at, length-take-le, length-drop, bytes_eq-Decides, starts_is, ends_is, Algorithm, Kind, Payload, Tag, IsTop, stem, IsManifestName, alg_behind, or_tag, manifest_name, is_kind, is_found_of, is_manifest_of, word_of, algorithm_named}
 use Rattle.bag_text.specs.declared.checksum.Algorithm.TheVariants.{Sha256, Sha512}
-use Rattle.bag_check.specs.declared.names.Kind.{Kind}
-use Rattle.bag_check.specs.declared.names.Kind.TheVariants.{Payload, Tag}
-use Rattle.bag_check.specs.Contents.{IsTop, stem, IsManifestName, alg_behind, or_tag, manifest_name, is_kind, is_found_of, is_manifest_of, word_of, algorithm_named}
 
 -- ---- what stands between the front and `.txt`
 

@@ -1,20 +1,6 @@
 -- What a `Payload-Oxum` says is one thing.
-use Rattle.std.proofs.Common.{◌≡◌, ℕ, ◌⊎◌, inl, inr, Bool, true, false, eqb, List, [], ◌∷◌, ◌++◌, length, refl, sym, ap, subst, ◌∙◌, arith, append_assoc}
-use Rattle.std.specs.Prelude.{Contains}
-use Rattle.std.specs.List.{list_all}
-use Rattle.std.specs.Char.{is_ascii_digit}
-use Rattle.std.proofs.lemmas.Bool.{false≢true, and_parts, or_cases, eqb-true}
-use Rattle.bag_text.specs.TransferForm.{File}
+use Rattle.bag_check.proofs.Common.{◌≡◌, ℕ, ◌⊎◌, inl, inr, Bool, true, false, eqb, List, [], ◌∷◌, ◌++◌, length, refl, sym, ap, subst, ◌∙◌, arith, append_assoc, Contains, list_all, is_ascii_digit, false≢true, and_parts, or_cases, eqb-true, File, Pair, SaysInfo, info_of, InfoFault, Version, info_said, info_fault, Holds, info_path, IsNumber, NamesCounts, oxums_of, payload_bytes, payload_files, Valid, InfoText, OxumForm, OxumTwice, OxumWrong, Stands, same_ok, never_both}
 use Rattle.bag_text.specs.Text.{is_blank, AreBlanks}
-use Rattle.bag_text.specs.BagInfo.{Pair, SaysInfo}
-use Rattle.bag_text.specs.InfoReading.{info_of}
-use Rattle.bag_text.specs.declared.bag_info.InfoFault.{InfoFault}
-use Rattle.bag_text.specs.declared.declaration.Version.{Version}
-use Rattle.bag_text.proofs.InfoLemmas.{info_said, info_fault}
-use Rattle.bag_check.specs.Contents.{Holds, info_path}
-use Rattle.bag_check.specs.Validity.{IsNumber, NamesCounts, oxums_of, payload_bytes, payload_files, Valid}
-use Rattle.bag_check.specs.Faults.{InfoText, OxumForm, OxumTwice, OxumWrong, Stands}
-use Rattle.bag_text.proofs.ResultLemmas.{same_ok, never_both}
 
 -- ---- a run of digits ends at one place
 

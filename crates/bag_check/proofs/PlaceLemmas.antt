@@ -1,18 +1,8 @@
 -- The first place at which a rule is broken is the least.
-use Rattle.std.proofs.Common.{◌≡◌, ℕ, inl, inr, Bool, true, false, cond, not, List, [], ◌∷◌, map, refl, sym, ap, subst, ◌∙◌}
-use Rattle.std.specs.Prelude.{Option, Some, None, option_map, find}
-use Rattle.std.proofs.lemmas.Bool.{false≢true}
-use Rattle.bag_text.specs.Paths.{comes_before}
-use Rattle.bag_text.specs.TransferForm.{File}
-use Rattle.bag_text.specs.ManifestReading.{Entry, is_path_listed}
-use Rattle.bag_check.specs.declared.rule.Rule.{Rule}
-use Rattle.bag_check.specs.Faults.{PlaceBefore}
-use Rattle.bag_check.specs.Judging.{Listed, concerns, is_about_files, breaks_at, files_asked_for, first_listed, first_unlisted, first_in, or_place, first_place}
-use Rattle.bag_text.proofs.OrderLemmas.{before_chain}
+use Rattle.bag_check.proofs.Common.{◌≡◌, ℕ, inl, inr, Bool, true, false, cond, not, List, [], ◌∷◌, map, refl, sym, ap, subst, ◌∙◌, Option, Some, None, option_map, find, false≢true, comes_before, File, Entry, is_path_listed, Rule, PlaceBefore, Listed, concerns, is_about_files, breaks_at, files_asked_for, first_listed, first_unlisted, first_in, or_place, first_place, before_chain, Has, has_map}
 use Rattle.bag_check.proofs.OrderLemmas.{apart, Ascending, ascending_rest, later_path, IsLeastPath, find_is_least}
 use Rattle.bag_check.proofs.BagLemmas.{paths}
 use Rattle.bag_check.proofs.ManifestLemmas.{list_names}
-use Rattle.bag_text.proofs.ElementLemmas.{Has, has_map}
 
 -- ---- in one manifest
 

@@ -1,23 +1,9 @@
 -- Where a rule is broken, by what the manifests list.
-use Rattle.std.proofs.Common.{◌≡◌, ℕ, Bool, true, false, not, List, refl, sym, ap, subst, ◌∙◌}
-use Rattle.std.specs.Prelude.{Option, Some, None, Ok}
-use Rattle.std.proofs.lemmas.Bool.{false≢true, not-true, not_from_false, false_from_ne_true}
-use Rattle.std.proofs.lemmas.Slice.Eq.{bytes_eq-Decides}
-use Rattle.bag_text.specs.TransferForm.{File, IsBag, content_at}
-use Rattle.bag_text.specs.declared.declaration.Version.{Version}
-use Rattle.bag_text.specs.declared.checksum.Algorithm.{Algorithm}
+use Rattle.bag_check.proofs.Common.{◌≡◌, ℕ, Bool, true, false, not, List, refl, sym, ap, subst, ◌∙◌, Option, Some, None, Ok, false≢true, not-true, not_from_false, false_from_ne_true, bytes_eq-Decides, File, IsBag, content_at, Version, Algorithm, Lists, checksum_of, Entry, Entries, manifest_of, is_path_listed, Kind, Payload, Tag, Rule, is_payload, is_kind, HasManifest, ListsAt, digest, IsBroken, has_path, Listed, is_wrong, asks_for, first_in, first_place, Has}
 use Rattle.bag_text.specs.declared.checksum.Algorithm.TheVariants.{Sha256, Sha512}
 use Rattle.bag_text.specs.declared.checksum.Checksum.{Checksum}
-use Rattle.bag_text.specs.Manifest.{Lists, checksum_of}
-use Rattle.bag_text.specs.ManifestReading.{Entry, Entries, manifest_of, is_path_listed}
-use Rattle.bag_check.specs.declared.names.Kind.{Kind}
-use Rattle.bag_check.specs.declared.names.Kind.TheVariants.{Payload, Tag}
-use Rattle.bag_check.specs.declared.rule.Rule.{Rule}
 use Rattle.bag_check.specs.declared.rule.Rule.TheVariants as rules_of
-use Rattle.bag_check.specs.Contents.{is_payload, is_kind, HasManifest, ListsAt, digest}
 use Rattle.bag_check.specs.Fixity.{matches_of}
-use Rattle.bag_check.specs.Faults.{IsBroken}
-use Rattle.bag_check.specs.Judging.{has_path, Listed, is_wrong, asks_for, first_in, first_place}
 use Rattle.bag_check.proofs.OrderLemmas.{Ascending, IsLeastPath}
 use Rattle.bag_text.proofs.ManifestEntryLemmas.{listed_has, has_listed}
 use Rattle.bag_check.proofs.TextFacts.{lists_there, lists_back, ascend_is}
@@ -26,7 +12,6 @@ use Rattle.bag_check.proofs.NameLemmas.{kind_is, kind_again, manifest_of_is, man
 use Rattle.bag_check.proofs.FaultLemmas.{one_manifest}
 use Rattle.bag_check.proofs.ManifestLemmas.{list_names}
 use Rattle.bag_check.proofs.PlaceLemmas.{Breaking, first_is_least, Place, IsLeastPlace, BreakingAt, first_place_is_least}
-use Rattle.bag_text.proofs.ElementLemmas.{Has}
 
 -- a manifest that is read
 abbrev pub listed : List ℕ → Kind → Algorithm → Entries → Listed

@@ -1,31 +1,14 @@
 -- Each step of judging a bag: it names the first fault of its number, or none of that number stands.
-use Rattle.std.proofs.Common.{◌≡◌, ℕ, ◌+◌, ◌⊎◌, inl, inr, Bool, true, false, cond, List, [], ◌∷◌, refl, sym, ap, subst, ◌∙◌}
-use Rattle.std.specs.Prelude.{Option, Some, None, Result, Ok, Err}
-use Rattle.bag_text.specs.TransferForm.{File, IsBag, content_at}
-use Rattle.bag_text.specs.declared.declaration.Version.{Version}
+use Rattle.bag_check.proofs.Common.{◌≡◌, ℕ, ◌+◌, ◌⊎◌, inl, inr, Bool, true, false, cond, List, [], ◌∷◌, refl, sym, ap, subst, ◌∙◌, Option, Some, None, Result, Ok, Err, File, IsBag, content_at, Version, Algorithm, LineFault, declaration_of, Entries, manifest_of, Kind, Payload, Rule, Holds, HasFile, declaration_path, fetch_path, DeclaresVersion, IsManifestName, word_of, HasManifest, Fault, NoDeclaration, Declaration, FetchNotSupported, UnsupportedAlgorithm, NoPayloadManifest, ManifestText, Breaks, IsBroken, Stands, rule_number, PlaceBefore, FirstFault, has_path, or_declaration, declared_by, version_declared, no_fetch, Named, manifests_in, some_payload, Listed, listings_of, first_place, kept_by, keeps, bind_ok, bind_err, same_err, never_both, is_declared, declared_again, refused_again, refused_is_fault, fault_is_refused, Has, contains_has, has_contains}
 use Rattle.bag_text.specs.declared.declaration.DeclFault.{DeclFault}
-use Rattle.bag_text.specs.declared.checksum.Algorithm.{Algorithm}
-use Rattle.bag_text.specs.declared.listing.LineFault.{LineFault}
-use Rattle.bag_text.specs.DeclarationReading.{declaration_of}
-use Rattle.bag_text.specs.ManifestReading.{Entries, manifest_of}
-use Rattle.bag_check.specs.declared.names.Kind.{Kind}
-use Rattle.bag_check.specs.declared.names.Kind.TheVariants.{Payload}
-use Rattle.bag_check.specs.declared.rule.Rule.{Rule}
-use Rattle.bag_check.specs.Contents.{Holds, HasFile, declaration_path, fetch_path, DeclaresVersion, IsManifestName, word_of, HasManifest}
-use Rattle.bag_check.specs.Faults.{Fault, NoDeclaration, Declaration, FetchNotSupported, UnsupportedAlgorithm, NoPayloadManifest, ManifestText, Breaks, IsBroken, Stands, rule_number, PlaceBefore, FirstFault}
-use Rattle.bag_check.specs.Judging.{has_path, or_declaration, declared_by, version_declared, no_fetch, Named, manifests_in, some_payload, Listed, listings_of, first_place, kept_by, keeps}
-use Rattle.bag_text.proofs.ResultLemmas.{bind_ok, bind_err, same_err, never_both}
 use Rattle.bag_check.proofs.OrderLemmas.{apart, Ascending, ascending_rest}
-use Rattle.bag_text.proofs.DeclarationLemmas.{is_declared, declared_again, refused_again}
 use Rattle.bag_text.proofs.DeclarationLemmas as declaration
-use Rattle.bag_text.proofs.ManifestLaws.{refused_is_fault, fault_is_refused}
 use Rattle.bag_check.proofs.BagLemmas.{at, bag_ascends, ascends_up, path_of_file, one_content, content_found, no_content, has_path_is, no_path_is}
 use Rattle.bag_check.proofs.NameLemmas.{one_algorithm}
 use Rattle.bag_check.proofs.FaultLemmas.{at_1, at_2, at_3, at_4, at_5, at_6, at_rule, Earlier, none_earlier, NoneBelow, NoneAt, IsLeast, none_below_1, none_more, named_first, one_version}
 use Rattle.bag_check.proofs.ManifestLemmas.{as_named, as_listed, read_of, names, Found, IsFirstUnsupported, first_unsupported, no_payload_manifest, AreRead, IsFirstRefused, first_refused}
 use Rattle.bag_check.proofs.PlaceLemmas.{Place, IsLeastPlace}
 use Rattle.bag_check.proofs.RuleLemmas.{AreListed, listed, broken_first}
-use Rattle.bag_text.proofs.ElementLemmas.{Has, contains_has, has_contains}
 
 -- ---- the declaration
 

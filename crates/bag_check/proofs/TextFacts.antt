@@ -1,15 +1,7 @@
 -- What is used of the manifests in a bag: what they list, and that it ascends.
-use Rattle.std.proofs.Common.{◌≡◌, ℕ, true, List, [], ◌∷◌, map}
-use Rattle.std.specs.Prelude.{Ok}
-use Rattle.std.specs.List.{AllByRecursion}
-use Rattle.bag_text.specs.declared.declaration.Version.{Version}
-use Rattle.bag_text.specs.declared.checksum.Algorithm.{Algorithm}
-use Rattle.bag_text.specs.Paths.{comes_before}
-use Rattle.bag_text.specs.Manifest.{Lists, checksum_of, AscendingPaths}
-use Rattle.bag_text.specs.ManifestReading.{Entry, Entries, manifest_of}
+use Rattle.bag_check.proofs.Common.{◌≡◌, ℕ, true, List, [], ◌∷◌, map, Ok, AllByRecursion, Version, Algorithm, comes_before, Lists, checksum_of, AscendingPaths, Entry, Entries, manifest_of, Has, contains_has, has_contains}
 use Rattle.bag_text.proofs.ManifestLaws as manifest
 use Rattle.bag_check.proofs.OrderLemmas.{Up, Ascending}
-use Rattle.bag_text.proofs.ElementLemmas.{Has, contains_has, has_contains}
 
 -- what a text lists is an entry
 pub lists_there : (v : Version) (a : Algorithm) (text : List ℕ) (es : Entries) (path checksum : List ℕ) → manifest_of v a text ≡ Ok es → Lists v a text path checksum → (e : Entry) × Has es (path, e) × (e.checksum ≡ checksum_of a checksum)

@@ -1,21 +1,9 @@
 -- A valid bag has no fault.
-use Rattle.std.proofs.Common.{◌≡◌, ℕ, List, sym, ap, subst, ◌∙◌}
-use Rattle.bag_text.specs.TransferForm.{File, IsBag}
-use Rattle.bag_text.specs.declared.declaration.Version.{Version}
-use Rattle.bag_text.specs.DeclarationReading.{declaration_of}
-use Rattle.bag_text.specs.ManifestReading.{manifest_of}
-use Rattle.bag_check.specs.declared.names.Kind.TheVariants.{Payload, Tag}
-use Rattle.bag_check.specs.declared.rule.Rule.{Rule}
+use Rattle.bag_check.proofs.Common.{◌≡◌, ℕ, List, sym, ap, subst, ◌∙◌, File, IsBag, Version, declaration_of, manifest_of, Payload, Tag, Rule, declaration_path, word_of, Valid, Fault, NoDeclaration, Declaration, FetchNotSupported, UnsupportedAlgorithm, NoPayloadManifest, ManifestText, Breaks, InfoText, OxumForm, OxumTwice, OxumWrong, IsBroken, Stands, declared_again, refused_again, manifest_is_read, fault_is_refused, never_both}
 use Rattle.bag_check.specs.declared.rule.Rule.TheVariants as rules_of
-use Rattle.bag_check.specs.Contents.{declaration_path, word_of}
-use Rattle.bag_check.specs.Validity.{Valid}
-use Rattle.bag_check.specs.Faults.{Fault, NoDeclaration, Declaration, FetchNotSupported, UnsupportedAlgorithm, NoPayloadManifest, ManifestText, Breaks, InfoText, OxumForm, OxumTwice, OxumWrong, IsBroken, Stands}
-use Rattle.bag_text.proofs.DeclarationLemmas.{declared_again, refused_again}
-use Rattle.bag_text.proofs.ManifestLaws.{manifest_is_read, fault_is_refused}
 use Rattle.bag_check.proofs.BagLemmas.{one_content}
 use Rattle.bag_check.proofs.FaultLemmas.{one_version}
 use Rattle.bag_check.proofs.OxumLemmas.{info_is_read, oxum_has_form, one_oxum, oxum_is_right}
-use Rattle.bag_text.proofs.ResultLemmas.{never_both}
 
 -- in a valid bag no rule is broken
 pub no_rule_broken : (bag : List File) (v : Version) → Valid bag v → (rule : Rule) (name path : List ℕ) → IsBroken bag v rule name path → ⊥

@@ -1,17 +1,7 @@
 -- Making a bag of a list of files.
-use Rattle.std.proofs.Common.{◌≡◌, ◌≢◌, ℕ, ◌+◌, ◌<◌, ◌≤◌, Bool, true, false, not, List, [], length, get_or, drop, map, Result, Ok, Err, refl, sym, ap, subst, ◌∙◌, arith}
-use Rattle.std.specs.Prelude.{Option, Some, None, is_some, is_none, IfOk, IfErr}
-use Rattle.std.specs.Option.{option_or}
-use Rattle.std.specs.Str.{is_utf8}
-use Rattle.std.proofs.lemmas.List.{drop_more, at_drop_all}
-use Rattle.bag_text.specs.declared.set_fault.SetFault.{SetFault}
-use Rattle.bag_text.specs.declared.set_fault.SetFault.TheVariants.{Memory}
+use Rattle.bag_text.proofs.Common.{◌≡◌, ◌≢◌, ℕ, ◌+◌, ◌<◌, ◌≤◌, Bool, true, false, not, List, [], length, get_or, drop, map, refl, sym, ap, subst, ◌∙◌, arith, Option, Some, None, is_some, is_none, IfOk, IfErr, option_or, is_utf8, drop_more, at_drop_all, SetFault, Memory, is_good, path_fault, File, Ascends, IsBag, Answers, named_set_fault, ListFault, file_fault, fault_from, list_fault}
+use Rattle.std.proofs.Common.{Result, Ok, Err}
 use Rattle.bag_text.specs.declared.path.PathFault.{PathFault}
-use Rattle.bag_text.specs.Paths.{is_good, path_fault}
-use Rattle.bag_text.specs.TransferForm.{File, Ascends, IsBag}
-use Rattle.bag_text.specs.Answers.{Answers}
-use Rattle.bag_text.specs.TransferReading.{named_set_fault}
-use Rattle.bag_text.specs.BagList.{ListFault, file_fault, fault_from, list_fault}
 use Rattle.bag_text.specs.ListReading.{Makes}
 use Rattle.bag_text.proofs.ResultLemmas.{err_is}
 use Rattle.bag_text.proofs.ListLemmas.{from_none, list_fault_law, list_bag_law}

@@ -1,9 +1,5 @@
 -- Blanks round a text.
-use Rattle.std.proofs.Common.{◌≡◌, ℕ, Bool, true, false, cond, eqb, ◌&&◌, List, [], ◌∷◌, ◌++◌, length, map, refl, sym, ap, ◌∙◌, arith}
-use Rattle.std.proofs.lemmas.Bool.{and_parts}
-use Rattle.std.proofs.lemmas.Bool.Decides.{nat_tests}
-use Rattle.std.proofs.lemmas.List.{append-nil}
-use Rattle.bag_text.specs.Text.{is_blank, AreBlanks, skip_blanks, drop_last_blanks, trim_blanks}
+use Rattle.bag_text.proofs.Common.{◌≡◌, ℕ, Bool, true, false, cond, eqb, ◌&&◌, List, [], ◌∷◌, ◌++◌, length, map, refl, sym, ap, ◌∙◌, arith, and_parts, nat_tests, append-nil, is_blank, AreBlanks, skip_blanks, drop_last_blanks, trim_blanks}
 
 -- blanks in front of a text
 pub record HasFront (t rest : List ℕ) : Type 0 where

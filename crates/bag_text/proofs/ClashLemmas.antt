@@ -1,15 +1,6 @@
 -- Paths that lie under others.
-use Rattle.std.proofs.Common.{◌≡◌, ℕ, suc, ◌+◌, ◌<◌, ◌↔◌, ◌⊎◌, inl, inr, Bool, true, false, eqb, ◌&&◌, ◌||◌, List, [], ◌∷◌, ◌++◌, length, get_or, drop, map, refl, ap, ◌∙◌, arith, append_assoc}
-use Rattle.std.specs.Prelude.{bytes_eq, codes, Contains}
-use Rattle.std.specs.List.{list_any}
-use Rattle.std.proofs.lemmas.Bool.{or_cases, or_right}
-use Rattle.std.proofs.lemmas.Bool.Decides.{Decides-eqb, nat_tests}
-use Rattle.std.proofs.lemmas.Slice.Eq.{starts_is, bytes_eq-Decides}
-use Rattle.bag_text.specs.Text.{begins_with}
-use Rattle.std.proofs.lemmas.List.{drop_more}
-use Rattle.std.proofs.lemmas.List.Folds.{list_any_at}
-use Rattle.bag_text.specs.Paths.{lies_under}
-use Rattle.bag_text.specs.TransferForm.{File, Clashes, clashes}
+use Rattle.bag_text.proofs.Common.{◌≡◌, ℕ, suc, ◌+◌, ◌<◌, ◌⊎◌, inl, inr, Bool, true, false, eqb, ◌&&◌, ◌||◌, List, [], ◌∷◌, ◌++◌, length, get_or, drop, map, refl, ap, ◌∙◌, arith, append_assoc, bytes_eq, codes, Contains, list_any, or_cases, or_right, Decides-eqb, nat_tests, starts_is, bytes_eq-Decides, begins_with, drop_more, list_any_at, lies_under, File, Clashes, clashes}
+use Rattle.std.proofs.Common.{◌↔◌}
 
 same : (a : ℕ) → eqb a a ≡ true
 same a = grind (arith, nat_tests)

@@ -1,20 +1,8 @@
 -- What a text declares, and its first fault.
-use Rattle.std.proofs.Common.{◌≡◌, ℕ, ◌+◌, ◌≤◌, Bool, true, false, cond, eqb, ltb, not, ◌||◌, List, [], ◌∷◌, ◌++◌, length, map, take, drop, refl, sym, ap, ◌∙◌, arith, append_assoc}
-use Rattle.std.specs.Prelude.{Option, Some, None, Result, Ok, Err, codes, bytes_eq, ok_or, ◌==◌, if◌then◌else◌, slice_get, option_and_then, ◌↔◌, IfOk, IfErr}
+use Rattle.bag_text.proofs.Common.{◌≡◌, ℕ, ◌+◌, ◌≤◌, Bool, true, false, cond, eqb, ltb, not, ◌||◌, List, [], ◌∷◌, ◌++◌, length, map, take, drop, refl, sym, ap, ◌∙◌, arith, append_assoc, Option, Some, None, Result, Ok, Err, codes, bytes_eq, ok_or, ◌==◌, if◌then◌else◌, slice_get, option_and_then, ◌↔◌, IfOk, IfErr, option_map_or, is_utf8, bytes_eq-Decides, take-append-drop, drop_at, take-append_seam, nat_tests, is_blank, has_mark, trim_blanks, skip_blanks, drop_last_blanks, lines, ◌>>=◌, Version, V1_0, V0_97}
 use Rattle.std.specs.Char.{to_ascii_lowercase}
-use Rattle.std.specs.Option.{option_map_or}
-use Rattle.std.specs.Str.{is_utf8}
-use Rattle.std.proofs.lemmas.Slice.Eq.{bytes_eq-Decides}
-use Rattle.std.proofs.lemmas.List.{take-append-drop, drop_at}
-use Rattle.std.proofs.Math.Seq.{take-append_seam}
-use Rattle.std.proofs.lemmas.Bool.Decides.{nat_tests}
-use Rattle.bag_text.specs.Text.{is_blank, has_mark, trim_blanks, skip_blanks, drop_last_blanks}
-use Rattle.bag_text.specs.Lines.{lines}
 use Rattle.bag_text.specs.Declaration.{version_text, version_label, encoding_label, IsLabelled, Declares, after_label, is_version_text, is_supported, is_utf8_name, declaration_fault}
-use Rattle.bag_text.specs.Answers.{◌>>=◌}
 use Rattle.bag_text.specs.DeclarationReading.{version_declared, encoding_fault, exactly_two, two_lines_of, declaration_of}
-use Rattle.bag_text.specs.declared.declaration.Version.{Version}
-use Rattle.bag_text.specs.declared.declaration.Version.TheVariants.{V1_0, V0_97}
 use Rattle.bag_text.specs.declared.declaration.DeclFault.{DeclFault}
 use Rattle.bag_text.specs.declared.declaration.DeclFault.TheVariants.{NotUtf8, ByteOrderMark, NotTwoLines, BadVersionLine, UnsupportedVersion, BadEncodingLine, UnsupportedEncoding}
 use Rattle.bag_text.proofs.BlankLemmas.{trim_round, trimmed_round, map_skipped, map_dropped}

@@ -1,8 +1,6 @@
 -- The elements of a list, and of one that is mapped or filtered.
-use Rattle.std.proofs.Common.{◌≡◌, ◌⊎◌, inl, inr, ℕ, Bool, true, false, cond, ◌||◌, List, [], ◌∷◌, ◌++◌, length, zero, suc, map, filter, slice_get, Some, refl, sym, ap, ◌∙◌, arith}
-use Rattle.std.specs.Prelude.{Contains}
-use Rattle.std.specs.List.{list_any}
-use Rattle.std.proofs.lemmas.Bool.{false≢true}
+use Rattle.bag_text.proofs.Common.{◌≡◌, ◌⊎◌, inl, inr, ℕ, Bool, true, false, cond, ◌||◌, List, [], ◌∷◌, ◌++◌, length, zero, suc, map, filter, refl, sym, ap, ◌∙◌, arith, Contains, list_any, false≢true}
+use Rattle.std.proofs.Common.{slice_get, Some}
 
 -- x is an element, by the list's parts
 abbrev pub Has : {A : Type 0} → List A → A → Type 0

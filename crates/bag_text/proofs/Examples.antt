@@ -1,25 +1,12 @@
 -- The definitions at the bytes of a small bag.
-use Rattle.std.proofs.Common.{◌≡◌, ℕ, List, [], ◌∷◌, ◌++◌, Ok, Err, refl}
-use Rattle.std.specs.Prelude.{codes, Some}
+use Rattle.bag_text.proofs.Common.{◌≡◌, ℕ, List, [], ◌∷◌, ◌++◌, refl, codes, Some, is_utf8, chars, decode_pairs, V1_0, V0_97, PathClash, ListedTwice, StrayContinuation, lines, path_fault, decode, entry_of, add_line_of, entries_of, manifest_of, info_of, pairs_from, add_info_line, File, set_text, set_of, literal_at, digits_at, number_at, header_at, place_at, file_at, entry_at, files_at}
+use Rattle.std.proofs.Common.{Ok, Err}
 use Rattle.std.specs.Fmt.{digits}
-use Rattle.std.specs.Str.{is_utf8, chars}
-use Rattle.hex.specs.Hex.{decode_pairs}
-use Rattle.bag_text.specs.declared.declaration.Version.TheVariants.{V1_0, V0_97}
 use Rattle.bag_text.specs.declared.declaration.DeclFault.TheVariants.{UnsupportedVersion}
 use Rattle.bag_text.specs.declared.path.PathFault.TheVariants.{DotSegment}
-use Rattle.bag_text.specs.declared.set_fault.SetFault.TheVariants.{PathClash}
 use Rattle.bag_text.specs.declared.checksum.Algorithm.TheVariants.{Sha256}
-use Rattle.bag_text.specs.declared.listing.LineFault.TheVariants.{ListedTwice}
-use Rattle.bag_text.specs.declared.bag_info.InfoFault.TheVariants.{StrayContinuation}
-use Rattle.bag_text.specs.Lines.{lines}
-use Rattle.bag_text.specs.Paths.{path_fault}
 use Rattle.bag_text.specs.Declaration.{declaration_fault}
 use Rattle.bag_text.specs.DeclarationReading.{declaration_of}
-use Rattle.bag_text.specs.Manifest.{decode}
-use Rattle.bag_text.specs.ManifestReading.{entry_of, add_line_of, entries_of, manifest_of}
-use Rattle.bag_text.specs.InfoReading.{info_of, pairs_from, add_info_line}
-use Rattle.bag_text.specs.TransferForm.{File, set_text}
-use Rattle.bag_text.specs.TransferReading.{set_of, literal_at, digits_at, number_at, header_at, place_at, file_at, entry_at, files_at}
 
 unfoldable pub declaration : List ℕ
 declaration = codes "BagIt-Version: 1.0" ++ 10 ∷ [] ++ codes "Tag-File-Character-Encoding: UTF-8" ++ 10 ∷ []

@@ -1,14 +1,6 @@
 -- The faults of reading are those of the table.
-use Rattle.std.proofs.Common.{◌≡◌, ℕ, inl, inr, Bool, true, false, cond, eqb, List, [], ◌∷◌, ◌++◌, Result, Ok, Err, refl, sym, ap, subst, ◌∙◌, arith, append_assoc, lit<, lit≤}
-use Rattle.std.specs.Prelude.{decimal}
-use Rattle.std.proofs.lemmas.List.{append-nil}
-use Rattle.bag_text.specs.declared.header.Flaw.{Flaw}
-use Rattle.bag_text.specs.declared.header.Flaw.TheVariants.{Short, Bad}
-use Rattle.bag_text.specs.Answers.{◌>>=◌}
-use Rattle.bag_text.specs.TransferReading.{Place, End, Entry, literal_at, number_at, header_at, place_at}
-use Rattle.bag_text.specs.TransferForm.{Head, header, ending, max_content}
-use Rattle.bag_text.specs.Paths.{max_path}
-use Rattle.bag_text.specs.TransferFaults.{BeginsWith, IsProperBeginning, HasSizes, IsEndOrHeader}
+use Rattle.bag_text.proofs.Common.{◌≡◌, ℕ, inl, inr, Bool, true, false, cond, eqb, List, [], ◌∷◌, ◌++◌, refl, sym, ap, subst, ◌∙◌, arith, append_assoc, lit<, lit≤, decimal, append-nil, Flaw, Short, Bad, ◌>>=◌, Place, End, Entry, literal_at, number_at, header_at, place_at, Head, header, ending, max_content, max_path, BeginsWith, IsProperBeginning, HasSizes, IsEndOrHeader}
+use Rattle.std.proofs.Common.{Result, Ok, Err}
 use Rattle.bag_text.proofs.NumberLemmas.{number_ok, number_again, number_short, number_bad}
 use Rattle.bag_text.proofs.HeaderLemmas.{HeadFits, file_word, after_path, after_word, steps, spelled, literal_ok, literal_again, literal_ends, literal_bad}
 use Rattle.bag_text.proofs.FormLemmas.{place_header}

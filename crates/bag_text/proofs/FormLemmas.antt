@@ -1,20 +1,7 @@
 -- What is read is a transfer form, and a transfer form is read.
-use Rattle.std.proofs.Common.{◌≡◌, ℕ, zero, suc, ◌+◌, ◌-◌, ◌<◌, ◌≤◌, Bool, true, false, cond, eqb, ltb, not, ◌&&◌, List, [], ◌∷◌, ◌++◌, length, get_or, take, drop, Result, Ok, Err, refl, sym, ap, subst, ◌∙◌, arith, append_assoc}
-use Rattle.std.specs.Prelude.{IfOk, Option, Some, None, is_none}
-use Rattle.std.specs.Str.{is_utf8}
-use Rattle.std.specs.List.{flat_map, AllByRecursion}
-use Rattle.std.proofs.lemmas.Bool.Decides.{nat_tests}
-use Rattle.std.proofs.lemmas.Bool.{not-false, eqb-true, ltb-false, le-ltb}
-use Rattle.std.proofs.lemmas.List.{append-nil, take_at, drop_at, take-append-drop, length-append, length-take, length-drop, drop_more}
-use Rattle.bag_text.specs.declared.header.Flaw.{Flaw}
-use Rattle.bag_text.specs.declared.header.Flaw.TheVariants.{Short, Bad}
-use Rattle.bag_text.specs.declared.set_fault.SetFault.{SetFault}
-use Rattle.bag_text.specs.declared.set_fault.SetFault.TheVariants.{BadEntry, Truncated, OutOfOrder, BadPath, TrailingBytes, PathClash}
-use Rattle.bag_text.specs.Paths.{path_fault}
-use Rattle.bag_text.specs.Answers.{◌>>=◌, Gives}
-use Rattle.bag_text.specs.TransferReading.{Place, End, Entry, literal_at, header_at, place_at, file_at, result_at, entry_of, entry_at, files_at, after_opening, set_of, named_set_fault}
-use Rattle.bag_text.specs.TransferForm.{File, Head, header, entry, opening, ending, set_text, max_content, max_files, Ascends, clashes, Fits, IsBag}
-use Rattle.bag_text.specs.Paths.{max_path, is_good, comes_before}
+use Rattle.bag_text.proofs.Common.{◌≡◌, ℕ, zero, suc, ◌+◌, ◌-◌, ◌<◌, ◌≤◌, Bool, true, false, cond, eqb, ltb, not, ◌&&◌, List, [], ◌∷◌, ◌++◌, length, get_or, take, drop, refl, sym, ap, subst, ◌∙◌, arith, append_assoc, IfOk, Option, Some, None, is_none, is_utf8, flat_map, AllByRecursion, nat_tests, not-false, eqb-true, ltb-false, le-ltb, append-nil, take_at, drop_at, take-append-drop, length-append, length-take, length-drop, drop_more, Flaw, Short, Bad, SetFault, BadEntry, Truncated, OutOfOrder, BadPath, TrailingBytes, PathClash, path_fault, ◌>>=◌, Gives, Place, End, Entry, literal_at, header_at, place_at, file_at, result_at, entry_at, files_at, after_opening, set_of, named_set_fault, File, Head, header, entry, opening, ending, set_text, max_content, max_files, Ascends, clashes, Fits, IsBag, max_path, is_good, comes_before}
+use Rattle.std.proofs.Common.{Result, Ok, Err}
+use Rattle.bag_text.specs.TransferReading.{entry_of}
 use Rattle.bag_text.proofs.ResultLemmas.{ok_is}
 use Rattle.bag_text.proofs.NumberLemmas.{InBounds}
 use Rattle.bag_text.proofs.HeaderLemmas.{HeadFits, literal_ok, literal_again, header_ok, header_again}

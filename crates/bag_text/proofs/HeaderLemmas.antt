@@ -1,14 +1,6 @@
 -- A header that is read is the one that is spelled; one that ends too soon can be completed; what is bad stays so.
-use Rattle.std.proofs.Common.{◌≡◌, ℕ, Bool, true, false, cond, eqb, List, [], ◌∷◌, ◌++◌, Result, Ok, Err, refl, sym, ap, subst, ◌∙◌, arith, append_assoc, lit<, lit≤}
-use Rattle.std.specs.Prelude.{decimal, codes}
-use Rattle.std.proofs.lemmas.Bool.Decides.{nat_tests}
-use Rattle.std.proofs.lemmas.Bool.{eqb-true}
-use Rattle.bag_text.specs.declared.header.Flaw.{Flaw}
-use Rattle.bag_text.specs.declared.header.Flaw.TheVariants.{Short, Bad}
-use Rattle.bag_text.specs.Answers.{◌>>=◌}
-use Rattle.bag_text.specs.TransferReading.{literal_at, number_at, header_at}
-use Rattle.bag_text.specs.TransferForm.{Head, header, max_content}
-use Rattle.bag_text.specs.Paths.{max_path}
+use Rattle.bag_text.proofs.Common.{◌≡◌, ℕ, Bool, true, false, cond, eqb, List, [], ◌∷◌, ◌++◌, refl, sym, ap, subst, ◌∙◌, arith, append_assoc, lit<, lit≤, decimal, codes, nat_tests, eqb-true, Flaw, Short, Bad, ◌>>=◌, literal_at, number_at, header_at, Head, header, max_content, max_path}
+use Rattle.std.proofs.Common.{Result, Ok, Err}
 use Rattle.bag_text.proofs.ResultLemmas.{ok_is}
 use Rattle.bag_text.proofs.NumberLemmas.{InBounds, number_ok, number_again}
 

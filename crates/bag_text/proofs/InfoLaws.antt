@@ -1,13 +1,8 @@
 -- What reading `bag-info.txt` promises, of what its lines give.
-use Rattle.std.proofs.Common.{◌≡◌, ℕ, List, ap, ◌⊎◌, inl, inr, refl}
-use Rattle.std.specs.Prelude.{Result, Ok, Err, IfOk, IfErr, MatchResult}
+use Rattle.bag_text.proofs.Common.{◌≡◌, ℕ, List, ap, ◌⊎◌, inl, inr, refl, Result, Ok, Err, IfOk, IfErr, MatchResult, InfoFault, NoColon, EmptyLabel, StrayContinuation, Pair, SaysInfo, InfoFaultIs, FailsAs, Gives, info_of, named_info_fault, pairs_in}
 use Rattle.bag_text.specs.declared.bag_info.BagInfo.{BagInfo}
-use Rattle.bag_text.specs.declared.bag_info.InfoFault.{InfoFault}
-use Rattle.bag_text.specs.declared.bag_info.InfoFault.TheVariants.{NotUtf8, ByteOrderMark, NoColon, EmptyLabel, StrayContinuation, Memory}
-use Rattle.bag_text.specs.BagInfo.{Pair, SaysInfo, InfoFaultIs}
-use Rattle.bag_text.specs.Answers.{FailsAs, Gives}
+use Rattle.bag_text.specs.declared.bag_info.InfoFault.TheVariants.{NotUtf8, ByteOrderMark, Memory}
 use Rattle.bag_text.proofs.ResultLemmas.{same_ok, same_err, never_both}
-use Rattle.bag_text.specs.InfoReading.{info_of, named_info_fault, pairs_in}
 use Rattle.bag_text.proofs.InfoLemmas.{info_said, info_fault}
 
 -- an answered fault is memory or the one that was read

@@ -1,19 +1,7 @@
 -- What `bag-info.txt` says, and its first fault.
-use Rattle.std.proofs.Common.{◌≡◌, one-add, ℕ, suc, ◌+◌, Bool, true, false, cond, eqb, not, ◌||◌, List, [], ◌∷◌, ◌++◌, length, take, drop, refl, sym, ap, subst, ◌∙◌, arith, append_assoc, ◌≢◌}
-use Rattle.std.specs.Prelude.{Result, Ok, Err, ◌↔◌}
-use Rattle.std.specs.List.{list_any, list_all, position_or_len, flat_map}
-use Rattle.std.specs.Str.{is_utf8}
-use Rattle.std.proofs.lemmas.List.{append-nil}
-use Rattle.std.proofs.lemmas.Bool.{and_parts, or_parts}
-use Rattle.std.proofs.lemmas.Bool.Decides.{nat_tests}
-use Rattle.std.proofs.lemmas.List.Folds.{list_any-append}
-use Rattle.bag_text.specs.Text.{is_blank, AreBlanks, has_mark, begins_with, skip_blanks, drop_last_blanks}
-use Rattle.bag_text.specs.Lines.{lines}
-use Rattle.bag_text.specs.declared.bag_info.InfoFault.{InfoFault}
-use Rattle.bag_text.specs.declared.bag_info.InfoFault.TheVariants.{NotUtf8, ByteOrderMark, NoColon, EmptyLabel, StrayContinuation, Memory}
-use Rattle.bag_text.specs.BagInfo.{Pair, begins_blank, is_colon, IsPairLine, AreGroups, SaysInfo, filled_lines, IsReached, InfoFaultIs}
-use Rattle.bag_text.specs.Answers.{◌>>=◌}
-use Rattle.bag_text.specs.InfoReading.{label_of, value_of, pair_of, extend_last, add_info_line, pairs_from, info_of}
+use Rattle.bag_text.proofs.Common.{◌≡◌, one-add, ℕ, suc, ◌+◌, Bool, true, false, cond, eqb, not, ◌||◌, List, [], ◌∷◌, ◌++◌, length, take, drop, refl, sym, ap, subst, ◌∙◌, arith, append_assoc, ◌≢◌, Result, Ok, Err, ◌↔◌, list_any, list_all, position_or_len, flat_map, is_utf8, append-nil, and_parts, or_parts, nat_tests, list_any-append, is_blank, AreBlanks, has_mark, begins_with, skip_blanks, drop_last_blanks, lines, InfoFault, NoColon, EmptyLabel, StrayContinuation, Pair, begins_blank, is_colon, IsPairLine, AreGroups, SaysInfo, filled_lines, InfoFaultIs, ◌>>=◌, label_of, value_of, pair_of, extend_last, add_info_line, pairs_from, info_of}
+use Rattle.bag_text.specs.declared.bag_info.InfoFault.TheVariants.{NotUtf8, ByteOrderMark, Memory}
+use Rattle.bag_text.specs.BagInfo.{IsReached}
 use Rattle.bag_text.proofs.BlankLemmas.{skipped, dropped, skip_front, drop_back}
 use Rattle.bag_text.proofs.PathLemmas.{not_empty}
 

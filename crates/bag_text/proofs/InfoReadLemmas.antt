@@ -1,26 +1,10 @@
 -- Reading the lines of `bag-info.txt`.
-use Rattle.std.proofs.Common.{◌≡◌, one-add, ℕ, suc, zero, ◌+◌, ◌-◌, ◌<◌, ◌≤◌, Bool, true, false, cond, eqb, not, ◌&&◌, ◌||◌, List, [], ◌∷◌, ◌++◌, length, take, drop, refl, sym, ap, subst, ◌∙◌, ◌⊎◌, inl, inr, arith, append_assoc, length-append}
-use Rattle.std.specs.Prelude.{Option, Some, None, Result, Ok, Err, Contains}
-use Rattle.std.specs.List.{list_any, list_all, position_or_len, AllByRecursion}
-use Rattle.std.specs.Option.{option_to_list}
-use Rattle.std.specs.Str.{is_utf8, IsUtf8, IsCharBoundary}
-use Rattle.std.specs.Cow.{cow_str_bytes}
-use Rattle.std.proofs.lemmas.Str.{IsUtf8-from_is_utf8, is_utf8-from_IsUtf8, IsUtf8-take, IsUtf8-drop, IsCharBoundary-after_ascii}
-use Rattle.std.proofs.lemmas.List.Sums.{prefix_len-le-length}
-use Rattle.std.proofs.lemmas.List.{append-nil, map_push, nil_from_length}
-use Rattle.std.proofs.lemmas.Option.{same_Some}
-use Rattle.std.proofs.lemmas.List.Folds.{list_any-append}
+use Rattle.bag_text.proofs.Common.{◌≡◌, one-add, ℕ, suc, zero, ◌+◌, ◌-◌, ◌<◌, ◌≤◌, Bool, true, false, cond, eqb, not, ◌&&◌, ◌||◌, List, [], ◌∷◌, ◌++◌, length, take, drop, refl, sym, ap, subst, ◌∙◌, ◌⊎◌, inl, inr, arith, append_assoc, Option, Some, None, Result, Ok, Err, Contains, list_any, list_all, position_or_len, AllByRecursion, option_to_list, is_utf8, IsCharBoundary, cow_str_bytes, IsUtf8-from_is_utf8, is_utf8-from_IsUtf8, IsUtf8-take, IsUtf8-drop, IsCharBoundary-after_ascii, prefix_len-le-length, append-nil, map_push, nil_from_length, same_Some, list_any-append, and_parts, or_parts, or_right, eqb-true, get_or-append_seam, take-append_seam, drop-append-add, take-length, is_blank, AreBlanks, skip_blanks, drop_last_blanks, is_end, lines, LF, CR, CRLF, end_bytes, EndsBefore, AreLines, InfoFault, NoColon, EmptyLabel, StrayContinuation, Pair, is_colon, begins_blank, ◌>>=◌, FailsAs, label_of, value_of, colon_cut, pair_of, extend_last, add_info_line, pairs_from, named_info_fault, Kept, pair_in, pairs_of, has_line_feed, IsOwnedIfContinued, AreMarked}
+use Rattle.std.proofs.Common.{length-append}
+use Rattle.std.specs.Str.{IsUtf8}
 use Rattle.std.proofs.lemmas.List.Elements.{Contains-append_left, Contains-push_cases}
-use Rattle.std.proofs.lemmas.Bool.{and_parts, or_parts, or_right, eqb-true}
-use Rattle.std.proofs.Math.Seq.{get_or-append_seam, take-append_seam, drop-append-add, take-length}
-use Rattle.bag_text.specs.Text.{is_blank, AreBlanks, skip_blanks, drop_last_blanks}
-use Rattle.bag_text.specs.Lines.{is_end, lines, End, LF, CR, CRLF, end_bytes, EndsBefore, AreLines}
-use Rattle.bag_text.specs.declared.bag_info.InfoFault.{InfoFault}
-use Rattle.bag_text.specs.declared.bag_info.InfoFault.TheVariants.{NoColon, EmptyLabel, StrayContinuation}
-use Rattle.bag_text.specs.BagInfo.{Pair, is_colon, begins_blank}
-use Rattle.bag_text.specs.Answers.{◌>>=◌, FailsAs}
+use Rattle.bag_text.specs.Lines.{End}
 use Rattle.bag_text.proofs.ResultLemmas.{fails_on}
-use Rattle.bag_text.specs.InfoReading.{label_of, value_of, colon_cut, pair_of, extend_last, add_info_line, pairs_from, named_info_fault, Kept, pair_in, pairs_of, has_line_feed, IsOwnedIfContinued, AreMarked}
 use Rattle.bag_text.proofs.BlankLemmas.{dropped}
 use Rattle.bag_text.proofs.LineLemmas.{no_lines, are_lines}
 use Rattle.bag_text.proofs.InfoLemmas.{cut_again, has_colon, extended, some_pairs, unfolded_lines, no_lines_left}

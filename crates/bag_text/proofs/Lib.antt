@@ -1,3 +1,4 @@
+pub mod Common
 pub mod ResultLemmas
 pub mod ElementLemmas
 pub mod LineLemmas
@@ -27,3 +28,4 @@ pub mod RefusalLemmas
 pub mod ListLemmas
 pub mod BagListLemmas
 pub mod WriteLemmas
+pub mod Lemmas

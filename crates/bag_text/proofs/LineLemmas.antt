@@ -1,13 +1,7 @@
 -- The first line of a text.
-use Rattle.std.proofs.Common.{◌≡◌, one-add, ℕ, subst, ◌<◌, ◌≤◌, Bool, true, false, cond, eqb, ltb, ◌&&◌, ◌||◌, not, List, [], ◌∷◌, ◌++◌, length, drop, refl, sym, ap, ◌∙◌, arith, ◌≢◌, ◌⊎◌, inl, inr, append_assoc}
-use Rattle.std.specs.List.{list_any, onto_first, position_or_len, position}
+use Rattle.bag_text.proofs.Common.{◌≡◌, one-add, ℕ, subst, ◌<◌, ◌≤◌, Bool, true, false, cond, eqb, ltb, ◌&&◌, ◌||◌, not, List, [], ◌∷◌, ◌++◌, length, drop, refl, sym, ap, ◌∙◌, arith, ◌≢◌, ◌⊎◌, inl, inr, append_assoc, list_any, onto_first, position_or_len, position, Some, None, ltb-false, eqb-true, or_parts, prefix_len-le-length, length-drop, is_end, lines, LF, CR, CRLF, end_bytes, EndsBefore, AreLines, begins_with}
 use Rattle.std.specs.Option.{unwrap_or}
-use Rattle.std.specs.Prelude.{Some, None}
-use Rattle.std.proofs.lemmas.Bool.{ltb-false, eqb-true, or_parts}
-use Rattle.std.proofs.lemmas.List.Sums.{prefix_len-le-length}
-use Rattle.std.proofs.lemmas.List.{length-drop}
-use Rattle.bag_text.specs.Lines.{is_end, lines, End, LF, CR, CRLF, end_bytes, EndsBefore, AreLines}
-use Rattle.bag_text.specs.Text.{begins_with}
+use Rattle.bag_text.specs.Lines.{End}
 use Rattle.bag_text.specs.LineReading.{first_line, after_first_line, after_end_of}
 
 pub fits : (t : List ℕ) → position_or_len is_end t ≤ length t

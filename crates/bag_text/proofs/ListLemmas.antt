@@ -1,16 +1,6 @@
 -- The fault of a list of files that is computed is the one of the table, and none stands exactly in a bag.
-use Rattle.std.proofs.Common.{◌≡◌, ℕ, ◌+◌, ◌<◌, ◌≤◌, ◌↔◌, Bool, true, false, cond, ltb, leb, not, List, [], ◌∷◌, ◌++◌, length, refl, sym, ap, subst, ◌∙◌, arith}
-use Rattle.std.specs.Prelude.{Option, Some, None}
-use Rattle.std.specs.Option.{option_or}
-use Rattle.std.specs.List.{AllByRecursion}
-use Rattle.std.proofs.lemmas.Bool.Decides.{nat_tests}
-use Rattle.std.proofs.lemmas.Option.{same_Some}
-use Rattle.bag_text.specs.declared.set_fault.SetFault.{SetFault}
-use Rattle.bag_text.specs.declared.set_fault.SetFault.TheVariants.{BadOpening, BadEntry, Truncated, OutOfOrder, BadPath, TooManyFiles, TrailingBytes, PathClash, Memory}
-use Rattle.bag_text.specs.Paths.{is_good, comes_before}
-use Rattle.bag_text.specs.TransferForm.{File, max_content, max_files, Ascends, clashes, Fits, IsBag}
-use Rattle.bag_text.specs.TransferFaults.{last_path}
-use Rattle.bag_text.specs.BagList.{IsFront, FileFault, ListFault, file_fault, fault_from, clash_fault, list_fault}
+use Rattle.bag_text.proofs.Common.{◌≡◌, ℕ, ◌+◌, ◌<◌, ◌≤◌, Bool, true, false, cond, ltb, leb, not, List, [], ◌∷◌, ◌++◌, length, refl, sym, ap, subst, ◌∙◌, arith, Option, Some, None, option_or, AllByRecursion, nat_tests, same_Some, SetFault, BadOpening, BadEntry, Truncated, OutOfOrder, BadPath, TooManyFiles, TrailingBytes, PathClash, Memory, is_good, comes_before, File, max_content, max_files, Ascends, clashes, Fits, IsBag, last_path, IsFront, FileFault, ListFault, file_fault, fault_from, clash_fault, list_fault}
+use Rattle.std.proofs.Common.{◌↔◌}
 
 abbrev pub some : SetFault → Option SetFault
 some f = Some f

@@ -1,22 +1,9 @@
 -- The entries of a manifest, line after line.
-use Rattle.std.proofs.Common.{◌≡◌, ℕ, zero, suc, ◌+◌, ◌-◌, ◌<◌, ◌≤◌, Bool, true, false, cond, List, [], ◌∷◌, ◌++◌, length, refl, sym, ap, subst, ◌∙◌, ◌⊎◌, inl, inr, arith}
-use Rattle.std.specs.Prelude.{Some, is_some, map, slice_get}
-use Rattle.std.specs.List.{AllByRecursion}
-use Rattle.std.specs.declared.cmp.Ordering.{Ordering}
-use Rattle.std.specs.declared.cmp.Ordering.TheVariants.{Less, Equal, Greater}
-use Rattle.std.specs.Ordering.{nat_cmp, match_ordering, is_eq, is_lt, ordering_reverse}
-use Rattle.std.specs.Cmp.Lexicographic.{slice_cmp}
-use Rattle.std.specs.BTreeMap.{insert_entry, is_at}
-use Rattle.std.specs.Map.{lookup}
-use Rattle.std.proofs.lemmas.Bool.{cases_lt}
+use Rattle.bag_text.proofs.Common.{◌≡◌, ℕ, zero, suc, ◌+◌, ◌-◌, ◌<◌, ◌≤◌, Bool, true, false, cond, List, [], ◌∷◌, ◌++◌, length, refl, sym, ap, subst, ◌∙◌, ◌⊎◌, inl, inr, arith, Some, is_some, slice_get, AllByRecursion, Ordering, Less, Equal, Greater, nat_cmp, match_ordering, is_eq, is_lt, ordering_reverse, slice_cmp, insert_entry, is_at, lookup, cases_lt, bytes_eq-Decides, same_Some, slice_get_within, length_push, comes_before, AscendingPaths, Entries, is_path_listed}
+use Rattle.std.specs.Prelude.{map}
 use Rattle.std.proofs.lemmas.Cmp.{nat_list_cmp_total}
 use Rattle.std.proofs.lemmas.Map.Text.{is_eq-slice_cmp}
-use Rattle.std.proofs.lemmas.Slice.Eq.{bytes_eq-Decides}
-use Rattle.std.proofs.lemmas.Option.{same_Some, slice_get_within}
-use Rattle.std.proofs.lemmas.List.{length_push}
-use Rattle.bag_text.specs.Paths.{comes_before}
-use Rattle.bag_text.specs.Manifest.{AscendingPaths}
-use Rattle.bag_text.specs.ManifestReading.{Entry, Entries, is_path_listed}
+use Rattle.bag_text.specs.ManifestReading.{Entry}
 use Rattle.bag_text.proofs.ElementLemmas.{Has, slice_get-append, slice_get_last}
 use Rattle.bag_text.proofs.OrderLemmas.{less}
 

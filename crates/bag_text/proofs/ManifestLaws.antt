@@ -1,35 +1,15 @@
 -- What is read of a manifest's text is what its lines list, and a refusal is its first fault.
-use Rattle.std.proofs.Common.{◌≡◌, ℕ, suc, ◌-◌, ◌<◌, Bool, true, false, cond, List, [], ◌∷◌, length, refl, sym, ap, subst, ◌∙◌, ◌⊎◌, inl, inr, arith}
-use Rattle.std.specs.Prelude.{Option, Some, None, Result, Ok, Err, IfOk, IfErr, IfSome, is_ok, is_some, ◌↔◌, option_map, map, Contains}
-use Rattle.std.specs.Result.{result_ok}
-use Rattle.std.specs.Str.{is_utf8}
+use Rattle.bag_text.proofs.Common.{◌≡◌, ℕ, suc, ◌-◌, ◌<◌, Bool, true, false, cond, List, [], ◌∷◌, length, refl, sym, ap, subst, ◌∙◌, ◌⊎◌, inl, inr, arith, Option, Some, None, Result, Ok, Err, IfOk, IfErr, IfSome, is_ok, is_some, ◌↔◌, option_map, Contains, result_ok, is_utf8, nat_cmp, is_eq, slice_cmp, is_at, lookup, cow_str_bytes, IsBorrowedStr, false≢true, true≢false, cases_order, same_Some, slice_get_within, slice_get_read, get_or_from_slice_get, decode_sized, FromHexError, Version, Algorithm, Checksum, LineFault, NotUtf8, ByteOrderMark, BadChecksum, NoPath, ListedTwice, AreBlanks, has_mark, begins_with, lines, GoodPath, is_good, Spells, decode, has_coded, size_of, checksum_of, IsEntry, LineIs, as_manifest, ListsOn, LineLists, Lists, IsManifest, AscendingPaths, sum_text, path_text, IsReached, ManifestFault, FailsAs, Gives, Entries, checksum_in, path_spelled, entry_of, manifest_of, is_owned, entry_in, entries_in, paths_of, HasEntry, HasPath, listing_at, is_path_listed, named_line_fault}
+use Rattle.std.specs.Prelude.{map}
 use Rattle.std.specs.Global.{Global}
-use Rattle.std.specs.Ordering.{nat_cmp, is_eq}
-use Rattle.std.specs.Cmp.Lexicographic.{slice_cmp}
-use Rattle.std.specs.BTreeMap.{is_at}
-use Rattle.std.specs.Map.{lookup}
-use Rattle.std.specs.Cow.{cow_str_bytes, IsBorrowedStr}
 use Rattle.std.specs.declared.borrow.CowStr.{CowStr}
 use Rattle.std.specs.declared.borrow.CowStr.TheVariants as text
-use Rattle.std.proofs.lemmas.Bool.{false≢true, true≢false, cases_order}
-use Rattle.std.proofs.lemmas.Option.{same_Some, slice_get_within, slice_get_read, get_or_from_slice_get}
-use Rattle.hex.specs.Hex.{decode_sized}
-use Rattle.hex.specs.declared.error.FromHexError.{FromHexError}
-use Rattle.bag_text.specs.declared.declaration.Version.{Version}
-use Rattle.bag_text.specs.declared.checksum.Algorithm.{Algorithm}
 use Rattle.bag_text.specs.declared.checksum.Algorithm.TheVariants.{Sha256, Sha512}
-use Rattle.bag_text.specs.declared.checksum.Checksum.{Checksum}
 use Rattle.bag_text.specs.declared.listing.Listing.{Listing}
 use Rattle.bag_text.specs.declared.listing.Manifest.{Manifest}
-use Rattle.bag_text.specs.declared.listing.LineFault.{LineFault}
-use Rattle.bag_text.specs.declared.listing.LineFault.TheVariants.{NotUtf8, ByteOrderMark, BadChecksum, NoPath, BadPath, ListedTwice, Memory}
-use Rattle.bag_text.specs.Text.{AreBlanks, has_mark, begins_with}
-use Rattle.bag_text.specs.Lines.{lines}
-use Rattle.bag_text.specs.Paths.{GoodPath, is_good}
-use Rattle.bag_text.specs.Manifest.{Spells, decode, has_coded, size_of, checksum_of, IsEntry, LineIs, as_manifest, ListsOn, LineLists, Lists, IsManifest, AscendingPaths, sum_text, path_text, IsReached, ManifestFault}
-use Rattle.bag_text.specs.Answers.{FailsAs, Gives}
+use Rattle.bag_text.specs.declared.listing.LineFault.TheVariants.{BadPath, Memory}
 use Rattle.bag_text.proofs.ResultLemmas.{never_both, same_err}
-use Rattle.bag_text.specs.ManifestReading.{Entry, Entries, checksum_in, path_spelled, entry_of, manifest_of, is_owned, entry_in, entries_in, paths_of, HasEntry, HasPath, listing_at, is_path_listed, named_line_fault}
+use Rattle.bag_text.specs.ManifestReading.{Entry}
 use Rattle.bag_text.proofs.PathLemmas.{good_read}
 use Rattle.bag_text.proofs.ManifestLemmas.{spells_decoded, spelled_is_decoded, looked_up}
 use Rattle.bag_text.proofs.ManifestLineLemmas.{reads_bad_checksum, reads_no_path, reads_bad_path, entry_reads}

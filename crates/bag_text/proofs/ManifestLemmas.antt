@@ -1,36 +1,11 @@
 -- Spelled paths.
-use Rattle.std.proofs.Common.{◌≡◌, ℕ, ◌+◌, ◌≤◌, Bool, true, false, cond, not, List, [], ◌∷◌, ◌++◌, length, refl, sym, ap, subst, ◌∙◌, append_assoc}
-use Rattle.std.specs.Prelude.{Option, Some, None}
-use Rattle.std.specs.List.{list_all, position_or_len}
-use Rattle.std.proofs.lemmas.Bool.{and_parts, or_parts}
-use Rattle.std.proofs.lemmas.List.Sums.{prefix_len-le-length}
-use Rattle.std.proofs.lemmas.List.{append-nil}
-use Rattle.std.proofs.lemmas.Option.{same_Some}
-use Rattle.bag_text.specs.declared.declaration.Version.{Version}
-use Rattle.std.specs.Prelude.{is_none, is_some, Result, Ok, Err, map}
-use Rattle.std.specs.declared.cmp.Ordering.{Ordering}
-use Rattle.std.specs.declared.cmp.Ordering.TheVariants.{Less, Equal, Greater}
-use Rattle.std.specs.Ordering.{nat_cmp, match_ordering, is_eq}
-use Rattle.std.specs.Cmp.Lexicographic.{slice_cmp}
-use Rattle.std.specs.BTreeMap.{insert_entry, is_at}
-use Rattle.std.specs.Map.{lookup}
-use Rattle.std.specs.Cow.{cow_str_bytes}
+use Rattle.bag_text.proofs.Common.{◌≡◌, ℕ, ◌+◌, ◌≤◌, Bool, true, false, cond, not, List, [], ◌∷◌, ◌++◌, length, refl, sym, ap, subst, ◌∙◌, append_assoc, Option, Some, None, list_all, position_or_len, and_parts, or_parts, prefix_len-le-length, append-nil, same_Some, Version, is_none, is_some, Result, Ok, Err, Ordering, Less, Equal, Greater, nat_cmp, match_ordering, is_eq, slice_cmp, insert_entry, is_at, lookup, cow_str_bytes, Algorithm, LineFault, ListedTwice, lines, is_utf8, path_fault, is_good, is_blank, coded_character, coded_front, has_coded, Spells, nothing, triple, itself, decode, FailsAs, next_char, Entries, entry_in, is_path_listed, entry_of, add_line_of, entries_of, named_line_fault}
+use Rattle.std.specs.Prelude.{map}
 use Rattle.std.specs.declared.borrow.CowStr.{CowStr}
 use Rattle.std.specs.Global.{Global}
-use Rattle.bag_text.specs.declared.checksum.Algorithm.{Algorithm}
 use Rattle.bag_text.specs.declared.listing.Listing.{Listing}
-use Rattle.bag_text.specs.declared.listing.LineFault.{LineFault}
-use Rattle.bag_text.specs.declared.listing.LineFault.TheVariants.{ListedTwice}
-use Rattle.bag_text.specs.Lines.{lines}
 use Rattle.bag_text.proofs.LineLemmas.{no_lines}
-use Rattle.std.specs.Str.{is_utf8}
-use Rattle.bag_text.specs.Paths.{path_fault}
-use Rattle.bag_text.specs.Paths.{is_good}
-use Rattle.bag_text.specs.Text.{is_blank}
-use Rattle.bag_text.specs.Manifest.{coded_character, coded_front, has_coded, Spells, nothing, triple, itself, decode}
-use Rattle.bag_text.specs.Answers.{FailsAs}
 use Rattle.bag_text.proofs.ResultLemmas.{fails_on}
-use Rattle.bag_text.specs.ManifestReading.{next_char, Entries, entry_in, is_path_listed, entry_of, add_line_of, entries_of, named_line_fault}
 
 pub sum_fits : (line : List ℕ) → position_or_len is_blank line ≤ length line
 sum_fits line = prefix_len-le-length (λ b. not (is_blank b)) line

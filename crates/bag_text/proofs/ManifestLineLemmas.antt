@@ -1,23 +1,10 @@
 -- What one line of a manifest lists, read and as a relation.
-use Rattle.std.proofs.Common.{◌≡◌, one-add, ℕ, zero, suc, ◌+◌, ◌*◌, ◌/◌, ◌%◌, Bool, true, false, cond, eqb, not, List, [], ◌∷◌, ◌++◌, length, take, drop, refl, sym, ap, subst, ◌∙◌, ◌⊎◌, inl, inr, append_assoc}
-use Rattle.std.specs.Prelude.{Option, Some, None, Result, Ok, Err, ◌≢◌, option_map}
-use Rattle.std.specs.List.{list_any, list_all, position_or_len}
-use Rattle.std.specs.Result.{result_ok}
-use Rattle.std.proofs.lemmas.Bool.{eqb-true, or_cases, or_parts, and_parts, or_from}
-use Rattle.std.proofs.lemmas.List.{take-append-drop, take_at, drop_at}
-use Rattle.std.proofs.lemmas.Option.{same_Some}
-use Rattle.std.proofs.Math.Seq.{drop-nil}
-use Rattle.hex.specs.Hex.{decode_sized, decode_pairs, hex_digit_value, digit_or_error, ◌>>=◌}
-use Rattle.hex.specs.declared.error.FromHexError.{FromHexError}
+use Rattle.bag_text.proofs.Common.{◌≡◌, one-add, ℕ, zero, suc, ◌+◌, ◌*◌, ◌/◌, ◌%◌, Bool, true, false, cond, eqb, not, List, [], ◌∷◌, ◌++◌, length, take, drop, refl, sym, ap, subst, ◌∙◌, ◌⊎◌, inl, inr, append_assoc, Option, Some, None, Result, Ok, Err, option_map, list_any, list_all, position_or_len, result_ok, eqb-true, or_cases, or_parts, and_parts, or_from, take-append-drop, take_at, drop_at, same_Some, drop-nil, decode_sized, decode_pairs, hex_digit_value, digit_or_error, FromHexError, Version, Algorithm, Checksum, BadChecksum, NoPath, is_blank, begins_with, skip_blanks, GoodPath, is_good, Spells, has_coded, decode, size_of, checksum_of, IsEntry, sum_text, path_text, good_of, path_spelled, checksum_in, entry_of}
+use Rattle.std.specs.Prelude.{◌≢◌}
+use Rattle.hex.specs.Hex.{◌>>=◌}
 use Rattle.hex.specs.declared.error.FromHexError.TheVariants.{OddLength, InvalidStringLength}
-use Rattle.bag_text.specs.declared.declaration.Version.{Version}
-use Rattle.bag_text.specs.declared.checksum.Algorithm.{Algorithm}
-use Rattle.bag_text.specs.declared.checksum.Checksum.{Checksum}
-use Rattle.bag_text.specs.declared.listing.LineFault.TheVariants.{BadChecksum, NoPath, BadPath}
-use Rattle.bag_text.specs.Text.{is_blank, begins_with, skip_blanks}
-use Rattle.bag_text.specs.Paths.{GoodPath, is_good}
-use Rattle.bag_text.specs.Manifest.{Spells, has_coded, decode, size_of, checksum_of, IsEntry, sum_text, path_text}
-use Rattle.bag_text.specs.ManifestReading.{good_of, path_spelled, checksum_in, Entry, entry_of}
+use Rattle.bag_text.specs.declared.listing.LineFault.TheVariants.{BadPath}
+use Rattle.bag_text.specs.ManifestReading.{Entry}
 use Rattle.bag_text.proofs.PathLemmas.{good_read, good_again, not_empty}
 use Rattle.bag_text.proofs.ManifestLemmas.{spells_decoded, spelled_is_decoded}
 

@@ -1,27 +1,7 @@
 -- Reading the lines of a manifest, against what they list.
-use Rattle.std.proofs.Common.{◌≡◌, ℕ, ◌+◌, ◌<◌, Bool, true, false, cond, not, List, [], ◌∷◌, ◌++◌, length, refl, sym, ap, subst, ◌∙◌, ◌⊎◌, inl, inr, arith, append_assoc}
-use Rattle.std.specs.Prelude.{Option, Some, None, Result, Ok, Err, is_ok, option_map}
-use Rattle.std.specs.List.{list_all}
-use Rattle.std.specs.Result.{result_ok}
-use Rattle.std.specs.Str.{is_utf8}
-use Rattle.std.specs.BTreeMap.{insert_entry}
-use Rattle.std.specs.Ordering.{nat_cmp}
-use Rattle.std.specs.Cmp.Lexicographic.{slice_cmp}
-use Rattle.std.proofs.lemmas.Bool.{false≢true}
-use Rattle.std.proofs.lemmas.List.{append-nil, length_push}
-use Rattle.hex.specs.Hex.{decode_sized}
-use Rattle.hex.specs.declared.error.FromHexError.{FromHexError}
-use Rattle.bag_text.specs.declared.declaration.Version.{Version}
-use Rattle.bag_text.specs.declared.checksum.Algorithm.{Algorithm}
-use Rattle.bag_text.specs.declared.checksum.Checksum.{Checksum}
-use Rattle.bag_text.specs.declared.listing.LineFault.{LineFault}
-use Rattle.bag_text.specs.declared.listing.LineFault.TheVariants.{NotUtf8, ByteOrderMark, BadChecksum, NoPath, BadPath, ListedTwice}
-use Rattle.bag_text.specs.Text.{is_blank, AreBlanks, has_mark, begins_with}
-use Rattle.bag_text.specs.Lines.{lines}
-use Rattle.bag_text.specs.Paths.{GoodPath, is_good}
-use Rattle.bag_text.specs.Manifest.{Spells, decode, has_coded, size_of, checksum_of, IsEntry, LineIs, as_manifest, ListsOn, IsSoundBefore, AscendingPaths, sum_text, path_text, IsReached, ManifestFault}
-use Rattle.bag_text.specs.Answers.{◌>>=◌}
-use Rattle.bag_text.specs.ManifestReading.{Entry, Entries, checksum_in, path_spelled, entry_of, is_path_listed, add_line_of, entries_of, manifest_of}
+use Rattle.bag_text.proofs.Common.{◌≡◌, ℕ, ◌+◌, ◌<◌, Bool, true, false, cond, not, List, [], ◌∷◌, ◌++◌, length, refl, sym, ap, subst, ◌∙◌, ◌⊎◌, inl, inr, arith, append_assoc, Option, Some, None, Result, Ok, Err, is_ok, option_map, list_all, result_ok, is_utf8, insert_entry, nat_cmp, slice_cmp, false≢true, append-nil, length_push, decode_sized, FromHexError, Version, Algorithm, Checksum, LineFault, NotUtf8, ByteOrderMark, BadChecksum, NoPath, ListedTwice, is_blank, AreBlanks, has_mark, begins_with, lines, GoodPath, is_good, Spells, decode, has_coded, size_of, checksum_of, IsEntry, LineIs, as_manifest, ListsOn, IsSoundBefore, AscendingPaths, sum_text, path_text, IsReached, ManifestFault, ◌>>=◌, Entries, checksum_in, path_spelled, entry_of, is_path_listed, add_line_of, entries_of, manifest_of}
+use Rattle.bag_text.specs.declared.listing.LineFault.TheVariants.{BadPath}
+use Rattle.bag_text.specs.ManifestReading.{Entry}
 use Rattle.bag_text.proofs.ResultLemmas.{ok_is}
 use Rattle.bag_text.proofs.PathLemmas.{good_again}
 use Rattle.bag_text.proofs.ManifestLemmas.{spells_decoded, spelled_is_decoded}

@@ -1,23 +1,10 @@
 -- The order of paths, and what a search finds in a list of files that ascends.
-use Rattle.std.proofs.Common.{◌≡◌, ℕ, zero, suc, ◌<◌, ◌≤◌, ◌≢◌, ◌↔◌, Bool, true, false, cond, eqb, ltb, not, ◌&&◌, ◌||◌, List, [], ◌∷◌, ◌++◌, length, get_or, take, drop, map, refl, sym, ap, subst, ◌∙◌, arith}
-use Rattle.std.specs.Prelude.{Option, Some, None, option_map, find, bytes_eq, nat_eq, slice_get, Contains, is_some}
-use Rattle.std.specs.Option.{IsNone, MatchOption}
-use Rattle.std.specs.List.{list_any, AllWithin, HoldsAt, starts_with}
+use Rattle.bag_text.proofs.Common.{◌≡◌, ℕ, zero, suc, ◌<◌, ◌≤◌, ◌≢◌, Bool, true, false, cond, eqb, ltb, not, ◌&&◌, ◌||◌, List, [], ◌∷◌, ◌++◌, length, get_or, take, drop, map, refl, sym, ap, subst, ◌∙◌, arith, Option, Some, None, option_map, find, bytes_eq, nat_eq, slice_get, Contains, is_some, IsNone, MatchOption, list_any, AllWithin, HoldsAt, starts_with, nat_cmp, is_lt, is_eq, ordering_then, ordering_reverse, Ordering, Less, Equal, Greater, slice_cmp, and_right, nat_tests, take-append-drop, bytes_eq-Decides, comes_before, File, Ascends, content_at, file_of, files_of, IsPlaceOf}
+use Rattle.std.proofs.Common.{◌↔◌}
 use Rattle.std.specs.List.Sorted.{IsPartitionedBy}
-use Rattle.std.specs.Ordering.{nat_cmp, is_lt, is_eq, ordering_then, ordering_reverse}
-use Rattle.std.specs.declared.cmp.Ordering.{Ordering}
-use Rattle.std.specs.declared.cmp.Ordering.TheVariants.{Less, Equal, Greater}
-use Rattle.std.specs.Cmp.Lexicographic.{slice_cmp}
 use Rattle.std.proofs.lemmas.Cmp.{nat_list_cmp_total}
 use Rattle.std.proofs.lemmas.Map.Text.{is_eq-slice_cmp}
-use Rattle.std.proofs.lemmas.Bool.{and_right}
-use Rattle.std.proofs.lemmas.Bool.Decides.{nat_tests}
-use Rattle.std.proofs.lemmas.List.{take-append-drop}
-use Rattle.std.proofs.lemmas.Slice.Eq.{bytes_eq-Decides}
 use denote.Ref.{Bor}
-use Rattle.bag_text.specs.Paths.{comes_before}
-use Rattle.bag_text.specs.TransferForm.{File, Ascends, content_at}
-use Rattle.bag_text.specs.TransferReading.{file_of, files_of, IsPlaceOf}
 
 -- ---- the order of two paths
 

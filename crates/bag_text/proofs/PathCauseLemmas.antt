@@ -1,19 +1,9 @@
 -- A cause is found exactly where a path isn't good.
-use Rattle.std.proofs.Common.{◌≡◌, ℕ, Bool, true, false, cond, List, [], ◌∷◌, length, refl, sym, ap, subst, ◌∙◌, not}
-use Rattle.std.specs.Prelude.{Option, Some, None, IsSome, codes, bytes_eq, find, ◌↔◌, ◌==◌, ◌||◌, ◌⊎◌}
-use Rattle.std.proofs.Common.{inl, inr}
-use Rattle.std.specs.List.{list_any}
-use Rattle.std.specs.Str.{is_utf8}
-use Rattle.std.proofs.lemmas.Bool.{false≢true, or_parts, or_from}
-use Rattle.bag_text.specs.declared.declaration.Version.{Version}
-use Rattle.bag_text.specs.declared.declaration.Version.TheVariants.{V0_97}
-use Rattle.std.proofs.lemmas.Option.{same_Some}
-use Rattle.std.specs.Prelude.{◌&&◌, is_some}
+use Rattle.bag_text.proofs.Common.{◌≡◌, ℕ, Bool, true, false, cond, List, [], ◌∷◌, length, refl, sym, ap, subst, ◌∙◌, not, Option, Some, None, IsSome, codes, bytes_eq, find, ◌↔◌, ◌==◌, inl, inr, list_any, is_utf8, false≢true, or_parts, or_from, Version, V0_97, same_Some, is_some, begins_with, GoodPath, segments, IsNoGoodPath, Spells, nothing, triple, itself, coded_character, coded_front, decode, has_coded}
+use Rattle.std.specs.Prelude.{◌||◌, ◌⊎◌}
+use Rattle.std.specs.Prelude.{◌&&◌}
 use Rattle.bag_text.specs.declared.causes.PathCause.{PathCause}
 use Rattle.bag_text.specs.declared.causes.PathCause.TheVariants.{NotUtf8, TooLong, EmptySegment, DotSegment, DotDotSegment, Nul}
-use Rattle.bag_text.specs.Text.{begins_with}
-use Rattle.bag_text.specs.Paths.{GoodPath, segments}
-use Rattle.bag_text.specs.Manifest.{IsNoGoodPath, Spells, nothing, triple, itself, coded_character, coded_front, decode, has_coded}
 use Rattle.bag_text.specs.PathCauses.{own_causes, stands_for}
 use Rattle.bag_text.proofs.ManifestLemmas.{spells_decoded, spelled_is_decoded}
 use Rattle.bag_text.proofs.PathLemmas.{no_fault, none_rows, not_empty, rows_none, without_fault}

@@ -1,13 +1,5 @@
 -- Good paths.
-use Rattle.std.proofs.Common.{◌≡◌, ℕ, suc, zero, Bool, true, false, cond, eqb, ltb, List, [], ◌∷◌, length, refl, sym, ap, subst, ◌∙◌, arith, ◌≢◌}
-use Rattle.std.specs.Prelude.{Some, None, is_none, codes, bytes_eq, Contains, IsUtf8, ◌↔◌}
-use Rattle.std.specs.List.{list_any}
-use Rattle.std.specs.Str.{is_utf8}
-use Rattle.std.proofs.lemmas.Bool.{ltb-false, or_parts, or_from, and_parts, and_from, false_from_ne_true}
-use Rattle.std.proofs.lemmas.Bool.Decides.{nat_tests}
-use Rattle.std.proofs.lemmas.Slice.Eq.{bytes_eq-Decides}
-use Rattle.std.proofs.lemmas.Str.{is_utf8-from_IsUtf8}
-use Rattle.bag_text.specs.Paths.{GoodPath, is_good, path_fault, path_has, segments, is_dots_of, max_path}
+use Rattle.bag_text.proofs.Common.{◌≡◌, ℕ, suc, zero, Bool, true, false, cond, eqb, ltb, List, [], ◌∷◌, length, refl, sym, ap, subst, ◌∙◌, arith, ◌≢◌, Some, None, is_none, codes, bytes_eq, Contains, IsUtf8, ◌↔◌, list_any, is_utf8, ltb-false, or_parts, or_from, and_parts, and_from, false_from_ne_true, nat_tests, bytes_eq-Decides, is_utf8-from_IsUtf8, GoodPath, is_good, path_fault, path_has, segments, is_dots_of, max_path}
 use Rattle.bag_text.specs.declared.path.PathFault.{PathFault}
 use Rattle.bag_text.specs.declared.path.PathFault.TheVariants.{Empty, TooLong, EmptySegment, DotSegment, Nul}
 use Rattle.bag_text.proofs.ResultLemmas.{is_nothing}

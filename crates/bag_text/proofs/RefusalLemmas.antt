@@ -1,17 +1,6 @@
 -- A row of the table that stands is the fault that reading gives.
-use Rattle.std.proofs.Common.{◌≡◌, ℕ, zero, suc, ◌+◌, ◌-◌, ◌<◌, ◌≤◌, ◌≢◌, ◌⊎◌, inl, inr, true, false, cond, eqb, ltb, not, List, [], ◌∷◌, ◌++◌, length, Result, Ok, Err, refl, sym, ap, subst, ◌∙◌, arith, append_assoc}
-use Rattle.std.specs.List.{flat_map, AllByRecursion}
-use Rattle.std.proofs.lemmas.Bool.Decides.{nat_tests}
-use Rattle.std.proofs.lemmas.Bool.{lt-ltb, le-ltb}
-use Rattle.std.proofs.lemmas.List.{append-nil, take_at, drop_at, length-append}
-use Rattle.bag_text.specs.declared.header.Flaw.{Flaw}
-use Rattle.bag_text.specs.declared.header.Flaw.TheVariants.{Short, Bad}
-use Rattle.bag_text.specs.declared.set_fault.SetFault.{SetFault}
-use Rattle.bag_text.specs.declared.set_fault.SetFault.TheVariants.{BadOpening, BadEntry, Truncated, OutOfOrder, BadPath, TooManyFiles, TrailingBytes, PathClash, Memory}
-use Rattle.bag_text.specs.Paths.{is_good, comes_before}
-use Rattle.bag_text.specs.TransferForm.{File, Head, header, entry, opening, ending, set_text, max_files, Ascends, clashes, Fits, IsBag}
-use Rattle.bag_text.specs.TransferFaults.{BeginsWith, IsProperBeginning, IsOpening, IsEndOrHeader, IsHeaded, EntryFault, PlaceFault, last_path, GoOn, FaultIs}
-use Rattle.bag_text.specs.TransferReading.{Place, End, Entry, literal_at, place_at, file_at, result_at, entry_at, files_at, after_opening, set_of}
+use Rattle.bag_text.proofs.Common.{◌≡◌, ℕ, zero, suc, ◌+◌, ◌-◌, ◌<◌, ◌≤◌, ◌≢◌, ◌⊎◌, inl, inr, true, false, cond, eqb, ltb, not, List, [], ◌∷◌, ◌++◌, length, refl, sym, ap, subst, ◌∙◌, arith, append_assoc, flat_map, AllByRecursion, nat_tests, lt-ltb, le-ltb, append-nil, take_at, drop_at, length-append, Flaw, Short, Bad, SetFault, BadOpening, BadEntry, Truncated, OutOfOrder, BadPath, TooManyFiles, TrailingBytes, PathClash, Memory, is_good, comes_before, File, Head, header, entry, opening, ending, set_text, max_files, Ascends, clashes, Fits, IsBag, BeginsWith, IsProperBeginning, IsOpening, IsEndOrHeader, IsHeaded, EntryFault, PlaceFault, last_path, GoOn, FaultIs, Place, End, Entry, literal_at, place_at, file_at, result_at, entry_at, files_at, after_opening, set_of}
+use Rattle.std.proofs.Common.{Result, Ok, Err}
 use Rattle.bag_text.proofs.ResultLemmas.{same_ok, same_err, never_both}
 use Rattle.bag_text.proofs.HeaderLemmas.{literal_ok, literal_again, literal_ends, literal_bad}
 use Rattle.bag_text.proofs.FormLemmas.{place_ok, place_header, end_trails, entry_again, files_again, set_ok, set_again}

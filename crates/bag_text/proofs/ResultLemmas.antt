@@ -1,8 +1,6 @@
 -- Steps that may fail, one after the other, and what is answered of them.
-use Rattle.std.proofs.Common.{◌≡◌, ◌⊎◌, inl, inr, true, is_none, List, [], ◌∷◌, ◌++◌, refl, sym, ap, append_assoc}
-use Rattle.std.specs.Prelude.{Option, Some, None, Result, Ok, Err}
-use Rattle.std.proofs.lemmas.List.{append-nil}
-use Rattle.bag_text.specs.Answers.{◌>>=◌, FailsAs}
+use Rattle.bag_text.proofs.Common.{◌≡◌, ◌⊎◌, inl, inr, true, List, [], ◌∷◌, ◌++◌, refl, sym, ap, append_assoc, Option, Some, None, Result, Ok, Err, append-nil, ◌>>=◌, FailsAs}
+use Rattle.std.proofs.Common.{is_none}
 
 -- where two steps succeed each does
 pub bind_ok : {A B F : Type 0} (r : Result A F) (k : A → Result B F) (b : B) → (r >>= k) ≡ Ok b → (x : A) × (r ≡ Ok x) × (k x ≡ Ok b)

@@ -1,13 +1,6 @@
 -- Reading the transfer form.
-use Rattle.std.proofs.Common.{◌≡◌, ℕ, zero, suc, ◌+◌, ◌-◌, ◌<◌, List, [], ◌∷◌, ◌++◌, length, get_or, drop, Result, Ok, Err, refl, sym, ap, ◌∙◌, arith}
-use Rattle.std.proofs.lemmas.List.{drop_more}
-use Rattle.std.specs.Prelude.{Option, Some, None}
-use Rattle.bag_text.specs.declared.header.Flaw.TheVariants.{Short}
-use Rattle.bag_text.specs.declared.set_fault.SetFault.{SetFault}
-use Rattle.bag_text.specs.declared.set_fault.SetFault.TheVariants.{BadOpening, BadEntry, Truncated, OutOfOrder, BadPath, TooManyFiles, TrailingBytes, PathClash, Memory}
-use Rattle.bag_text.specs.Answers.{◌>>=◌, FailsAs}
-use Rattle.bag_text.specs.TransferReading.{literal_at, files_at, entry_at, named_set_fault}
-use Rattle.bag_text.specs.TransferForm.{File}
+use Rattle.bag_text.proofs.Common.{◌≡◌, ℕ, zero, suc, ◌+◌, ◌-◌, ◌<◌, List, [], ◌∷◌, ◌++◌, length, get_or, drop, refl, sym, ap, ◌∙◌, arith, drop_more, Option, Some, None, Short, SetFault, BadOpening, BadEntry, Truncated, OutOfOrder, BadPath, TooManyFiles, TrailingBytes, PathClash, Memory, ◌>>=◌, FailsAs, literal_at, files_at, entry_at, named_set_fault, File}
+use Rattle.std.proofs.Common.{Result, Ok, Err}
 use Rattle.bag_text.proofs.ResultLemmas.{fronted, again_onto, nothing_onto}
 
 literal_nil : (w : List ℕ) → 0 < length w → literal_at w [] ≡ Err Short

@@ -1,19 +1,7 @@
 -- A fault that reading gives is the one of the table.
-use Rattle.std.proofs.Common.{◌≡◌, ℕ, zero, suc, ◌+◌, ◌-◌, ◌<◌, ◌≤◌, ◌≢◌, inl, inr, Bool, true, false, cond, eqb, ltb, not, List, [], ◌∷◌, ◌++◌, length, get_or, take, drop, Result, Ok, Err, refl, sym, ap, subst, ◌∙◌, arith, append_assoc}
-use Rattle.std.specs.Prelude.{Option, Some, None, IfErr}
-use Rattle.std.specs.List.{flat_map, AllByRecursion}
-use Rattle.std.proofs.lemmas.Bool.Decides.{nat_tests}
-use Rattle.std.proofs.lemmas.Bool.{eqb-true, ltb-true, ltb-false}
-use Rattle.std.proofs.lemmas.List.{append-nil, take-append-drop, length-take, length-drop, drop_more}
-use Rattle.bag_text.specs.declared.header.Flaw.{Flaw}
-use Rattle.bag_text.specs.declared.header.Flaw.TheVariants.{Short, Bad}
-use Rattle.bag_text.specs.declared.set_fault.SetFault.{SetFault}
-use Rattle.bag_text.specs.declared.set_fault.SetFault.TheVariants.{BadOpening, BadEntry, Truncated, OutOfOrder, BadPath, TooManyFiles, TrailingBytes, PathClash, Memory}
-use Rattle.bag_text.specs.Answers.{◌>>=◌, Gives}
-use Rattle.bag_text.specs.TransferReading.{Place, End, Entry, literal_at, place_at, file_at, result_at, entry_of, entry_at, files_at, after_opening, set_of, named_set_fault}
-use Rattle.bag_text.specs.TransferForm.{File, Head, entry, opening, ending, max_files, Ascends, clashes, Fits}
-use Rattle.bag_text.specs.Paths.{is_good, comes_before}
-use Rattle.bag_text.specs.TransferFaults.{IsHeaded, EntryFault, PlaceFault, last_path, GoOn, FaultIs}
+use Rattle.bag_text.proofs.Common.{◌≡◌, ℕ, zero, suc, ◌+◌, ◌-◌, ◌<◌, ◌≤◌, ◌≢◌, inl, inr, Bool, true, false, cond, eqb, ltb, not, List, [], ◌∷◌, ◌++◌, length, get_or, take, drop, refl, sym, ap, subst, ◌∙◌, arith, append_assoc, Option, Some, None, IfErr, flat_map, AllByRecursion, nat_tests, eqb-true, ltb-true, ltb-false, append-nil, take-append-drop, length-take, length-drop, drop_more, Flaw, Short, Bad, SetFault, BadOpening, BadEntry, Truncated, OutOfOrder, BadPath, TooManyFiles, TrailingBytes, PathClash, Memory, ◌>>=◌, Gives, Place, End, Entry, literal_at, place_at, file_at, result_at, entry_at, files_at, after_opening, set_of, named_set_fault, File, Head, entry, opening, ending, max_files, Ascends, clashes, Fits, is_good, comes_before, IsHeaded, EntryFault, PlaceFault, last_path, GoOn, FaultIs}
+use Rattle.std.proofs.Common.{Result, Ok, Err}
+use Rattle.bag_text.specs.TransferReading.{entry_of}
 use Rattle.bag_text.proofs.ResultLemmas.{err_is}
 use Rattle.bag_text.proofs.HeaderLemmas.{literal_ok, literal_again, literal_ends, literal_bad}
 use Rattle.bag_text.proofs.FormLemmas.{place_ok, entry_ok, files_ok}

@@ -1,14 +1,6 @@
 -- Blanks at the end.
-use Rattle.std.proofs.Common.{◌≡◌, ℕ, ◌+◌, ◌-◌, ◌<◌, Bool, true, false, cond, eqb, ◌&&◌, List, [], ◌∷◌, ◌++◌, length, get_or, take, refl, sym, ap, ◌∙◌, arith}
-use Rattle.std.proofs.lemmas.List.{take_all, take_more, length_push}
-use Rattle.std.specs.Result.{result_ok}
-use Rattle.std.specs.Prelude.{Option, Some, None, option_copied, Result, Ok, Err, MatchResult, is_ok, IsUtf8}
-use Rattle.std.specs.Str.{is_utf8, IsValidUpTo, valid_up_to}
+use Rattle.bag_text.proofs.Common.{◌≡◌, ℕ, ◌+◌, ◌-◌, ◌<◌, Bool, true, false, cond, eqb, ◌&&◌, List, [], ◌∷◌, ◌++◌, length, get_or, take, refl, sym, ap, ◌∙◌, arith, take_all, take_more, length_push, result_ok, Option, Some, None, option_copied, Result, Ok, Err, MatchResult, is_ok, IsUtf8, is_utf8, IsValidUpTo, valid_up_to, Bor, nat_tests, IsUtf8-from_is_utf8, is_utf8-from_IsUtf8, is_blank, drop_last_blanks}
 use Rattle.std.specs.declared.str.Utf8Error.{Utf8Error}
-use Rattle.std.proofs.Common.{Bor}
-use Rattle.std.proofs.lemmas.Bool.Decides.{nat_tests}
-use Rattle.std.proofs.lemmas.Str.{IsUtf8-from_is_utf8, is_utf8-from_IsUtf8}
-use Rattle.bag_text.specs.Text.{is_blank, drop_last_blanks}
 
 pub drop_last_blank : (t : List ℕ) (b : ℕ) → is_blank b ≡ true → drop_last_blanks (t ++ b ∷ []) ≡ drop_last_blanks t
 drop_last_blank [] b e = rw e refl

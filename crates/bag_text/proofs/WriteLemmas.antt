@@ -1,11 +1,7 @@
 -- Writing the transfer form.
-use Rattle.std.proofs.Common.{◌≡◌, ℕ, ◌+◌, ◌<◌, ◌≤◌, List, ◌++◌, length, get_or, drop, map, Result, Ok, Err, sym, ap, ◌∙◌, append_assoc}
-use Rattle.std.specs.Prelude.{IfOk}
-use Rattle.std.specs.List.{flat_map}
-use Rattle.std.proofs.lemmas.List.{drop_more, at_drop_all, append-nil}
+use Rattle.bag_text.proofs.Common.{◌≡◌, ℕ, ◌+◌, ◌<◌, ◌≤◌, List, ◌++◌, length, get_or, drop, map, sym, ap, ◌∙◌, append_assoc, IfOk, flat_map, drop_more, at_drop_all, append-nil, File, entry, set_text, IsBag, set_of}
+use Rattle.std.proofs.Common.{Result, Ok, Err}
 use Rattle.std.proofs.lemmas.List.Concat.{flat_map-cons}
-use Rattle.bag_text.specs.TransferForm.{File, entry, set_text, IsBag}
-use Rattle.bag_text.specs.TransferReading.{set_of}
 use Rattle.bag_text.proofs.FormLemmas.{set_ok, set_again}
 
 -- one entry more is written, one less is to be written

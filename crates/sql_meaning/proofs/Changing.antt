@@ -1,20 +1,6 @@
 -- UPDATE of the row that a key names, and DELETE of the rows that pass a test, each as one edit of one table.
-use Rattle.std.proofs.Common.{◌≡◌, ◌⊎◌, ℕ, List, [], ◌∷◌, map, filter, drop, slice_get, not, Bool, true, Some, Ok, if◌then◌else◌}
-use Rattle.std.specs.List.{AllByRecursion}
-use Rattle.sqlite.specs.Order.{Row}
-use Rattle.sqlite.specs.Term.{Term}
-use Rattle.sqlite.specs.Cast.{cast_row}
-use Rattle.sqlite.specs.Table.{Table}
-use Rattle.sqlite.specs.Schema.{Schema}
-use Rattle.sqlite.specs.Tree.{rowid}
-use Rattle.sqlite.specs.Edit.{edit_of, edited, taken_by}
-use Rattle.sqlite.specs.Rowids.TheVariants.{Given}
-use Rattle.sqlite.specs.Command.TheVariants.{Update, Delete}
-use Rattle.sqlite.specs.State.{State, Executes}
-use Rattle.sqlite_trees.specs.View.{IsShaped}
+use Rattle.sql_meaning.proofs.Common.{◌≡◌, ◌⊎◌, ℕ, List, [], ◌∷◌, map, filter, drop, slice_get, not, Bool, true, Some, Ok, if◌then◌else◌, AllByRecursion, Row, Term, cast_row, Table, Schema, rowid, edit_of, edited, taken_by, Given, Update, Delete, State, Executes, IsShaped, Has, ids_of}
 use Rattle.sqlite_trees.specs.declared.store.Shape.TheVariants as shape
-use Rattle.sqlite_rules.specs.Lists.{Has}
-use Rattle.sqlite_rules.specs.Calls.{ids_of}
 use Rattle.sql_meaning.proofs.Writing.{Changes, IsIdle, Means, updates, deletes}
 use Rattle.sql_meaning.proofs.Scanning.{scan, as_program, passes, shown_of, scanned, answers_one, answer_sound, answer_complete}
 use Rattle.sql_meaning.proofs.Edits.{updated, deleted}

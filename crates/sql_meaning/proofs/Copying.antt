@@ -1,25 +1,9 @@
 -- INSERT of what a query shows of each row of another table, as one edit: the rows come over in their order.
-use Rattle.std.proofs.Common.{◌≡◌, ℕ, List, [], map, slice_get, true, false, Some, Ok, refl, ap, ◌∙◌}
-use Rattle.std.specs.List.{AllByRecursion}
-use Rattle.sqlite.specs.Order.{Row}
-use Rattle.sqlite.specs.Term.{Term}
-use Rattle.sqlite.specs.Cast.{cast_row}
+use Rattle.sql_meaning.proofs.Common.{◌≡◌, ℕ, List, [], map, slice_get, true, false, Some, Ok, refl, ap, ◌∙◌, AllByRecursion, Row, Term, cast_row, Table, Schema, rowid, edit_of, edited, Chosen, Insert, State, Executes, overlay, IsShaped, Has, all_from, ascending_weaker, map-map}
 use Rattle.sqlite.specs.Collation.{Collation}
-use Rattle.sqlite.specs.Table.{Table}
-use Rattle.sqlite.specs.Schema.{Schema}
-use Rattle.sqlite.specs.Tree.{rowid}
-use Rattle.sqlite.specs.Edit.{edit_of, edited}
-use Rattle.sqlite.specs.Rowids.TheVariants.{Chosen}
 use Rattle.sqlite.specs.Source.TheVariants.{Query}
-use Rattle.sqlite.specs.Command.TheVariants.{Insert}
-use Rattle.sqlite.specs.State.{State, Executes}
-use Rattle.sqlite_sql.specs.Program.{overlay}
-use Rattle.sqlite_trees.specs.View.{IsShaped}
 use Rattle.sqlite_trees.specs.declared.store.Shape.TheVariants as shape
-use Rattle.sqlite_rules.specs.Lists.{Has}
-use Rattle.sqlite_rules.proofs.ListLemmas.{all_from}
 use Rattle.sqlite_catalog.proofs.ListFacts.{filter_all}
-use Rattle.sqlite_keyed.proofs.ListLemmas.{ascending_weaker, map-map}
 use Rattle.sql_meaning.proofs.Writing.{Changes, IsIdle, Means, inserts_from}
 use Rattle.sql_meaning.proofs.Scanning.{scan, noting, as_program, passes, shown_of, scanned, unnoted, answers_rising}
 use Rattle.sql_meaning.proofs.RowidKeys.{rising}

@@ -1,8 +1,5 @@
 -- What CREATE TABLE and CREATE INDEX make of a schema that has no row yet.
-use Rattle.std.proofs.Common.{◌≡◌, ◌⊎◌, ℕ, List, [], Ok, refl}
-use Rattle.sqlite.specs.Schema.{Schema}
-use Rattle.sqlite.specs.Effect.{Database}
-use Rattle.sqlite.specs.State.{State, Executes}
+use Rattle.sql_meaning.proofs.Common.{◌≡◌, ◌⊎◌, ℕ, List, [], Ok, refl, Schema, Database, State, Executes}
 use Rattle.sql_meaning.specs.Making.{MakesTable, MakesIndex}
 use Rattle.sql_meaning.specs.Whole.{IsBlank}
 use Rattle.sql_meaning.specs.Growing.{Grows}

@@ -1,34 +1,12 @@
 -- What one edit makes of the list of a table's rows.
-use Rattle.std.proofs.Common.{◌≡◌, ◌&&◌, ◌||◌, ◌⊎◌, not, ℤ, pos, ◌+ℤ◌, List, [], ◌∷◌, ◌++◌, map, filter, fold, drop, Bool, true, false, cond, Ordering, Equal, Less, Greater, IsTrue, subst₂, ap₂, length, refl, sym, ap, subst, ◌∙◌, inl, inr, if◌then◌else◌, arith, append_assoc, append-nil}
-use Rattle.std.proofs.Common.{◌<ℤ◌}
+use Rattle.sql_meaning.proofs.Common.{◌≡◌, ◌&&◌, ◌||◌, ◌⊎◌, not, ℤ, pos, ◌+ℤ◌, List, [], ◌∷◌, ◌++◌, map, filter, fold, drop, Bool, true, false, cond, Ordering, Equal, Less, Greater, IsTrue, subst₂, ap₂, length, refl, sym, ap, subst, ◌∙◌, inl, inr, if◌then◌else◌, arith, append_assoc, append-nil, ◌<ℤ◌, is_eq, ordering_reverse, int_cmp, AllByRecursion, list_all, list_any, cases_Bool, and_parts, tied_itself, Value, Null, Int, Row, value_cmp, unary, is_null, cast, cast_row, Table, value_cmp-Int, value_cmp_total, Trees, rowid, IsTable, has_rowid, put_row, without_rowid, Edit, edit_of, edited, id_in, next_rowid, numbered, put_all, without_all, with_rowid, have_rowids, Chosen, Given, Has, ids_of, tied_same, all_has, all_from, has_kept, some_has, some_from, int_is, is_int, IsShaped, all-append, all_map}
 use Rattle.std.proofs.lemmas.Int.{ints}
-use Rattle.std.specs.Ordering.{is_eq, ordering_reverse, int_cmp}
-use Rattle.std.specs.List.{AllByRecursion, list_all, list_any}
-use Rattle.std.proofs.lemmas.Bool.{cases_Bool, and_parts}
-use Rattle.std.proofs.lemmas.Cmp.{tied_itself}
 use Rattle.std.proofs.lemmas.List.{length-map}
-use Rattle.sqlite.specs.declared.types.Value.{Value}
-use Rattle.sqlite.specs.declared.types.Value.TheVariants.{Null, Int}
-use Rattle.sqlite.specs.Order.{Row, value_cmp}
-use Rattle.sqlite.specs.Ops.{unary, is_null}
-use Rattle.sqlite.specs.Cast.{cast, cast_row}
 use Rattle.sqlite.specs.Kind.TheVariants.{Integer}
-use Rattle.sqlite.specs.Table.{Table}
-use Rattle.sqlite_value.proofs.OrderLemmas.{value_cmp-Int, value_cmp_total}
-use Rattle.sqlite.specs.Tree.{Trees, rowid, IsTable, has_rowid, put_row, without_rowid}
-use Rattle.sqlite.specs.Edit.{Edit, edit_of, edited, id_in, next_rowid, numbered, put_all, without_all, with_rowid, have_rowids}
-use Rattle.sqlite.specs.Rowids.TheVariants.{Chosen, Given}
-use Rattle.sqlite_rules.specs.Lists.{Has}
-use Rattle.sqlite_rules.specs.Calls.{ids_of}
-use Rattle.sqlite_rules.proofs.PlaceLemmas.{tied_same}
-use Rattle.sqlite_rules.proofs.ListLemmas.{all_has, all_from, has_kept, some_has, some_from}
-use Rattle.sqlite_rules.proofs.TableLemmas.{int_is}
 use Rattle.sqlite_rules.proofs.RowLemmas.{length-numbered}
-use Rattle.sqlite_trees.specs.View.{is_int, IsShaped}
 use Rattle.sqlite_trees.specs.declared.store.Shape.TheVariants as shape
 use Rattle.sqlite_trees.proofs.ListLemmas.{filter_same}
 use Rattle.sqlite_catalog.proofs.ListFacts.{filter_all}
-use Rattle.sqlite_keyed.proofs.ListLemmas.{all-append, all_map}
 use Rattle.sqlite_trees.proofs.TreeLemmas.{IsShaped-filter, IsShaped-put_row}
 use Rattle.sql_meaning.proofs.Typed.{all_both}
 

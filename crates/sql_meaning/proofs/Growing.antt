@@ -1,20 +1,8 @@
 -- What CREATE TABLE and CREATE INDEX add to a database, with the rows that it has.
-use Rattle.std.proofs.Common.{◌≡◌, ◌⊎◌, ℕ, List, [], ◌∷◌, ◌++◌, Ok, false, None, Some, Option, slice_get, refl, sym, ap, subst, ◌∙◌, inl, inr, append_assoc, append-nil}
-use Rattle.std.specs.List.{AllByRecursion}
-use Rattle.sqlite.specs.Order.{Row}
+use Rattle.sql_meaning.proofs.Common.{◌≡◌, ◌⊎◌, ℕ, List, [], ◌∷◌, ◌++◌, Ok, false, None, Some, Option, slice_get, refl, sym, ap, subst, ◌∙◌, inl, inr, append_assoc, append-nil, AllByRecursion, Row, CreateTable, CreateIndex, Table, Schema, Trees, Database, IsDatabase, State, Writes, Executes, mode_of, runs_as, all_weaker, all-append, all_has, all_from, has_right, IsShaped}
 use Rattle.sqlite.specs.Change.{created, indexed, next_tree, KeepsRows}
-use Rattle.sqlite.specs.Command.TheVariants.{CreateTable, CreateIndex}
-use Rattle.sqlite.specs.Table.{Table}
-use Rattle.sqlite.specs.Schema.{Schema}
-use Rattle.sqlite.specs.Tree.{Trees}
 use Rattle.sqlite.specs.Does.{Tally, lacks_sequence, AtPlace, Defines, MakesIndex as Makes}
-use Rattle.sqlite.specs.Effect.{Database, IsDatabase}
-use Rattle.sqlite.specs.State.{State, Writes, Executes, mode_of}
-use Rattle.sqlite.proofs.Callers.{runs_as}
 use Rattle.sqlite_catalog.proofs.AlterLemmas.{rows_trans, rows_fewer}
-use Rattle.sqlite_keyed.proofs.ListLemmas.{all_weaker, all-append}
-use Rattle.sqlite_rules.proofs.ListLemmas.{all_has, all_from, has_right}
-use Rattle.sqlite_trees.specs.View.{IsShaped}
 use Rattle.sqlite_trees.specs.declared.store.Shape.TheVariants as shape
 use Rattle.sql_meaning.specs.Making.{MakesTable, MakesIndex}
 use Rattle.sql_meaning.specs.Growing.{Grows}

@@ -1,22 +1,6 @@
 -- What an INSERT of one row tells of the rows that were there before it.
-use Rattle.std.proofs.Common.{◌≡◌, List, [], ◌∷◌, filter, Bool, true, false, refl, sym, ap, subst, inl, inr}
-use Rattle.std.specs.List.{AllByRecursion}
-use Rattle.std.specs.Ordering.{is_eq}
-use Rattle.std.proofs.lemmas.Bool.{cases_Bool, not-true, and_parts}
-use Rattle.std.proofs.lemmas.Cmp.{tied_itself}
-use Rattle.sqlite.specs.Order.{Row, value_cmp}
-use Rattle.sqlite.specs.Table.{Table}
-use Rattle.sqlite.specs.Schema.{Schema}
-use Rattle.sqlite.specs.Tree.{Trees, rowid}
-use Rattle.sqlite.specs.Cast.{cast_row}
-use Rattle.sqlite.specs.Edit.{edit_of, with_rowid, Applies}
-use Rattle.sqlite.specs.Rowids.TheVariants.{Chosen}
+use Rattle.sql_meaning.proofs.Common.{◌≡◌, List, [], ◌∷◌, filter, Bool, true, false, refl, sym, ap, subst, inl, inr, AllByRecursion, is_eq, cases_Bool, not-true, and_parts, tied_itself, Row, value_cmp, Table, Schema, Trees, rowid, cast_row, edit_of, with_rowid, Applies, Chosen, value_cmp_total, Has, all_has, put_all_adds, put_all_keeps, none_from_any}
 use Rattle.sqlite_schema.specs.declared.schema.Keys.{Keys}
-use Rattle.sqlite_value.proofs.OrderLemmas.{value_cmp_total}
-use Rattle.sqlite_rules.specs.Lists.{Has}
-use Rattle.sqlite_rules.proofs.ListLemmas.{all_has}
-use Rattle.sqlite_rules.proofs.TableLemmas.{put_all_adds, put_all_keeps}
-use Rattle.sqlite_keyed.proofs.ListLemmas.{none_from_any}
 use Rattle.sql_meaning.proofs.Keys.{none_pass}
 
 -- no row has the rowid of this one

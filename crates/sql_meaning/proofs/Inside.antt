@@ -1,15 +1,11 @@
 -- Calls inside a transaction: what stays, that it goes on, and calls in turn.
-use Rattle.std.proofs.Common.{◌≡◌, ◌⊎◌, inl, inr, ℕ, List, [], ◌∷◌, Bool, true, false, Option, None, Some, Ok, Err, Result, IsTrue, slice_get, refl, ap, ◌∙◌, arith}
-use Rattle.sqlite.specs.Order.{Row}
+use Rattle.sql_meaning.proofs.Common.{◌≡◌, ◌⊎◌, inl, inr, ℕ, List, [], ◌∷◌, Bool, true, false, Option, None, Some, Ok, Err, Result, IsTrue, slice_get, refl, ap, ◌∙◌, arith, Row, Trees, State, HasCleanDisk, Survives, KeepsCommit, ExecutesInside, IsUnchanged, Shown, ShowsRows, FailsToQuery, FailsToShow, IsTooLate, IsNotRun, IsRolledBack, Fails, survives_begin}
 use Rattle.sqlite.specs.Store.{Ghosts}
-use Rattle.sqlite.specs.Tree.{Trees}
 use Rattle.sqlite.specs.Held.{Held, state}
 use Rattle.sqlite.specs.declared.error.Error.{Error}
-use Rattle.sqlite.specs.State.{State, HasCleanDisk, Survives, KeepsCommit, ExecutesInside, IsUnchanged, Shown, ShowsRows, FailsToQuery, FailsToShow, IsTooLate, IsNotRun, IsRolledBack, Fails}
 use Rattle.sqlite_resolve.specs.declared.compiled.Compiled.{Compiled}
 use Rattle.sqlite_schema.specs.declared.command.Returning.{Returning}
 use Rattle.sqlite.proofs.StateLemmas.{survives_then}
-use Rattle.sqlite.proofs.Callers.{survives_begin}
 use Rattle.sql_meaning.specs.Inside.{Stays, GoesOn, GoesOnIfAny}
 
 -- a call that answered was made inside the transaction

@@ -1,27 +1,7 @@
 -- Tests by a key, and that a key finds at most one row.
-use Rattle.std.proofs.Common.{◌≡◌, ◌&&◌, ◌⊎◌, not, ℕ, ℤ, List, [], ◌∷◌, map, filter, find, slice_get, option_map, bytes_eq, Bool, true, false, Some, Ordering, Equal, Less, Greater, subst₂, refl, sym, ap, subst, ◌∙◌, inl, inr}
-use Rattle.std.specs.Ordering.{is_eq, is_ne, ordering_reverse, int_cmp}
-use Rattle.std.specs.List.{AllByRecursion, list_any}
-use Rattle.std.proofs.lemmas.Bool.{cases_Bool, not-true}
-use Rattle.std.proofs.Math.Bool.{and-true}
-use Rattle.std.proofs.lemmas.Cmp.{tied_itself}
+use Rattle.sql_meaning.proofs.Common.{◌≡◌, ◌&&◌, ◌⊎◌, not, ℕ, ℤ, List, [], ◌∷◌, map, filter, find, slice_get, option_map, bytes_eq, Bool, true, false, Some, Ordering, Equal, Less, Greater, subst₂, refl, sym, ap, subst, ◌∙◌, inl, inr, is_eq, is_ne, ordering_reverse, int_cmp, AllByRecursion, list_any, cases_Bool, not-true, and-true, tied_itself, Value, Int, Text, Blob, Row, value_cmp, Binary, is_true, from_truth, binary, Compare, Eq, value_cmp-Text, value_cmp-Blob, value_cmp-Int, value_cmp_total, rowid, IsTable, clashes, agree, differ, Has, tied_same, all_has, some_from, int_is, is_int, IsShaped}
 use Rattle.std.proofs.lemmas.Map.Text.{is_eq-slice_cmp}
-use Rattle.sqlite.specs.declared.types.Value.{Value}
-use Rattle.sqlite.specs.declared.types.Value.TheVariants.{Int, Text, Blob}
-use Rattle.sqlite.specs.Order.{Row, value_cmp}
-use Rattle.sqlite.specs.Collation.TheVariants.{Binary}
-use Rattle.sqlite.specs.Ops.{is_true, from_truth, binary}
-use Rattle.sqlite_sql.specs.declared.ops.BinaryOp.TheVariants.{Compare}
-use Rattle.sqlite_sql.specs.declared.ops.CompareOp.TheVariants.{Eq}
 use Rattle.sqlite_value.specs.declared.keys.Order.{Order}
-use Rattle.sqlite_value.proofs.OrderLemmas.{value_cmp-Text, value_cmp-Blob, value_cmp-Int, value_cmp_total}
-use Rattle.sqlite.specs.Tree.{rowid, IsTable}
-use Rattle.sqlite_schema.specs.Rules.{clashes, agree, differ}
-use Rattle.sqlite_rules.specs.Lists.{Has}
-use Rattle.sqlite_rules.proofs.PlaceLemmas.{tied_same}
-use Rattle.sqlite_rules.proofs.ListLemmas.{all_has, some_from}
-use Rattle.sqlite_rules.proofs.TableLemmas.{int_is}
-use Rattle.sqlite_trees.specs.View.{is_int, IsShaped}
 use Rattle.sqlite_trees.specs.declared.store.Shape.TheVariants as shape
 
 -- a row that a rule of its own key passes clashes with no other

@@ -1,20 +1,5 @@
 -- What LIMIT 1 answers: whether any row passes.
-use Rattle.std.proofs.Common.{◌≡◌, ℕ, pos, List, [], ◌∷◌, map, take, Bool, true, false, refl, sym, ap, ◌∙◌, inl, inr}
-use Rattle.std.specs.List.{AllByRecursion, list_any}
-use Rattle.std.proofs.lemmas.Bool.{cases_Bool}
-use Rattle.sqlite.specs.declared.types.Value.TheVariants.{Null, Int}
-use Rattle.sqlite.specs.Order.{Row}
-use Rattle.sqlite.specs.Term.{Term, lit}
-use Rattle.sqlite.specs.Query.{Query, IsSureAnswer, Output}
-use Rattle.sqlite.specs.Schema.{Schema}
-use Rattle.sqlite.specs.Tree.{Trees}
-use Rattle.sqlite.specs.State.{State, Shown}
-use Rattle.sqlite.specs.Command.TheVariants.{Select}
-use Rattle.sqlite.specs.Listing.{understood, reads_listing}
-use Rattle.sqlite.proofs.Callers.{IsPlain, command_of, reads_as}
-use Rattle.sqlite_sql.specs.Program.{overlay}
-use Rattle.sqlite_rules.specs.Lists.{Has}
-use Rattle.sqlite_rules.proofs.ListLemmas.{some_has, some_from}
+use Rattle.sql_meaning.proofs.Common.{◌≡◌, ℕ, pos, List, [], ◌∷◌, map, take, Bool, true, false, refl, sym, ap, ◌∙◌, inl, inr, AllByRecursion, list_any, cases_Bool, Null, Int, Row, Term, lit, Query, IsSureAnswer, Output, Schema, Trees, State, Shown, Select, understood, reads_listing, IsPlain, command_of, reads_as, overlay, Has, some_has, some_from}
 use Rattle.sql_meaning.proofs.Scanning.{scan, as_program, passes, shown_of, scanned, answer_sound, answer_complete, shown_same}
 
 -- SELECT project FROM table WHERE test LIMIT 1

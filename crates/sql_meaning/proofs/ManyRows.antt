@@ -1,28 +1,8 @@
 -- UPDATE of each row that passes a test, as one edit: whatever order the query shows them in, each is set at its own place.
-use Rattle.std.proofs.Common.{◌≡◌, ℕ, List, [], ◌∷◌, map, filter, drop, slice_get, not, Bool, true, false, Some, Ok, Less, refl, sym, ap, ap₂, subst, subst₂, ◌∙◌, inl, inr, if◌then◌else◌}
-use Rattle.std.specs.List.{AllByRecursion}
-use Rattle.std.specs.Ordering.{ordering_reverse}
-use Rattle.std.proofs.lemmas.Bool.{cases_Bool}
-use Rattle.sqlite.specs.Order.{Row, value_cmp}
-use Rattle.sqlite.specs.Term.{Term}
-use Rattle.sqlite.specs.Cast.{cast_row}
-use Rattle.sqlite.specs.Table.{Table}
-use Rattle.sqlite.specs.Schema.{Schema}
-use Rattle.sqlite.specs.Tree.{Trees, rowid, IsTable}
-use Rattle.sqlite.specs.Edit.{Edit, edit_of, edited, without_all, have_rowids}
-use Rattle.sqlite.specs.Rowids.TheVariants.{Given}
-use Rattle.sqlite.specs.Command.TheVariants.{Update}
-use Rattle.sqlite.specs.State.{State, Executes}
-use Rattle.sqlite_value.proofs.OrderLemmas.{value_cmp_total}
-use Rattle.sqlite_trees.specs.View.{IsShaped}
+use Rattle.sql_meaning.proofs.Common.{◌≡◌, ℕ, List, [], ◌∷◌, map, filter, drop, slice_get, not, Bool, true, false, Some, Ok, Less, refl, sym, ap, ap₂, subst, subst₂, ◌∙◌, inl, inr, if◌then◌else◌, AllByRecursion, ordering_reverse, cases_Bool, Row, value_cmp, Term, cast_row, Table, Schema, Trees, rowid, IsTable, Edit, edit_of, edited, without_all, have_rowids, Given, Update, State, Executes, value_cmp_total, IsShaped, Has, ids_of, given, put_all_has, put_all_keeps, put_all_adds, all_has, has_filtered, has_kept}
 use Rattle.sqlite_trees.specs.declared.store.Shape.TheVariants as shape
 use Rattle.sqlite_rules.specs.Edit.{are_fresh}
-use Rattle.sqlite_rules.specs.Lists.{Has}
-use Rattle.sqlite_rules.specs.Calls.{ids_of}
-use Rattle.sqlite_rules.proofs.PlaceLemmas.{given}
-use Rattle.sqlite_rules.proofs.TableLemmas.{put_all_has, put_all_keeps, put_all_adds}
 use Rattle.sqlite_rules.proofs.ProbeLemmas.{has_mapped, mapped_has}
-use Rattle.sqlite_rules.proofs.ListLemmas.{all_has, has_filtered, has_kept}
 use Rattle.sql_meaning.proofs.Writing.{Changes, IsIdle, Means, updates}
 use Rattle.sql_meaning.proofs.Scanning.{scan, as_program, passes, shown_of, scanned, answer_sound, answer_complete}
 use Rattle.sql_meaning.proofs.Edits.{deleted, edited_shaped, set_table}

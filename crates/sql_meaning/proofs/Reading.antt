@@ -1,19 +1,5 @@
 -- What a query over one table answers, from what the call says.
-use Rattle.std.proofs.Common.{◌≡◌, ◌⊎◌, ℕ, List, [], ◌∷◌, map, filter, find, slice_get, option_map, Bool, true, false, Some, Less, refl, sym, ap, ◌∙◌, inl, inr}
-use Rattle.std.specs.List.{AllByRecursion, list_any}
-use Rattle.std.proofs.lemmas.Bool.{cases_Bool}
-use Rattle.sqlite.specs.Order.{Row}
-use Rattle.sqlite.specs.Term.{Term}
-use Rattle.sqlite.specs.Query.{output, output_cmp}
-use Rattle.sqlite.specs.Schema.{Schema}
-use Rattle.sqlite.specs.State.{State, Shown}
-use Rattle.sqlite.specs.Tree.{IsAscending}
-use Rattle.sqlite.specs.Command.TheVariants.{Select}
-use Rattle.sqlite.specs.Listing.{understood, reads_listing}
-use Rattle.sqlite.proofs.Callers.{IsPlain, command_of, reads_as}
-use Rattle.sqlite_value.specs.declared.keys.Key.{Key}
-use Rattle.sqlite_rules.specs.Lists.{Has}
-use Rattle.sqlite_rules.proofs.ListLemmas.{all_from}
+use Rattle.sql_meaning.proofs.Common.{◌≡◌, ◌⊎◌, ℕ, List, [], ◌∷◌, map, filter, find, slice_get, option_map, Bool, true, false, Some, Less, refl, sym, ap, ◌∙◌, inl, inr, AllByRecursion, list_any, cases_Bool, Row, Term, output, output_cmp, Schema, State, Shown, IsAscending, Select, understood, reads_listing, IsPlain, command_of, reads_as, Key, Has, all_from}
 use Rattle.sql_meaning.proofs.Keys.{found_by}
 use Rattle.sql_meaning.proofs.Scanning.{scan, as_program, passes, shown_of, Scans, scanned, answers_one, answers_rising, shown_same}
 

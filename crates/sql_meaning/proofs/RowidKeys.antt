@@ -1,24 +1,5 @@
 -- A key that is the rowid: the test by it, and that it names at most one row.
-use Rattle.std.proofs.Common.{◌≡◌, ◌⊎◌, ℤ, List, [], ◌∷◌, filter, Bool, true, false, Equal, IsTrue, sym, ap, subst₂, ◌∙◌}
-use Rattle.std.specs.List.{AllByRecursion}
-use Rattle.std.specs.Ordering.{int_eq, int_cmp, ordering_reverse}
-use Rattle.std.proofs.Math.Bool.{and-true}
-use Rattle.std.proofs.lemmas.Cmp.{int_cmp_total}
-use Rattle.sqlite.specs.declared.types.Value.TheVariants.{Int}
-use Rattle.sqlite.specs.Order.{Row, value_cmp}
-use Rattle.sqlite.specs.Term.{Term, col, op2}
-use Rattle.sqlite.specs.Ops.{binary, is_true}
-use Rattle.sqlite.specs.Collation.TheVariants.{Binary}
-use Rattle.sqlite_sql.specs.declared.ops.BinaryOp.TheVariants.{Compare}
-use Rattle.sqlite_sql.specs.declared.ops.CompareOp.TheVariants.{Eq}
-use Rattle.sqlite_value.specs.declared.keys.Key.{Key}
-use Rattle.sqlite_value.proofs.OrderLemmas.{value_cmp-Int}
-use Rattle.sqlite.specs.Tree.{rowid}
-use Rattle.sqlite_rules.specs.Lists.{Has}
-use Rattle.sqlite_rules.proofs.PlaceLemmas.{tied_same}
-use Rattle.sqlite_rules.proofs.ListLemmas.{all_has, all_from}
-use Rattle.sqlite_rules.proofs.TableLemmas.{int_is}
-use Rattle.sqlite_trees.specs.View.{is_int, IsShaped}
+use Rattle.sql_meaning.proofs.Common.{◌≡◌, ◌⊎◌, ℤ, List, [], ◌∷◌, filter, Bool, true, false, Equal, IsTrue, sym, ap, subst₂, ◌∙◌, AllByRecursion, int_eq, int_cmp, ordering_reverse, and-true, int_cmp_total, Int, Row, value_cmp, Term, col, op2, binary, is_true, Binary, Compare, Eq, Key, value_cmp-Int, rowid, Has, tied_same, all_has, all_from, int_is, is_int, IsShaped}
 use Rattle.sqlite_trees.specs.declared.store.Shape.TheVariants as shape
 use Rattle.sql_meaning.specs.Columns.{int_at}
 use Rattle.sql_meaning.proofs.Edits.{equal_is}

@@ -1,32 +1,14 @@
 -- What a query over one table answers.
-use Rattle.std.proofs.Common.{◌≡◌, ◌⊎◌, ℕ, pos, negsuc, List, [], ◌∷◌, map, filter, find, flat_map, slice_get, unwrap_or, option_map, Bool, true, false, None, Some, Less, refl, sym, ap, subst, ◌∙◌, inl, inr, if◌then◌else◌}
-use Rattle.std.specs.List.{list_all, AllByRecursion}
-use Rattle.sqlite.proofs.Callers.{one_permutation, IsPlain}
-use Rattle.sqlite.specs.State.{State, Shown, IsUnchanged}
-use Rattle.sqlite.specs.Schema.{Schema}
-use Rattle.sqlite.specs.Listing.{understood}
-use Rattle.sqlite_rules.specs.Lists.{Has}
+use Rattle.sql_meaning.proofs.Common.{◌≡◌, ◌⊎◌, ℕ, pos, negsuc, List, [], ◌∷◌, map, filter, find, flat_map, slice_get, unwrap_or, option_map, Bool, true, false, None, Some, Less, refl, sym, ap, subst, ◌∙◌, inl, inr, if◌then◌else◌, list_all, AllByRecursion, one_permutation, IsPlain, State, Shown, IsUnchanged, Schema, understood, Has, IsAscending, ascending-map, ascending-filter, map-map, all_from, has_contained, contains_had, has_filtered, has_kept, cases_Bool, Value, Null, Int, Row, Term, eval_all, holds, lit, Query, inner, end, IsAnswerAs, IsSureAnswer, matches_as, output, output_cmp, Output, Trees, Key, overlay}
 use Rattle.sqlite_trees.proofs.ListLemmas.{filter_same}
 use Rattle.sqlite_rules.proofs.ProbeLemmas.{has_mapped, mapped_has}
 use Rattle.sql_meaning.proofs.Keys.{found_by}
-use Rattle.sqlite.specs.Tree.{IsAscending}
 use Rattle.sqlite_keyed.proofs.SortLemmas.{sorted_unique}
-use Rattle.sqlite_keyed.proofs.ListLemmas.{ascending-map, ascending-filter, map-map}
 use Rattle.sqlite_sql.proofs.QueryLemmas.{output_cmp_total}
-use Rattle.sqlite_rules.proofs.ListLemmas.{all_from, has_contained, contains_had, has_filtered, has_kept}
-use Rattle.std.proofs.lemmas.Bool.{cases_Bool}
 use Rattle.std.specs.List.Sorted.{IsPermutation, IsSorted}
 use Rattle.std.proofs.lemmas.List.Sorted.{length_permutation, Contains-permutation, IsPermutation-sym}
-use Rattle.sqlite.specs.declared.types.Value.{Value}
-use Rattle.sqlite.specs.declared.types.Value.TheVariants.{Null, Int}
-use Rattle.sqlite.specs.Order.{Row}
-use Rattle.sqlite.specs.Term.{Term, eval_all, holds, lit}
-use Rattle.sqlite.specs.Query.{Query, inner, end, IsAnswerAs, IsSureAnswer, matches_as, output, output_cmp, Output}
-use Rattle.sqlite.specs.Tree.{Trees}
 use Rattle.sqlite.specs.Collation.{Collation}
-use Rattle.sqlite_value.specs.declared.keys.Key.{Key}
 use Rattle.sqlite_schema.specs.declared.program.Program.{Program}
-use Rattle.sqlite_sql.specs.Program.{overlay}
 
 -- SELECT project FROM table WHERE test ORDER BY order
 abbrev pub scan : ℕ → List Term → List Term → List (Term × Key) → Query

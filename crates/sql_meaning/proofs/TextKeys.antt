@@ -1,20 +1,7 @@
 -- A text column that is a key: the test by it, and that it names at most one row.
-use Rattle.std.proofs.Common.{◌≡◌, ◌&&◌, ◌||◌, ap₂, ◌⊎◌, not, ℕ, List, [], ◌∷◌, filter, bytes_eq, Bool, true, refl, ap, ◌∙◌}
-use Rattle.std.specs.List.{AllByRecursion, list_any}
-use Rattle.std.proofs.Math.Bool.{and-true}
-use Rattle.sqlite.specs.declared.types.Value.TheVariants.{Text}
-use Rattle.sqlite.specs.Order.{Row, column}
-use Rattle.sqlite.specs.Term.{Term, col, op2}
-use Rattle.sqlite.specs.Ops.{binary, is_true}
-use Rattle.sqlite.specs.Collation.TheVariants.{Binary}
-use Rattle.sqlite_sql.specs.declared.ops.BinaryOp.TheVariants.{Compare}
-use Rattle.sqlite_sql.specs.declared.ops.CompareOp.TheVariants.{Eq}
+use Rattle.sql_meaning.proofs.Common.{◌≡◌, ◌&&◌, ◌||◌, ap₂, ◌⊎◌, not, ℕ, List, [], ◌∷◌, filter, bytes_eq, Bool, true, refl, ap, ◌∙◌, AllByRecursion, list_any, and-true, Text, Row, column, Term, col, op2, binary, is_true, Binary, Compare, Eq, clashes, agree, Has, all_has, all_from, IsShaped}
 use Rattle.sqlite_value.specs.Keys.{first_key, plain}
-use Rattle.sqlite_schema.specs.Rules.{clashes, agree}
-use Rattle.sqlite_rules.specs.Lists.{Has}
 use Rattle.sqlite_rules.proofs.KeyLemmas.{agree_back, agree_chain}
-use Rattle.sqlite_rules.proofs.ListLemmas.{all_has, all_from}
-use Rattle.sqlite_trees.specs.View.{IsShaped}
 use Rattle.sqlite_trees.specs.declared.store.Shape.TheVariants as shape
 use Rattle.sql_meaning.specs.Columns.{bytes_at}
 use Rattle.sql_meaning.proofs.Scanning.{passes}

@@ -1,18 +1,7 @@
 -- A change leaves the database whole.
-use Rattle.std.proofs.Common.{◌≡◌, ◌≢◌, ◌==◌, true, false, ℕ, arith, List, [], ◌∷◌, sym, ap, subst, ◌∙◌, inl, inr}
-use Rattle.std.specs.List.{AllByRecursion}
-use Rattle.std.proofs.lemmas.Bool.{cases_Bool, cases_lt}
+use Rattle.sql_meaning.proofs.Common.{◌≡◌, ◌≢◌, ◌==◌, true, false, ℕ, arith, List, [], ◌∷◌, sym, ap, subst, ◌∙◌, inl, inr, AllByRecursion, cases_Bool, cases_lt, Row, Table, Schema, Trees, Edit, edited, have_rowids, State, Database, Keeps, IsShaped}
 use Rattle.std.proofs.lemmas.Bool.Decides.{nat_tests}
-use Rattle.sqlite.specs.Order.{Row}
-use Rattle.sqlite.specs.Table.{Table}
-use Rattle.sqlite.specs.Schema.{Schema}
-use Rattle.sqlite.specs.Tree.{Trees}
-use Rattle.sqlite.specs.Edit.{Edit, edited, have_rowids}
-use Rattle.sqlite.specs.State.{State}
-use Rattle.sqlite.specs.Effect.{Database}
-use Rattle.sqlite_schema.specs.Rules.{Keeps}
 use Rattle.sqlite_schema.specs.declared.schema.Constraint.{Constraint}
-use Rattle.sqlite_trees.specs.View.{IsShaped}
 use Rattle.sqlite_trees.specs.declared.store.Shape.TheVariants as shape
 use Rattle.sql_meaning.specs.Whole.{IsWhole, AreShaped, IsBlank, Sets}
 pub use Rattle.sql_meaning.specs.Whole.{with_rows}

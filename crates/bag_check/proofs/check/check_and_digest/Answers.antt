@@ -1,8 +1,6 @@
-use Rattle.std.proofs.Common.{map, ap, subst, ◌∙◌}
-use Rattle.std.specs.Prelude.{Contains}
-use Rattle.bag_check.specs.Answers.{listed_seen}
+use Rattle.bag_check.proofs.Common.{map, ap, subst, ◌∙◌, Contains, listed_seen}
+use Rattle.bag_check.proofs.Lemmas.{digests_are, right_of}
 use Rattle.bag_check.specs.Digests.{digests_of}
-use Rattle.bag_check.proofs.DigestLemmas.{digests_are, right_of}
 use Rattle.bag_check.proofs.check.check_and_digest.Goals as goal
 
 pub digests_of-requires : goal.digests_of-requires

@@ -1,10 +1,5 @@
-use Rattle.std.proofs.Common.{◌∙◌, sym, rules}
-use Rattle.std.proofs.lemmas.Iterator.{YieldsList-from_slice}
-use Rattle.std.proofs.lemmas.Iterator.Search.{any_from_yields_List}
-use Rattle.bag_check.specs.Contents.{is_kind}
-use Rattle.bag_check.specs.declared.names.Kind.TheVariants.{Payload}
-use Rattle.bag_check.specs.Answers.{named_seen}
-use Rattle.bag_check.proofs.CodeLemmas.{any_map}
+use Rattle.bag_check.proofs.Common.{◌∙◌, sym, rules, YieldsList-from_slice, any_from_yields_List, is_kind, Payload, named_seen}
+use Rattle.bag_check.proofs.Lemmas.{any_map}
 use Rattle.bag_check.proofs.check.has_payload_manifest.Goals as goal
 
 pub returns : goal.returns

@@ -1,11 +1,5 @@
-use Rattle.std.proofs.Common.{◌≡◌, ◌∙◌, ap, sym, map, length}
-use Rattle.std.specs.Prelude.{Ok}
-use Rattle.std.proofs.lemmas.List.{length-map}
-use Rattle.bag_check.specs.Judging.{listings_in, keeps, listing_rules, keeps_contents}
-use Rattle.bag_check.specs.Validity.{payload_files, payload_bytes}
-use Rattle.bag_check.specs.Answers.{listed_seen, report_seen}
-use Rattle.bag_check.proofs.CodeLemmas.{judged}
-use Rattle.bag_check.proofs.DigestLemmas.{fixity_kept}
+use Rattle.bag_check.proofs.Common.{◌≡◌, ◌∙◌, ap, sym, map, length, Ok, length-map, listings_in, keeps, listing_rules, keeps_contents, payload_files, payload_bytes, listed_seen, report_seen}
+use Rattle.bag_check.proofs.Lemmas.{judged, fixity_kept}
 use Rattle.bag_check.proofs.check.judge_files.Goals as goal
 
 pub returns-clause-fixity : goal.returns-clause-fixity

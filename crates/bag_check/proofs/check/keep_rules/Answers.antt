@@ -1,11 +1,5 @@
-use Rattle.std.proofs.Common.{◌∙◌, map, ap, sym}
-use Rattle.std.proofs.lemmas.List.{drop_all}
-use Rattle.std.proofs.lemmas.Result.{err_from_is_err_and}
-use Rattle.bag_text.proofs.ResultLemmas.{fails_on}
-use Rattle.bag_check.specs.declared.rule.Rule.TheVariants.{OutsidePayload}
-use Rattle.bag_check.specs.Judging.{keeps}
-use Rattle.bag_check.specs.Answers.{listed_seen, named_fault}
-use Rattle.bag_check.proofs.CodeLemmas.{keeps_from}
+use Rattle.bag_check.proofs.Common.{◌∙◌, map, ap, sym, drop_all, err_from_is_err_and, fails_on, OutsidePayload, keeps, listed_seen, named_fault}
+use Rattle.bag_check.proofs.Lemmas.{keeps_from}
 use Rattle.bag_check.proofs.check.keep_rules.Goals as goal
 
 pub returns-in_err-keep_rule : goal.returns-in_err-keep_rule

@@ -1,6 +1,4 @@
-use Rattle.std.proofs.Common.{◌≡◌, map, drop}
-use Rattle.bag_check.specs.Judging.{keeps}
-use Rattle.bag_check.specs.Answers.{listed_seen}
+use Rattle.bag_check.proofs.Common.{◌≡◌, map, drop, keeps, listed_seen}
 use Rattle.bag_check.proofs.check.keep_rules.Given as goal
 
 abbrev pub invariant-loop-rule : goal.invariant-loop-rule

@@ -1,6 +1,4 @@
-use Rattle.std.proofs.Common.{map, sym}
-use Rattle.bag_text.proofs.ElementLemmas.{contains_has, has_contains, has_map}
-use Rattle.bag_check.specs.Answers.{listed_seen}
+use Rattle.bag_check.proofs.Common.{map, sym, contains_has, has_contains, has_map, listed_seen}
 use Rattle.bag_check.proofs.digests.digest_of.Goals as goal
 
 pub returns-in-Some : goal.returns-in-Some

@@ -1,7 +1,5 @@
-use Rattle.std.proofs.Common.{Bor, List, ℕ, [], slice_index_or}
-use Rattle.bag_text.specs.TransferReading.{file_of, files_of}
-use Rattle.bag_text.proofs.ElementLemmas.{has_contains, has_map}
-use Rattle.bag_check.proofs.DigestLemmas.{item_has}
+use Rattle.bag_check.proofs.Common.{Bor, List, ℕ, [], slice_index_or, file_of, files_of, has_contains, has_map}
+use Rattle.bag_check.proofs.Lemmas.{item_has}
 use Rattle.bag_check.proofs.digests.digests_of.Goals as goal
 
 abbrev none : Bor (List ℕ) × Bor (List ℕ)

@@ -1,4 +1,4 @@
-use Rattle.std.proofs.Common.{◌≡◌, map, take}
+use Rattle.bag_check.proofs.Common.{◌≡◌, map, take}
 use Rattle.sha2.specs.Sha256.{sha256}
 use Rattle.bag_check.proofs.digests.digests_of.Given as goal
 

@@ -1,6 +1,5 @@
-use Rattle.std.proofs.Common.{subst}
-use Rattle.bag_text.specs.ManifestReading.{HasEntry}
-use Rattle.bag_check.proofs.DigestLemmas.{lists_sha256}
+use Rattle.bag_check.proofs.Common.{subst, HasEntry}
+use Rattle.bag_check.proofs.Lemmas.{lists_sha256}
 use Rattle.bag_check.proofs.digests.listed_digest.Goals as goal
 
 pub returns-in-Sha256-clause-listed : goal.returns-in-Sha256-clause-listed

@@ -1,4 +1,4 @@
-use Rattle.bag_check.proofs.CodeLemmas.{escapes}
+use Rattle.bag_check.proofs.Lemmas.{escapes}
 use Rattle.bag_check.proofs.display.escaped_bytes.Goals as goal
 
 pub returns : goal.returns

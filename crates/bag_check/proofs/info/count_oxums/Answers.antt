@@ -1,8 +1,5 @@
-use Rattle.std.proofs.Common.{◌≡◌, ◌∙◌, sym, rules}
-use Rattle.std.specs.List.{count_by}
-use Rattle.bag_text.specs.InfoReading.{pair_in}
-use Rattle.bag_check.specs.Validity.{is_oxum}
-use Rattle.bag_check.proofs.CodeLemmas.{count_oxums}
+use Rattle.bag_check.proofs.Common.{◌≡◌, ◌∙◌, sym, rules, count_by, pair_in, is_oxum}
+use Rattle.bag_check.proofs.Lemmas.{count_oxums}
 use Rattle.bag_check.proofs.info.count_oxums.Goals as goal
 
 pub returns : goal.returns

@@ -1,12 +1,5 @@
-use Rattle.std.proofs.Common.{◌∙◌, ◌&&◌, sym, rules}
-use Rattle.std.specs.Cow.{cow_str_bytes}
-use Rattle.std.proofs.lemmas.Iterator.{YieldsList-from_slice}
-use Rattle.std.proofs.lemmas.Iterator.Search.{any_from_yields_List}
-use Rattle.bag_text.specs.InfoReading.{pair_in}
-use Rattle.bag_check.specs.Validity.{is_oxum}
-use Rattle.bag_check.specs.OxumReading.{counts_of}
-use Rattle.bag_check.specs.Judging.{are_others}
-use Rattle.bag_check.proofs.CodeLemmas.{any_oxum}
+use Rattle.bag_check.proofs.Common.{◌∙◌, ◌&&◌, sym, rules, cow_str_bytes, YieldsList-from_slice, any_from_yields_List, pair_in, is_oxum, counts_of, are_others}
+use Rattle.bag_check.proofs.Lemmas.{any_oxum}
 use Rattle.bag_check.proofs.info.has_others.Goals as goal
 
 pub returns : goal.returns

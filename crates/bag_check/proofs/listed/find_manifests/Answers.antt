@@ -1,11 +1,5 @@
-use Rattle.std.proofs.Common.{◌∙◌, ◌+◌, drop, get_or, map, ap, [], Bor, List, ℕ}
-use Rattle.std.specs.Prelude.{option_map, Ok}
-use Rattle.std.proofs.lemmas.List.{drop_more, drop_all, map_push}
-use Rattle.std.proofs.lemmas.Result.{err_from_is_err_and}
-use Rattle.bag_text.specs.TransferReading.{files_of, file_of}
-use Rattle.bag_check.specs.Judging.{manifests_in}
-use Rattle.bag_check.specs.Answers.{named_seen, named_fault}
-use Rattle.bag_check.proofs.CodeLemmas.{manifests_fail, manifests_take, manifests_skip, manifests_done}
+use Rattle.bag_check.proofs.Common.{◌∙◌, ◌+◌, drop, get_or, map, ap, [], Bor, List, ℕ, option_map, Ok, drop_more, drop_all, map_push, err_from_is_err_and, files_of, file_of, manifests_in, named_seen, named_fault}
+use Rattle.bag_check.proofs.Lemmas.{manifests_fail, manifests_take, manifests_skip, manifests_done}
 use Rattle.bag_check.proofs.listed.find_manifests.Goals.{in-Some+in_ok-push, in_default}
 use Rattle.bag_check.proofs.listed.find_manifests.Goals as goal
 

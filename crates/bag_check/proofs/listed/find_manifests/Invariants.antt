@@ -1,8 +1,4 @@
-use Rattle.std.proofs.Common.{◌≡◌, map, drop}
-use Rattle.bag_text.specs.TransferReading.{files_of}
-use Rattle.bag_check.specs.Judging.{manifests_in}
-use Rattle.bag_check.specs.Answers.{named_seen}
-use Rattle.bag_text.proofs.ResultLemmas.{fronted}
+use Rattle.bag_check.proofs.Common.{◌≡◌, map, drop, files_of, manifests_in, named_seen, fronted}
 use Rattle.bag_check.proofs.listed.find_manifests.Given as goal
 
 abbrev pub invariant-loop-file : goal.invariant-loop-file

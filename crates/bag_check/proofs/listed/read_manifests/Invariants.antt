@@ -1,7 +1,4 @@
-use Rattle.std.proofs.Common.{◌≡◌, map, drop}
-use Rattle.bag_check.specs.Judging.{listings_of}
-use Rattle.bag_check.specs.Answers.{named_seen, listed_seen}
-use Rattle.bag_text.proofs.ResultLemmas.{fronted}
+use Rattle.bag_check.proofs.Common.{◌≡◌, map, drop, listings_of, named_seen, listed_seen, fronted}
 use Rattle.bag_check.proofs.listed.read_manifests.Given as goal
 
 abbrev pub invariant-loop-named : goal.invariant-loop-named

@@ -1,7 +1,4 @@
-use Rattle.std.proofs.Common.{◌∙◌, ap, length, not, rules, unwrap_or}
-use Rattle.std.specs.Char.{is_ascii_digit}
-use Rattle.std.proofs.lemmas.Iterator.{YieldsList-from_slice}
-use Rattle.std.proofs.lemmas.Iterator.Search.{position_from_yields_List}
+use Rattle.bag_check.proofs.Common.{◌∙◌, ap, length, not, rules, unwrap_or, is_ascii_digit, YieldsList-from_slice, position_from_yields_List}
 use Rattle.bag_text.proofs.LineLemmas.{found_or_len}
 use Rattle.bag_check.proofs.oxum.digit_len.Goals as goal
 

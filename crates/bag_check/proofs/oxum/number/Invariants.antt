@@ -1,7 +1,4 @@
-use Rattle.std.proofs.Common.{◌≡◌, ◌<◌, ◌^◌, true, drop}
-use Rattle.std.specs.List.{list_all}
-use Rattle.std.specs.Char.{is_ascii_digit}
-use Rattle.bag_check.specs.Validity.{number_from}
+use Rattle.bag_check.proofs.Common.{◌≡◌, ◌<◌, ◌^◌, true, drop, list_all, is_ascii_digit, number_from}
 use Rattle.bag_check.proofs.oxum.number.Given as goal
 
 abbrev pub invariant-loop-digit : goal.invariant-loop-digit

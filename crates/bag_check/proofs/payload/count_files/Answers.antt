@@ -1,7 +1,5 @@
-use Rattle.std.proofs.Common.{◌∙◌, ◌+◌, drop, get_or, sym, ap, [], arith, Bor, List, ℕ}
-use Rattle.std.proofs.lemmas.List.{drop_more}
-use Rattle.bag_text.specs.TransferReading.{files_of, file_of}
-use Rattle.bag_check.proofs.CodeLemmas.{few_payload, small_payload, count_take}
+use Rattle.bag_check.proofs.Common.{◌∙◌, ◌+◌, drop, get_or, sym, ap, [], arith, Bor, List, ℕ, drop_more, files_of, file_of}
+use Rattle.bag_check.proofs.Lemmas.{few_payload, small_payload, count_take}
 use Rattle.bag_check.proofs.payload.count_files.Goals as goal
 
 abbrev none : Bor (List ℕ) × Bor (List ℕ)

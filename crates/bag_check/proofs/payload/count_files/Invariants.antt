@@ -1,6 +1,4 @@
-use Rattle.std.proofs.Common.{◌≡◌, ◌+◌, drop}
-use Rattle.bag_text.specs.TransferReading.{files_of}
-use Rattle.bag_check.specs.Validity.{payload_files, payload_bytes}
+use Rattle.bag_check.proofs.Common.{◌≡◌, ◌+◌, drop, files_of, payload_files, payload_bytes}
 use Rattle.bag_check.proofs.payload.count_files.Given as goal
 
 abbrev pub invariant-loop-file : goal.invariant-loop-file

@@ -1,7 +1,4 @@
-use Rattle.std.proofs.Common.{◌≡◌, map}
-use Rattle.std.specs.Prelude.{find}
-use Rattle.bag_text.specs.ManifestReading.{entry_in}
-use Rattle.bag_check.specs.Judging.{breaks_at}
+use Rattle.bag_check.proofs.Common.{◌≡◌, map, find, entry_in, breaks_at}
 use Rattle.bag_check.proofs.place.first_listed.Given as goal
 
 abbrev pub invariant-loop-path : goal.invariant-loop-path

@@ -1,10 +1,5 @@
-use Rattle.std.proofs.Common.{◌∙◌, sym, ap, map}
-use Rattle.std.specs.Prelude.{option_map}
-use Rattle.std.specs.Cow.{cow_str_bytes}
-use Rattle.std.proofs.lemmas.List.{drop_all}
-use Rattle.bag_check.specs.Judging.{first_place}
-use Rattle.bag_check.specs.Answers.{listed_seen}
-use Rattle.bag_check.proofs.CodeLemmas.{next_item, place_found, place_later, place_none}
+use Rattle.bag_check.proofs.Common.{◌∙◌, sym, ap, map, option_map, cow_str_bytes, drop_all, first_place, listed_seen}
+use Rattle.bag_check.proofs.Lemmas.{next_item, place_found, place_later, place_none}
 use Rattle.bag_check.proofs.place.first_place.Goals as goal
 
 pub returns-in-Some : goal.returns-in-Some

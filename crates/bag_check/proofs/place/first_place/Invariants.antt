@@ -1,6 +1,4 @@
-use Rattle.std.proofs.Common.{◌≡◌, map, drop}
-use Rattle.bag_check.specs.Judging.{first_place}
-use Rattle.bag_check.specs.Answers.{listed_seen}
+use Rattle.bag_check.proofs.Common.{◌≡◌, map, drop, first_place, listed_seen}
 use Rattle.bag_check.proofs.place.first_place.Given as goal
 
 abbrev pub invariant-loop-one : goal.invariant-loop-one

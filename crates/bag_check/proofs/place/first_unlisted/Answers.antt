@@ -1,7 +1,5 @@
-use Rattle.std.proofs.Common.{◌∙◌, get_or, ap, sym, [], Bor, List, ℕ}
-use Rattle.std.proofs.lemmas.List.{drop_more}
-use Rattle.bag_text.specs.TransferReading.{files_of, file_of}
-use Rattle.bag_check.proofs.CodeLemmas.{unlisted, unlisted_here, unlisted_passed, unlisted_listed, found_by_bytes}
+use Rattle.bag_check.proofs.Common.{◌∙◌, get_or, ap, sym, [], Bor, List, ℕ, drop_more, files_of, file_of}
+use Rattle.bag_check.proofs.Lemmas.{unlisted, unlisted_here, unlisted_passed, unlisted_listed, found_by_bytes}
 use Rattle.bag_check.proofs.place.first_unlisted.Goals.{else-asks_for-via-then-asks_for+else-not-lists, else-asks_for-via-else-asks_for}
 use Rattle.bag_check.proofs.place.first_unlisted.Goals as goal
 

@@ -1,6 +1,5 @@
-use Rattle.std.proofs.Common.{◌≡◌, drop}
-use Rattle.bag_text.specs.TransferReading.{files_of}
-use Rattle.bag_check.proofs.CodeLemmas.{unlisted}
+use Rattle.bag_check.proofs.Common.{◌≡◌, drop, files_of}
+use Rattle.bag_check.proofs.Lemmas.{unlisted}
 use Rattle.bag_check.proofs.place.first_unlisted.Given as goal
 
 abbrev pub invariant-loop-file : goal.invariant-loop-file

@@ -1,5 +1,5 @@
-use Rattle.bag_text.specs.TransferReading.{files_of}
-use Rattle.bag_text.proofs.BagListLemmas.{ascends}
+use Rattle.bag_text.proofs.Common.{files_of}
+use Rattle.bag_text.proofs.Lemmas.{ascends}
 use Rattle.bag_text.proofs.bag_list.fault_in.Goals as goal
 
 -- files without fault ascend

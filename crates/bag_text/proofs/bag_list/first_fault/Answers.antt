@@ -1,7 +1,5 @@
-use Rattle.std.proofs.Common.{[], rules}
-use Rattle.bag_text.specs.TransferReading.{file_of, files_of}
-use Rattle.bag_text.specs.BagList.{fault_from}
-use Rattle.bag_text.proofs.BagListLemmas.{passed, met, none_left}
+use Rattle.bag_text.proofs.Common.{[], rules, file_of, files_of, fault_from}
+use Rattle.bag_text.proofs.Lemmas.{passed, met, none_left}
 use Rattle.bag_text.proofs.bag_list.first_fault.Goals as goal
 
 pub returns-in-Some : goal.returns-in-Some

@@ -1,6 +1,4 @@
-use Rattle.std.proofs.Common.{◌≡◌, [], drop, map}
-use Rattle.bag_text.specs.TransferReading.{file_of, files_of}
-use Rattle.bag_text.specs.BagList.{fault_from}
+use Rattle.bag_text.proofs.Common.{◌≡◌, [], drop, map, file_of, files_of, fault_from}
 use Rattle.bag_text.proofs.bag_list.first_fault.Given as goal
 
 abbrev pub invariant-loop-file : goal.invariant-loop-file

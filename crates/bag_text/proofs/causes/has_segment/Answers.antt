@@ -1,7 +1,4 @@
-use Rattle.std.proofs.Common.{eqb, rules}
-use Rattle.std.specs.Prelude.{bytes_eq}
-use Rattle.std.proofs.lemmas.Iterator.Search.{any_from_yields_List}
-use Rattle.std.proofs.lemmas.Iterator.Splits.{YieldsList-from_slice_split}
+use Rattle.bag_text.proofs.Common.{eqb, rules, bytes_eq, any_from_yields_List, YieldsList-from_slice_split}
 use Rattle.bag_text.proofs.causes.has_segment.Goals as goal
 
 pub returns : goal.returns

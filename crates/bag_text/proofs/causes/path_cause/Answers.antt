@@ -1,6 +1,4 @@
-use Rattle.std.proofs.Common.{◌≡◌, ◌∙◌, ap, sym, false}
-use Rattle.bag_text.specs.Text.{begins_with}
-use Rattle.bag_text.specs.Manifest.{decode, path_text}
+use Rattle.bag_text.proofs.Common.{◌≡◌, ◌∙◌, ap, sym, false, begins_with, decode, path_text}
 use Rattle.bag_text.proofs.PathCauseLemmas.{found_where_bad}
 use Rattle.bag_text.proofs.causes.path_cause.Goals as goal
 

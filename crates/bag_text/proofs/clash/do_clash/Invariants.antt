@@ -1,8 +1,5 @@
-use Rattle.std.proofs.Common.{◌≡◌, drop, map}
-use Rattle.std.specs.List.{list_any}
-use Rattle.bag_text.specs.TransferForm.{clashes}
-use Rattle.bag_text.specs.TransferReading.{file_of, files_of}
-use Rattle.bag_text.proofs.ClashLemmas.{clash_at}
+use Rattle.bag_text.proofs.Common.{◌≡◌, drop, map, list_any, clashes, file_of, files_of}
+use Rattle.bag_text.proofs.Lemmas.{clash_at}
 use Rattle.bag_text.proofs.clash.do_clash.Given as goal
 
 abbrev pub invariant-loop-file : goal.invariant-loop-file

@@ -1,5 +1,5 @@
-use Rattle.std.proofs.Common.{◌∙◌, sym, refl, ◌++◌, ◌∷◌, []}
-use Rattle.bag_text.proofs.OrderLemmas.{begins_is, found_is}
+use Rattle.bag_text.proofs.Common.{◌∙◌, sym, refl, ◌++◌, ◌∷◌, []}
+use Rattle.bag_text.proofs.Lemmas.{begins_is, found_is}
 use Rattle.bag_text.proofs.clash.has_under.Goals as goal
 
 pub returns-in-Some : goal.returns-in-Some

@@ -1,8 +1,5 @@
-use Rattle.std.proofs.Common.{◌≡◌, ◌∙◌, sym, ap, ◌++◌}
-use Rattle.bag_text.specs.Paths.{lies_under}
-use Rattle.std.proofs.lemmas.Bool.Decides.{Decides-eqb}
-use Rattle.std.proofs.lemmas.Slice.Eq.{strip_prefix_is}
-use Rattle.bag_text.proofs.ClashLemmas.{under_rest, not_under}
+use Rattle.bag_text.proofs.Common.{◌≡◌, ◌∙◌, sym, ap, ◌++◌, lies_under, Decides-eqb, strip_prefix_is}
+use Rattle.bag_text.proofs.Lemmas.{under_rest, not_under}
 use Rattle.bag_text.proofs.clash.is_under.Goals as goal
 
 pub returns-in-Some : goal.returns-in-Some

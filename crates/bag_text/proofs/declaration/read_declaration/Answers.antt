@@ -1,4 +1,4 @@
-use Rattle.std.proofs.Common.{◌∙◌}
+use Rattle.bag_text.proofs.Common.{◌∙◌}
 use Rattle.bag_text.proofs.DeclarationLemmas.{answer_declared, declared_again, answer_refused, refused_again}
 use Rattle.bag_text.proofs.declaration.read_declaration.Goals as goal
 

@@ -1,6 +1,5 @@
-use Rattle.std.proofs.Common.{◌≡◌, refl, arith, length}
-use Rattle.std.proofs.lemmas.Bool.Decides.{nat_tests}
-use Rattle.bag_text.proofs.LineLemmas.{no_lines}
+use Rattle.bag_text.proofs.Common.{◌≡◌, refl, arith, length, nat_tests}
+use Rattle.bag_text.proofs.Lemmas.{no_lines}
 use Rattle.bag_text.proofs.declaration.two_lines.Goals as goal
 
 pub returns-then-is_empty-3 : goal.returns-then-is_empty-3

@@ -1,8 +1,6 @@
-use Rattle.std.proofs.Common.{◌≡◌, ◌<◌, ◌∙◌, sym, ap, subst, List, length, ℕ, arith}
-use Rattle.std.proofs.lemmas.Bool.Decides.{nat_tests}
-use Rattle.bag_text.specs.InfoReading.{pairs_of}
+use Rattle.bag_text.proofs.Common.{◌≡◌, ◌<◌, ◌∙◌, sym, ap, subst, List, length, ℕ, arith, nat_tests, pairs_of}
+use Rattle.bag_text.proofs.Lemmas.{skipped_text, more_than_blanks, no_rest, add_continued, marked_more, pair_feed}
 use Rattle.bag_text.proofs.InfoLemmas.{add_blank}
-use Rattle.bag_text.proofs.InfoReadLemmas.{skipped_text, more_than_blanks, no_rest, add_continued, marked_more, pair_feed}
 use Rattle.bag_text.proofs.info.add_line.Goals as goal
 
 pub returns-then-is_empty-clause-value : goal.returns-then-is_empty-clause-value

@@ -1,6 +1,5 @@
-use Rattle.std.proofs.Common.{ap}
-use Rattle.std.specs.Prelude.{option_map}
-use Rattle.bag_text.proofs.InfoReadLemmas.{was_cut, label_text, value_text}
+use Rattle.bag_text.proofs.Common.{ap, option_map}
+use Rattle.bag_text.proofs.Lemmas.{was_cut, label_text, value_text}
 use Rattle.bag_text.proofs.info.read_pair.Goals as goal
 
 -- a label is text

@@ -1,8 +1,5 @@
-use Rattle.std.proofs.Common.{◌≡◌, ◌+◌, ◌≤◌, length, []}
-use Rattle.std.specs.List.{AllByRecursion}
-use Rattle.bag_text.specs.Lines.{lines}
-use Rattle.bag_text.specs.InfoReading.{pairs_from, pairs_of, AreMarked}
-use Rattle.bag_text.proofs.InfoReadLemmas.{IsSoundLine}
+use Rattle.bag_text.proofs.Common.{◌≡◌, ◌+◌, ◌≤◌, length, [], AllByRecursion, lines, pairs_from, pairs_of, AreMarked}
+use Rattle.bag_text.proofs.Lemmas.{IsSoundLine}
 use Rattle.bag_text.proofs.info.read_pairs.Given as goal
 
 abbrev pub invariant-loop-rest : goal.invariant-loop-rest

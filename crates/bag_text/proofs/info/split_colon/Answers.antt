@@ -1,4 +1,4 @@
-use Rattle.bag_text.proofs.InfoReadLemmas.{nothing_behind, something_behind}
+use Rattle.bag_text.proofs.Lemmas.{nothing_behind, something_behind}
 use Rattle.bag_text.proofs.info.split_colon.Goals as goal
 
 pub returns-in-empty : goal.returns-in-empty

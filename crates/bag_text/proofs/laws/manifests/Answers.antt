@@ -1,4 +1,4 @@
-use Rattle.bag_text.proofs.ManifestLaws.{read_is_manifest, manifest_is_read, refused_is_fault, fault_is_refused, entries_iff}
+use Rattle.bag_text.proofs.Lemmas.{read_is_manifest, manifest_is_read, refused_is_fault, fault_is_refused, entries_iff}
 use Rattle.bag_text.proofs.laws.manifests.Goals as goal
 
 pub returns-clause-read : goal.returns-clause-read

@@ -1,4 +1,4 @@
-use Rattle.bag_text.proofs.ClashLemmas.{clash_law}
+use Rattle.bag_text.proofs.Lemmas.{clash_law}
 use Rattle.bag_text.proofs.laws.one_clash.Goals as goal
 
 pub returns : goal.returns

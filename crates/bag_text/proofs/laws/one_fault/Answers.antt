@@ -1,4 +1,4 @@
-use Rattle.bag_text.proofs.RefusalLemmas.{form_or_fault, form_has_none, one_fault_stands}
+use Rattle.bag_text.proofs.Lemmas.{form_or_fault, form_has_none, one_fault_stands}
 use Rattle.bag_text.proofs.laws.one_fault.Goals as goal
 
 pub returns : goal.returns

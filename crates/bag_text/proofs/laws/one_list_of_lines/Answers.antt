@@ -1,4 +1,4 @@
-use Rattle.bag_text.proofs.LineLemmas.{are_lines, one_list}
+use Rattle.bag_text.proofs.Lemmas.{are_lines, one_list}
 use Rattle.bag_text.proofs.laws.one_list_of_lines.Goals as goal
 
 pub returns-clause-some : goal.returns-clause-some

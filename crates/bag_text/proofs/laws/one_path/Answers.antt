@@ -1,4 +1,4 @@
-use Rattle.bag_text.proofs.ManifestLaws.{spells_iff}
+use Rattle.bag_text.proofs.Lemmas.{spells_iff}
 use Rattle.bag_text.proofs.laws.one_path.Goals as goal
 
 pub returns : goal.returns

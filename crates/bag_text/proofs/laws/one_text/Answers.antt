@@ -1,4 +1,4 @@
-use Rattle.bag_text.proofs.FormLemmas.{two_texts, none_begins}
+use Rattle.bag_text.proofs.Lemmas.{two_texts, none_begins}
 use Rattle.bag_text.proofs.laws.one_text.Goals as goal
 
 pub returns-clause-one : goal.returns-clause-one

@@ -1,8 +1,6 @@
-use Rattle.std.proofs.Common.{◌∙◌, ap}
-use Rattle.bag_text.specs.TransferReading.{set_of}
-use Rattle.bag_text.proofs.FormLemmas.{set_ok, set_again}
+use Rattle.bag_text.proofs.Common.{◌∙◌, ap, set_of}
+use Rattle.bag_text.proofs.Lemmas.{set_ok, set_again, refuses}
 use Rattle.bag_text.proofs.TableLemmas.{set_fault}
-use Rattle.bag_text.proofs.RefusalLemmas.{refuses}
 use Rattle.bag_text.proofs.laws.transfer_forms.Goals as goal
 
 pub returns-clause-read : goal.returns-clause-read

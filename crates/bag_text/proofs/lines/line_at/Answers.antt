@@ -1,7 +1,5 @@
-use Rattle.std.proofs.Common.{◌≡◌, ◌∙◌, List, ℕ, ap, arith, false, length, sym}
-use Rattle.std.specs.Prelude.{◌==◌, slice_get}
-use Rattle.std.proofs.lemmas.Bool.Decides.{nat_tests}
-use Rattle.bag_text.proofs.LineLemmas.{no_lines}
+use Rattle.bag_text.proofs.Common.{◌≡◌, ◌∙◌, List, ℕ, ap, arith, false, length, sym, ◌==◌, slice_get, nat_tests}
+use Rattle.bag_text.proofs.Lemmas.{no_lines}
 use Rattle.bag_text.proofs.lines.line_at.Goals as goal
 
 pub returns-clause-found : goal.returns-clause-found

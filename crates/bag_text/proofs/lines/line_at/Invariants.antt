@@ -1,6 +1,4 @@
-use Rattle.std.proofs.Common.{◌≡◌, ◌-◌, ◌≤◌, length}
-use Rattle.std.specs.Prelude.{slice_get}
-use Rattle.bag_text.specs.Lines.{lines}
+use Rattle.bag_text.proofs.Common.{◌≡◌, ◌-◌, ◌≤◌, length, slice_get, lines}
 use Rattle.bag_text.proofs.lines.line_at.Given as goal
 
 abbrev pub invariant-loop-rest : goal.invariant-loop-rest

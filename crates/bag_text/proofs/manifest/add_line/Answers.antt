@@ -1,7 +1,5 @@
-use Rattle.std.proofs.Common.{◌≡◌, ◌∙◌, sym, false}
-use Rattle.std.specs.List.{list_all}
-use Rattle.bag_text.specs.Text.{is_blank}
-use Rattle.bag_text.proofs.ManifestLemmas.{added, twice}
+use Rattle.bag_text.proofs.Common.{◌≡◌, ◌∙◌, sym, false, list_all, is_blank}
+use Rattle.bag_text.proofs.Lemmas.{added, twice}
 use Rattle.bag_text.proofs.manifest.add_line.Goals as goal
 
 pub returns-then-is_some : goal.returns-then-is_some

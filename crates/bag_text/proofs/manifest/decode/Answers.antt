@@ -1,7 +1,5 @@
-use Rattle.std.proofs.Common.{ap}
-use Rattle.std.specs.Prelude.{option_map}
-use Rattle.bag_text.specs.Manifest.{decode}
-use Rattle.bag_text.proofs.ManifestLemmas.{step, done}
+use Rattle.bag_text.proofs.Common.{ap, option_map, decode}
+use Rattle.bag_text.proofs.Lemmas.{step, done}
 use Rattle.bag_text.proofs.manifest.decode.Goals as goal
 
 pub loop-byte-preserved : goal.loop-byte-preserved

@@ -1,5 +1,4 @@
-use Rattle.std.proofs.Common.{◌≡◌, ◌++◌, length}
-use Rattle.bag_text.specs.Manifest.{decode}
+use Rattle.bag_text.proofs.Common.{◌≡◌, ◌++◌, length, decode}
 use Rattle.bag_text.proofs.manifest.decode.Given as goal
 
 abbrev pub invariant-loop-byte : goal.invariant-loop-byte

@@ -1,5 +1,4 @@
-use Rattle.std.proofs.Common.{◌≡◌, length}
-use Rattle.bag_text.specs.Manifest.{has_coded}
+use Rattle.bag_text.proofs.Common.{◌≡◌, length, has_coded}
 use Rattle.bag_text.proofs.manifest.has_coded.Given as goal
 
 abbrev pub invariant-loop-rest : goal.invariant-loop-rest

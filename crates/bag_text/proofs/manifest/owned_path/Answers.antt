@@ -1,7 +1,5 @@
-use Rattle.std.proofs.Common.{◌≡◌, true, false, rules}
-use Rattle.std.proofs.lemmas.Str.{IsUtf8-from_is_utf8}
-use Rattle.bag_text.specs.Paths.{is_good}
-use Rattle.bag_text.proofs.ManifestLemmas.{good_is_text}
+use Rattle.bag_text.proofs.Common.{◌≡◌, true, false, rules, IsUtf8-from_is_utf8, is_good}
+use Rattle.bag_text.proofs.Lemmas.{good_is_text}
 use Rattle.bag_text.proofs.manifest.owned_path.Goals as goal
 
 pub returns : goal.returns

@@ -1,6 +1,4 @@
-use Rattle.std.proofs.Common.{◌≡◌, ◌+◌, ◌≤◌, length, map, []}
-use Rattle.bag_text.specs.Lines.{lines}
-use Rattle.bag_text.specs.ManifestReading.{entries_of, entry_in}
+use Rattle.bag_text.proofs.Common.{◌≡◌, ◌+◌, ◌≤◌, length, map, [], lines, entries_of, entry_in}
 use Rattle.bag_text.proofs.manifest.read_entries.Given as goal
 
 abbrev pub invariant-loop-rest : goal.invariant-loop-rest

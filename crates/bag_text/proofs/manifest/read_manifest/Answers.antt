@@ -1,4 +1,4 @@
-use Rattle.bag_text.proofs.ManifestLaws.{says_manifest, says_reads, says_lists, says_ascending, says_borrowed, says_refused, says_fault}
+use Rattle.bag_text.proofs.Lemmas.{says_manifest, says_reads, says_lists, says_ascending, says_borrowed, says_refused, says_fault}
 use Rattle.bag_text.proofs.manifest.read_manifest.Goals as goal
 
 pub returns : goal.returns

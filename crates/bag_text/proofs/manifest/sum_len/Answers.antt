@@ -1,8 +1,5 @@
-use Rattle.std.proofs.Common.{◌∙◌, ap, length, rules, unwrap_or}
-use Rattle.std.proofs.lemmas.Iterator.{YieldsList-from_slice}
-use Rattle.std.proofs.lemmas.Iterator.Search.{position_from_yields_List}
-use Rattle.bag_text.specs.Text.{is_blank}
-use Rattle.bag_text.proofs.LineLemmas.{found_or_len}
+use Rattle.bag_text.proofs.Common.{◌∙◌, ap, length, rules, unwrap_or, YieldsList-from_slice, position_from_yields_List, is_blank}
+use Rattle.bag_text.proofs.Lemmas.{found_or_len}
 use Rattle.bag_text.proofs.manifest.sum_len.Goals as goal
 
 pub returns : goal.returns

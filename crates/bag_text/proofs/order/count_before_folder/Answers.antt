@@ -1,8 +1,6 @@
-use Rattle.std.proofs.Common.{[], ◌∷◌, ◌++◌, rules}
+use Rattle.bag_text.proofs.Common.{[], ◌∷◌, ◌++◌, rules, comes_before, file_of}
+use Rattle.bag_text.proofs.Lemmas.{partitioned}
 use Rattle.std.proofs.lemmas.List.Sorted.{IsPartitionPoint-from_clause}
-use Rattle.bag_text.specs.Paths.{comes_before}
-use Rattle.bag_text.specs.TransferReading.{file_of}
-use Rattle.bag_text.proofs.OrderLemmas.{partitioned}
 use Rattle.bag_text.proofs.order.count_before_folder.Goals as goal
 
 pub returns : goal.returns

@@ -1,5 +1,5 @@
-use Rattle.std.proofs.Common.{◌∙◌, sym, refl}
-use Rattle.bag_text.proofs.OrderLemmas.{content_is}
+use Rattle.bag_text.proofs.Common.{◌∙◌, sym, refl}
+use Rattle.bag_text.proofs.Lemmas.{content_is}
 use Rattle.bag_text.proofs.order.find_content.Goals as goal
 
 pub returns-in-None : goal.returns-in-None

@@ -1,7 +1,6 @@
-use Rattle.std.proofs.Common.{◌∙◌, ◌<◌, sym, ap, length, arith}
+use Rattle.bag_text.proofs.Common.{◌∙◌, ◌<◌, sym, ap, length, arith, Less, Equal, Greater}
+use Rattle.bag_text.proofs.Lemmas.{not_longer, longer, first_before_slash}
 use Rattle.std.specs.Prelude.{not}
-use Rattle.bag_text.proofs.OrderLemmas.{not_longer, longer, first_before_slash}
-use Rattle.std.specs.declared.cmp.Ordering.TheVariants.{Less, Equal, Greater}
 use Rattle.bag_text.proofs.order.is_before_folder.Goals as goal
 
 pub returns-then-path-folder : goal.returns-then-path-folder

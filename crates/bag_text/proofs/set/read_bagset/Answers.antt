@@ -1,9 +1,6 @@
-use Rattle.std.proofs.Common.{◌∙◌, ap, subst}
-use Rattle.bag_text.specs.Answers.{Gives}
-use Rattle.bag_text.specs.TransferReading.{named_set_fault, set_of}
-use Rattle.bag_text.proofs.FormLemmas.{is_found, set_again}
+use Rattle.bag_text.proofs.Common.{◌∙◌, ap, subst, Gives, named_set_fault, set_of}
+use Rattle.bag_text.proofs.Lemmas.{is_found, set_again, refuses}
 use Rattle.bag_text.proofs.TableLemmas.{is_fault}
-use Rattle.bag_text.proofs.RefusalLemmas.{refuses}
 use Rattle.bag_text.proofs.set.read_bagset.Goals as goal
 
 pub returns-clause-found : goal.returns-clause-found

@@ -1,4 +1,4 @@
-use Rattle.bag_text.proofs.TextLemmas.{text_answer}
+use Rattle.bag_text.proofs.Lemmas.{text_answer}
 use Rattle.bag_text.proofs.text.as_text.Goals as goal
 
 pub returns : goal.returns

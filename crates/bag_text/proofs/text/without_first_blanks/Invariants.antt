@@ -1,5 +1,4 @@
-use Rattle.std.proofs.Common.{◌≡◌, length}
-use Rattle.bag_text.specs.Text.{skip_blanks}
+use Rattle.bag_text.proofs.Common.{◌≡◌, length, skip_blanks}
 use Rattle.bag_text.proofs.text.without_first_blanks.Given as goal
 
 abbrev pub invariant-loop-rest : goal.invariant-loop-rest

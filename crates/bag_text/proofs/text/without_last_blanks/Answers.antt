@@ -1,5 +1,5 @@
-use Rattle.std.proofs.Common.{◌∙◌, sym, arith}
-use Rattle.bag_text.proofs.TextLemmas.{blank_at_end, no_blank_at_end}
+use Rattle.bag_text.proofs.Common.{◌∙◌, sym, arith}
+use Rattle.bag_text.proofs.Lemmas.{blank_at_end, no_blank_at_end}
 use Rattle.bag_text.proofs.text.without_last_blanks.Goals as goal
 
 pub loop-rest-preserved : goal.loop-rest-preserved

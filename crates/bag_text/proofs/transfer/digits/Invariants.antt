@@ -1,5 +1,4 @@
-use Rattle.std.proofs.Common.{◌≡◌, ◌≤◌, length}
-use Rattle.bag_text.specs.TransferReading.{digits_at}
+use Rattle.bag_text.proofs.Common.{◌≡◌, ◌≤◌, length, digits_at}
 use Rattle.bag_text.proofs.transfer.digits.Given as goal
 
 abbrev pub invariant-loop-rest : goal.invariant-loop-rest

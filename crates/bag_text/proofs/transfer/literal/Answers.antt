@@ -1,4 +1,4 @@
-use Rattle.std.proofs.Common.{◌∙◌, sym, arith}
+use Rattle.bag_text.proofs.Common.{◌∙◌, sym, arith}
 use Rattle.bag_text.proofs.SetLemmas.{literal_short}
 use Rattle.bag_text.proofs.transfer.literal.Goals as goal
 

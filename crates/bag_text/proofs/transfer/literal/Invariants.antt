@@ -1,5 +1,4 @@
-use Rattle.std.proofs.Common.{◌≡◌, drop}
-use Rattle.bag_text.specs.TransferReading.{literal_at}
+use Rattle.bag_text.proofs.Common.{◌≡◌, drop, literal_at}
 use Rattle.bag_text.proofs.transfer.literal.Given as goal
 
 abbrev pub invariant-loop-byte : goal.invariant-loop-byte

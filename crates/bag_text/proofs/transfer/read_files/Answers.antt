@@ -1,9 +1,4 @@
-use Rattle.std.proofs.Common.{[], ◌∙◌, ap}
-use Rattle.std.specs.Prelude.{option_map}
-use Rattle.std.proofs.lemmas.Result.{err_from_is_err_and}
-use Rattle.std.proofs.lemmas.List.{map_push}
-use Rattle.bag_text.specs.TransferReading.{files_of, file_of, files_at}
-use Rattle.bag_text.specs.TransferForm.{max_files}
+use Rattle.bag_text.proofs.Common.{[], ◌∙◌, ap, option_map, err_from_is_err_and, map_push, files_of, file_of, files_at, max_files}
 use Rattle.bag_text.proofs.SetLemmas.{goes_on, ends, is_done}
 use Rattle.bag_text.proofs.transfer.read_files.Goals as goal
 

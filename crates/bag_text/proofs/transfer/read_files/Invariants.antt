@@ -1,6 +1,4 @@
-use Rattle.std.proofs.Common.{◌≡◌, []}
-use Rattle.bag_text.specs.TransferReading.{files_of, files_at}
-use Rattle.bag_text.specs.TransferForm.{max_files}
+use Rattle.bag_text.proofs.Common.{◌≡◌, [], files_of, files_at, max_files}
 use Rattle.bag_text.proofs.ResultLemmas.{fronted}
 use Rattle.bag_text.proofs.transfer.read_files.Given as goal
 

@@ -1,7 +1,5 @@
-use Rattle.std.proofs.Common.{[], List, length, sym, ap, subst}
-use Rattle.bag_text.specs.TransferForm.{File, Ascends, max_files}
-use Rattle.bag_text.specs.TransferReading.{files_of}
-use Rattle.bag_text.proofs.FormLemmas.{files_ok}
+use Rattle.bag_text.proofs.Common.{[], List, length, sym, ap, subst, File, Ascends, max_files, files_of}
+use Rattle.bag_text.proofs.Lemmas.{files_ok}
 use Rattle.bag_text.proofs.transfer.read_set.Goals as goal
 
 -- the files that were read ascend

@@ -1,4 +1,4 @@
-use Rattle.bag_text.specs.TransferReading.{files_of}
+use Rattle.bag_text.proofs.Common.{files_of}
 use Rattle.bag_text.proofs.WriteLemmas.{reads_back, writes_back}
 use Rattle.bag_text.proofs.write.write_bagset.Goals as goal
 

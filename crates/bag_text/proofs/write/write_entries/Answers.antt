@@ -1,7 +1,4 @@
-use Rattle.std.proofs.Common.{◌++◌}
-use Rattle.std.specs.List.{flat_map}
-use Rattle.bag_text.specs.TransferForm.{entry}
-use Rattle.bag_text.specs.TransferReading.{file_of, files_of}
+use Rattle.bag_text.proofs.Common.{◌++◌, flat_map, entry, file_of, files_of}
 use Rattle.bag_text.proofs.WriteLemmas.{wrote_more, wrote_all}
 use Rattle.bag_text.proofs.write.write_entries.Goals as goal
 

@@ -1,7 +1,4 @@
-use Rattle.std.proofs.Common.{◌≡◌, ◌++◌, drop, map}
-use Rattle.std.specs.List.{flat_map}
-use Rattle.bag_text.specs.TransferForm.{entry}
-use Rattle.bag_text.specs.TransferReading.{file_of, files_of}
+use Rattle.bag_text.proofs.Common.{◌≡◌, ◌++◌, drop, map, flat_map, entry, file_of, files_of}
 use Rattle.bag_text.proofs.write.write_entries.Given as goal
 
 abbrev pub invariant-loop-file : goal.invariant-loop-file

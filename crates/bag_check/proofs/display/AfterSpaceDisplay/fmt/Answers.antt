@@ -1,5 +1,5 @@
-use Rattle.std.proofs.Common.{◌∙◌, rules}
-use Rattle.bag_check.proofs.CodeLemmas.{encodes}
+use Rattle.bag_check.proofs.Common.{◌∙◌, rules}
+use Rattle.bag_check.proofs.Lemmas.{encodes}
 use Rattle.bag_check.proofs.display.AfterSpaceDisplay.fmt.Goals as goal
 
 pub returns-in-Some-clause-writes : goal.returns-in-Some-clause-writes

@@ -1,8 +1,7 @@
-use Rattle.std.proofs.Common.{rules}
+use Rattle.bag_check.proofs.Common.{rules, named_fault}
+use Rattle.bag_check.proofs.Lemmas.{printed_parts}
 use Rattle.std.specs.Result.{IsOk}
 use Rattle.std.proofs.lemmas.Grind.{put_two}
-use Rattle.bag_check.specs.Answers.{named_fault}
-use Rattle.bag_check.proofs.CodeLemmas.{printed_parts}
 use Rattle.bag_check.proofs.display.BagFaultDisplay.fmt.Goals as goal
 
 pub returns-clause-writes : goal.returns-clause-writes

@@ -1,7 +1,5 @@
-use Rattle.std.proofs.Common.{◌≡◌, ap, rules}
-use Rattle.std.specs.Prelude.{is_some}
-use Rattle.bag_text.specs.ManifestReading.{listing_at}
-use Rattle.bag_text.proofs.ManifestLaws.{listing_is_entry, says_path}
+use Rattle.bag_text.proofs.Common.{◌≡◌, ap, rules, is_some, listing_at}
+use Rattle.bag_text.proofs.Lemmas.{listing_is_entry, says_path}
 use Rattle.bag_text.proofs.listing.Manifest.get.Goals as goal
 
 pub returns-clause-entry : goal.returns-clause-entry

@@ -1,4 +1,4 @@
-use Rattle.bag_text.proofs.ManifestLaws.{says_path}
+use Rattle.bag_text.proofs.Lemmas.{says_path}
 use Rattle.bag_text.proofs.listing.Manifest.lists.Goals as goal
 
 pub returns-clause-lists : goal.returns-clause-lists

@@ -1,4 +1,4 @@
-use Rattle.std.proofs.Common.{◌∙◌, sym, refl}
+use Rattle.bag_text.proofs.Common.{◌∙◌, sym, refl}
 use Rattle.bag_text.proofs.PathLemmas.{test_passes, good_read, one_fault}
 use Rattle.bag_text.proofs.path.BagPath.read.Goals as goal
 

@@ -1,5 +1,5 @@
-use Rattle.bag_text.specs.TransferReading.{files_of}
-use Rattle.bag_text.proofs.BagListLemmas.{is_list, is_made, is_refused, has_fault}
+use Rattle.bag_text.proofs.Common.{files_of}
+use Rattle.bag_text.proofs.Lemmas.{is_list, is_made, is_refused, has_fault}
 use Rattle.bag_text.proofs.set.BagSet.of.Goals as goal
 
 pub returns-clause-made : goal.returns-clause-made
