@@ -1,4 +1,4 @@
-# Completions for bash, made of what `depot --help` says, by diff/manual.py: change it there, and not here.
+# Completions for bash, made of what `depot --help` says, by trials/manual.py: change it there, and not here.
 # shellcheck shell=bash
 _depot() {
     local word=${COMP_WORDS[COMP_CWORD]} options=
