@@ -10,39 +10,50 @@ make_room
 export ROOM=$room
 tree=$room/tree
 
-mkdir -p "$room"/kit/bin "$room"/bare "$tree"/crates/{depot,below,apart}/{src,must-fail}
+mkdir -p "$room"/kit/bin "$room"/bare "$tree"/crates/{depot,above,beside,below,apart}/{src,must-fail}
 cp "$top/depot" "$tree/depot"
-printf 'depot: below hex\nbelow:\napart: below\n' >"$tree/crates.txt"
-for crate in depot below apart; do
+printf 'depot: above beside below hex\nabove: below\nbeside: hex\nbelow:\napart: below\n' >"$tree/crates.txt"
+for crate in depot above beside below apart; do
     echo "// $crate" >"$tree/crates/$crate/src/lib.rt"
 done
 echo 'kit one' >"$room/kit/KIT-ID"
 cat >"$room/kit/bin/rt" <<'STUB'
 #!/usr/bin/env bash
-# Stands for `rt all check --jobs N` and `rt run -- check FILE`, called in the folder of the program's crate.
+# Stands for `rt lib`, called in the folder of a library, and `rt run -- check FILE`, called in that of the program.
 set -eu
-echo "$(basename "$PWD") $*" >>"$ROOM/calls"
+crate=$(basename "$PWD")
+echo "$crate $*" >>"$ROOM/calls"
 if [ -e "$ROOM/slow" ]; then
     echo $$ >"$ROOM/slow"
     exec sleep 60
 fi
+# Whether it is called while `below` goes on.
+[ "$crate" != beside ] || { [ -e "$ROOM/below-goes-on" ] && echo yes || echo no; } >"$ROOM/beside-below"
+[ "$crate" != below ] || : >"$ROOM/below-goes-on"
+sleep 0.5
+rm -f "$ROOM/$crate-goes-on"
+if [ -e "$ROOM/fails-$crate" ]; then
+    echo "a goal is open"
+    exit 1
+fi
 case "$*" in
-'all check --jobs '[1-9]*)
-    for crate in below depot; do
-        sleep 0.5
-        echo "== $crate"
-        [ ! -e "$ROOM/fails-$crate" ] || { printf 'a goal is open\n== summary\n%s: failed (1)\n' "$crate"; exit 1; }
-        echo "crate $crate: proved"
+lib)
+    # A library needs those that it uses, and is built over what was kept of it.
+    for used in $(sed -n "s/^$crate://p" ../../crates.txt); do
+        [ ! -d "../$used" ] || [ -e "../$used/out/rlib/stamp" ] || exit 2
     done
-    printf '== summary\nbelow: ok\ndepot: ok\n'
-    exit
+    mkdir -p out/rlib
+    echo kept >>out/kept
+    : >out/rlib/stamp
     ;;
-'run -- check '*) sleep 0.5 ;;
+'run -- check '*)
+    [ -e ../below/out/rlib/stamp ] || exit 2
+    [ ! -e "$ROOM/fails-run" ] || { echo "clang failed" >&2; exit 1; }
+    printf '#!/bin/sh\necho "%s: $*"\n' "$(grep -c '^below lib' "$ROOM/calls")" >out/depot
+    chmod +x out/depot
+    ;;
 *) exit 2 ;;
 esac
-[ ! -e "$ROOM/fails-run" ] || { echo "clang failed" >&2; exit 1; }
-printf '#!/bin/sh\necho "%s: $*"\n' "$(grep -c 'all check' "$ROOM/calls")" >out/depot
-chmod +x out/depot
 STUB
 chmod +x "$room/kit/bin/rt"
 # The commands that the script needs as long as nothing is built, and no `rt`.
@@ -53,7 +64,7 @@ path=$room/kit/bin:$PATH
 
 # How many builds of the program were begun.
 builds() {
-    grep -c 'all check' "$room/calls" || true
+    grep -c '^below lib' "$room/calls" || true
 }
 
 # Calls the script in a tree, with the commands on this script's `path`. A call that takes over a minute is ended.
@@ -75,8 +86,13 @@ goes_on() {
 
 depot=$tree/crates/depot below=$tree/crates/below apart=$tree/crates/apart
 expect "nothing is built" 1 1
-compare "the crates are proved, and the program is built" "depot all, depot run" \
-    "$(cut -d' ' -f-2 "$room/calls" | paste -sd, | sed 's/,/, /')"
+compare "the libraries are proved, and the program is built" "below lib, beside lib, above lib, depot run" \
+    "$(cut -d' ' -f-2 "$room/calls" | paste -sd, | sed 's/,/, /g')"
+case $(cat "$room/err") in *'at most 1 at a time'*) wanted=no ;; *) wanted=yes ;; esac
+compare "two libraries are proved at a time, where there is room for two" "$wanted" "$(cat "$room/beside-below")"
+compare "what the proofs left" "above below beside" \
+    "$(cd "$tree/crates" && find . -path './*/out/rlib/stamp' | cut -d/ -f2 | LC_ALL=C sort | paste -sd' ')"
+compare "the folders that they ran in" "" "$(ls "$tree/crates/depot/out/depot-rooms")"
 expect "nothing has changed" 1 1
 
 # Times, folders and what the program isn't made of don't count.
@@ -97,6 +113,7 @@ touch -r "$below/src/lib.rt" "$room/time"
 echo "// belov" >"$below/src/lib.rt"
 touch -r "$room/time" "$below/src/lib.rt"
 expect "a byte of a source changed, and neither its length nor its time" 3 3
+compare "what was kept of its library goes along" 2 "$(wc -l <"$below/out/kept")"
 echo "// more" >"$below/src/more.rt"
 expect "a source was added" 4 4
 mv "$below/src/more.rt" "$below/src/other.rt"
@@ -151,13 +168,15 @@ compare "two calls at once" "14: one 14: two, of 14 builds" "$(cat "$room/one") 
 sed -i 's/^every=.*/every=0/' "$tree/depot"
 echo "// slowly" >>"$below/src/lib.rt"
 expect "a build tells how far it is" 15 15
-for said in '2 crates, at most [1-9]' '0 of 2 crates done' '1 of 2 crates done' '2 of 2 crates done'; do
+for said in '4 crates, at most [1-9]' '0 of 4 crates done; under way: *below' '2 of 4 crates done; under way: above' \
+    '3 of 4 crates done; under way: depot'; do
     matches "what a build that takes long says" "*$said*" "$(cat "$room/err")"
 done
 
 # A call that is broken off ends its build, and so does one whose messages nobody reads any more.
 : >"$room/slow"
 echo "// once more" >>"$below/src/lib.rt"
+kept=$(wc -l <"$below/out/kept")
 env PATH="$path" "$tree/depot" check >"$room/one" 2>/dev/null &
 first=$!
 await "$first" "$room/slow" .
@@ -166,6 +185,7 @@ status=0
 ended "$first" || status=$?
 compare "a call was broken off" 130 "$status"
 compare "its build goes on" no "$(goes_on)"
+compare "what was kept of the library stays" "$kept" "$(wc -l <"$below/out/kept")"
 : >"$room/slow"
 call "$tree" check 2>&1 | head -n 1 >"$room/one"
 compare "the build of a call whose messages nobody reads goes on" no "$(goes_on)"
