@@ -126,7 +126,7 @@ def first_and_last():
     """Requests on the first and the last day: of a closing and of a deposit."""
     records = [sessions.record(LAST, "PUT", "/classes/y200", b'{"years":200}')]
     for n, (day, closed) in enumerate([(LAST, "1900-01-01"), (END, "9799-12-31"), (END, "2024-02-29")]):
-        target = deposit_target(f"2024-{n}", kind="y200", closed=closed)
+        target = deposit_target(f"2024-{n}", class_="y200", closed=closed)
         records.append(sessions.record(day, "POST", target, sessions.bag({n: 3})))
     return records
 
@@ -142,14 +142,14 @@ def policy_is(office):
     policy.write_text(office.policy, encoding="utf-8")
     for day in days_about(told["rules"]):
         for caller in ("anna", "carl", "eve"):
-            for action, collection, kind in EXPLAINED:
+            for action, collection, class_ in EXPLAINED:
                 role = wanted["callers"].get(caller, "stranger")
                 place = None if collection == "-" else collection
-                deciding = first_match(told["rules"], role, action, place, kind, str(day))
+                deciding = first_match(told["rules"], role, action, place, class_, str(day))
                 said = f"{deciding['effect']} rule {deciding['rule']}" if deciding else "deny default"
-                words = [office.program, "explain", "--day", str(day), policy, caller, action, collection, kind]
+                words = [office.program, "explain", "--day", str(day), policy, caller, action, collection, class_]
                 run = subprocess.run(words, capture_output=True, timeout=60, text=True)
-                compare(f"{caller} {action} {collection} {kind} on {day}", said, run.stdout.strip())
+                compare(f"{caller} {action} {collection} {class_} on {day}", said, run.stdout.strip())
 
 
 def days_about(rules):
@@ -162,13 +162,13 @@ def days_about(rules):
     return sorted(days)
 
 
-def first_match(rules, role, action, collection, kind, day):
+def first_match(rules, role, action, collection, class_, day):
     """The rule that decides, or nothing."""
-    return next((it for it in rules if matches(it, role, action, collection, kind, day)), None)
+    return next((it for it in rules if matches(it, role, action, collection, class_, day)), None)
 
 
-def matches(rule, role, action, collection, kind, day):
-    pairs = (rule["role"], role), (rule["action"], action), (rule["collection"], collection), (rule["class"], kind)
+def matches(rule, role, action, collection, class_, day):
+    pairs = (rule["role"], role), (rule["action"], action), (rule["collection"], collection), (rule["class"], class_)
     return all(it in ("*", value) for it, value in pairs) and (rule["first"] or "") <= day <= (rule["last"] or "9999")
 
 

@@ -270,15 +270,15 @@ def asked(line, caller="anna"):
     return f"{line} HTTP/1.1\r\nDepot-Caller: {caller}\r\n\r\n"
 
 
-def deposited(accession, closed="2024-02-29", collection="maps", kind="y1", bag=BAG):
+def deposited(accession, closed="2024-02-29", collection="maps", class_="y1", bag=BAG):
     """A request that deposits a bag."""
-    line = f"POST /deposits?collection={collection}&class={kind}&accession={accession}&closed={closed}"
+    line = f"POST /deposits?collection={collection}&class={class_}&accession={accession}&closed={closed}"
     return f"{line} HTTP/1.1\r\nDepot-Caller: anna\r\nContent-Length: {len(bag)}\r\n\r\n".encode() + bag
 
 
-def told(number, accession, kind, until, closed="2024-02-29"):
+def told(number, accession, class_, until, closed="2024-02-29"):
     """A record."""
-    return (f'{{"accession":"{accession}","bytes":3,"class":"{kind}","closed":"{closed}","collection":"maps",'
+    return (f'{{"accession":"{accession}","bytes":3,"class":"{class_}","closed":"{closed}","collection":"maps",'
             f'"deposit":{number},"deposited":"2024-03-01","due":"{until}","files":1}}')
 
 
@@ -296,10 +296,10 @@ SESSION = [
     (deposited("A-1"), (409, '{"deposit":1,"error":"Taken"}')),
     (deposited("A-2", closed="2024-03-02"), (409, '{"error":"ClosedAhead"}')),
     (deposited("A-2", collection="none"), none("collection")),
-    (deposited("A-2", kind="none"), none("class")),
+    (deposited("A-2", class_="none"), none("class")),
     (deposited("A-2", bag=BAG[:-1]), (422, '{"error":"BadBag","fault":"S3"}')),
     (deposited("A-2", bag=b"BAGSET 1\nEND\n"), (422, '{"error":"BadBag","fault":"B1"}')),
-    (deposited("A-2", kind="good"), (201, '{"deposit":2}')),
+    (deposited("A-2", class_="good"), (201, '{"deposit":2}')),
     (asked("GET /deposits"), (200, '{"deposits":[%s,%s]}' % (ONE, TWO))),
     (asked("GET /deposits?class=good"), (200, '{"deposits":[%s]}' % TWO)),
     (asked("GET /deposits/1"), (200, ONE)),

@@ -74,14 +74,14 @@ def kinds():
 
 
 def make(folder):
-    for name, collection, kind, closed, files in kinds():
+    for name, collection, class_, closed, files in kinds():
         path = os.path.join(folder, name)
         if name == "long":
             path += ".bagset"
             pathlib.Path(path).write_bytes(form(files))
         else:
             lay(path, files)
-        print(path, collection, kind, f"{name.upper()}.1", closed, sep="\t")
+        print(path, collection, class_, f"{name.upper()}.1", closed, sep="\t")
 
 
 # --- Folders ---

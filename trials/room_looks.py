@@ -50,7 +50,7 @@ def seed(stand):
             form({**files, "survey of the harbour, sheet four, coloured.tif": b"y" * 2500}),
             f"2024-{i + 1:03}",
             collection=("maps", "parish-registers")[i % 2],
-            kind=("y0", "y10", "good")[i % 3],
+            class_=("y0", "y10", "good")[i % 3],
             closed=f"2024-0{1 + i % 2}-{10 + i}",
         )
     evil = b"<script>document.title='pwned';fetch('/holds',{method:'POST',body:'{\"class\":\"y0\",\"matter\":\"evil\"}'})</script>"
@@ -264,8 +264,8 @@ def releasing(page, _):
 
 def revising(page, _):
     page.go("names", "Collections and classes")
-    kind, years = page.all("main form")[1].find_elements("css selector", "input:not([type=checkbox])")
-    kind.send_keys("y10")
+    class_, years = page.all("main form")[1].find_elements("css selector", "input:not([type=checkbox])")
+    class_.send_keys("y10")
     years.send_keys("9")
     page.dialog(page.all("main form")[1].find_element("css selector", "button"))
 
@@ -421,8 +421,8 @@ def released_by_keys(page):
 
 def revised_by_keys(page, stand):
     page.go("names", "Collections and classes")
-    kind, years = page.all("main form")[1].find_elements("css selector", "input:not([type=checkbox])")
-    kind.send_keys("y10")
+    class_, years = page.all("main form")[1].find_elements("css selector", "input:not([type=checkbox])")
+    class_.send_keys("y10")
     years.send_keys("0" + ENTER)
     page.wait(lambda: page.all("dialog[open]"))
     check(

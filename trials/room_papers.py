@@ -12,9 +12,9 @@ from room_stand import check
 from room_work import ENTER, ESCAPE, bag_of, folder
 
 
-def placed(stand, accession, kind="y0", files=None):
+def placed(stand, accession, class_="y0", files=None):
     """A deposit that a program makes. Gives its number."""
-    return stand.deposited(form(files or {"a": b"a"}), accession, kind=kind, closed="2024-02-01")
+    return stand.deposited(form(files or {"a": b"a"}), accession, class_=class_, closed="2024-02-01")
 
 
 def numbered(stand, accession):
@@ -182,8 +182,8 @@ def twice(page, stand):
     time.sleep(1)
     check(held("Case of the second Enter") == 1, "Enter twice places one hold")
     page.go("names", "Collections and classes")
-    kind, years = page.all("main form")[1].find_elements("css selector", "input:not([type=checkbox])")
-    kind.send_keys("y10")
+    class_, years = page.all("main form")[1].find_elements("css selector", "input:not([type=checkbox])")
+    class_.send_keys("y10")
     years.send_keys("9")
     page.press(ENTER, ENTER)
     page.wait(lambda: page.all("dialog[open]"))
@@ -450,9 +450,9 @@ def revised_unseen(stand):
     page.quit()
 
 
-def revise(page, kind, years):
+def revise(page, class_, years):
     page.go("names", "Collections and classes")
-    for control, value in zip(page.all("main form")[1].find_elements("css selector", "input:not([type=checkbox])"), (kind, years)):
+    for control, value in zip(page.all("main form")[1].find_elements("css selector", "input:not([type=checkbox])"), (class_, years)):
         control.clear()
         control.send_keys(value)
     page.press(ENTER)

@@ -195,17 +195,17 @@ LOSE_ANSWER = """window.send ??= XMLHttpRequest.prototype.send; XMLHttpRequest.p
     XMLHttpRequest.prototype.send = send; this.onload = () => this.onerror(); send.call(this, body) }"""
 
 
-def fill_in(page, path, accession, kind="y10"):
+def fill_in(page, path, accession, class_="y10"):
     page.go("new", "New deposit")
     page.one("#folder").send_keys(str(path))
     page.wait(lambda: page.all("#seen .good"))
-    for name, value in (("Collection", "maps"), ("Class", kind), ("Accession", accession), ("Closed on", "2024-02-01")):
+    for name, value in (("Collection", "maps"), ("Class", class_), ("Accession", accession), ("Closed on", "2024-02-01")):
         page.put(name, value)
 
 
-def sent(page, path, accession, kind="y10"):
+def sent(page, path, accession, class_="y10"):
     """A deposit of this folder as far as its dry run: the upload itself is held back, until `waiting` is called."""
-    fill_in(page, path, accession, kind)
+    fill_in(page, path, accession, class_)
     page.run(HOLD_BACK)
     page.one("#go").click()
     page.wait(lambda: page.run("return !!window.waiting"))
@@ -263,15 +263,15 @@ def lost_answers(stand):
 
 def not_taken_for_it(page, stand, small):
     """Something else under this accession is not taken for it: other bytes, or the same bytes in another class."""
-    for accession, kind in (("LOST-3", "y10"), ("LOST-4", "y0")):
+    for accession, class_ in (("LOST-3", "y10"), ("LOST-4", "y0")):
         sent(page, small, accession)
-        body = form({"y": b"other"}) if kind == "y10" else made_by_page(page, accession)
-        stand.deposited(body, accession, kind=kind, closed="2024-02-01")
+        body = form({"y": b"other"}) if class_ == "y10" else made_by_page(page, accession)
+        stand.deposited(body, accession, class_=class_, closed="2024-02-01")
         page.run("const go = window.waiting; window.send = function () { setTimeout(() => this.onerror()) }; go()")
         said = outcome(page)
         check(
             "already has this accession." in said and "Receipt" not in page.text("h1"),
-            "other bytes under this accession aren't taken for it" if kind == "y10" else "nor the same bytes in another class",
+            "other bytes under this accession aren't taken for it" if class_ == "y10" else "nor the same bytes in another class",
         )
         page.driver.refresh()
         page.wait(lambda: page.text("h1"))

@@ -261,7 +261,7 @@ class Stand:
 
     def deposited(self, form, accession, **about):
         """A deposit that a program makes of this form. Gives its number."""
-        target = deposit_target(accession, **{"kind": "y0", "closed": "2024-01-01", **about})
+        target = deposit_target(accession, **{"class_": "y0", "closed": "2024-01-01", **about})
         return self.json("POST", target, form)["deposit"]
 
     # ---- browsers
@@ -422,7 +422,7 @@ class Page:
                 {"type": kind, "x": x, "y": y, "data": {"items": [], "files": [str(it) for it in paths], "dragOperationsMask": 1}},
             )
 
-    def deposit(self, path, accession, kind="y10", collection="maps", closed="2024-02-29", how="folder", seconds=280):
+    def deposit(self, path, accession, class_="y10", collection="maps", closed="2024-02-29", how="folder", seconds=280):
         """What the page says of a deposit of this folder or form: a receipt, or what is refused."""
         self.go("new", "New deposit")
         if how == "drop":
@@ -434,7 +434,7 @@ class Page:
             return self.text("#seen")
         for box in self.all("#anyway"):
             box.click()
-        for name, value in (("Collection", collection), ("Class", kind), ("Accession", accession), ("Closed on", closed)):
+        for name, value in (("Collection", collection), ("Class", class_), ("Accession", accession), ("Closed on", closed)):
             self.put(name, value)
         self.one("#go").click()
         self.wait(

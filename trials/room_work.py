@@ -99,10 +99,10 @@ def names(page, stand):
     check(page.says("A browser can't send this name."), "a name that a browser would take for a folder is refused in the page")
 
 
-def define(page, kind, years=None):
+def define(page, class_, years=None):
     """Types a class, and its years if it doesn't keep permanently."""
     form = page.all("main form")[1]
-    for control, value in zip(form.find_elements("css selector", "input:not([type=checkbox])"), (kind, years)):
+    for control, value in zip(form.find_elements("css selector", "input:not([type=checkbox])"), (class_, years)):
         if value is not None:
             control.clear()
             control.send_keys(value)
@@ -122,8 +122,8 @@ def classes(page, stand):
     page.one("dialog .danger").click()
     check(page.says("The class good keeps its deposits permanently.", "#told"), "a class that keeps permanently is defined")
     stand.json("PUT", "/collections/tax")
-    for kind, years in (("y0", 0), ("y10", 10)):
-        stand.json("PUT", f"/classes/{kind}", {"years": years})
+    for class_, years in (("y0", 0), ("y10", 10)):
+        stand.json("PUT", f"/classes/{class_}", {"years": years})
 
 
 def box_seen(page, box):

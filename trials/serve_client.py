@@ -73,7 +73,7 @@ class Office(Server):
 
 # (each has the field of its length, so that this is cut, too)
 request = functools.partial(requests.request, has_length=True)
-target_of = functools.partial(deposit_target, kind="y0")
+target_of = functools.partial(deposit_target, class_="y0")
 
 
 def heard_to_end(peer):
@@ -349,7 +349,7 @@ class Kept:
             return ("DELETE", f"/deposits/{(number := chance.choice(free))}", b""), ("dispose", number, None)
         self.asked += 1
         form, name = form_of(chance.randbytes(chance.choice(sizes))), chance.choice(CLASSES)
-        return ("POST", target_of(f"B-{self.asked}", kind=name), form), ("deposit", self.last + 1, (form, name))
+        return ("POST", target_of(f"B-{self.asked}", class_=name), form), ("deposit", self.last + 1, (form, name))
 
     def done(self, change):
         kind, number, more = change

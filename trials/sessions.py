@@ -74,9 +74,9 @@ def hold(draw, version, deposits):
 
 
 def deposit(draw, day, accession, contents):
-    kind = draw.choice(["y0", "y0", "y0", "y1", "y1", "y10", "kept.forever"])
+    class_ = draw.choice(["y0", "y0", "y0", "y1", "y1", "y10", "kept.forever"])
     closed = day - datetime.timedelta(days=draw.choice([0, 0, 30, 400, 5000]))
-    target = deposit_target(accession, draw.choice(COLLECTIONS[:4]), kind, closed)
+    target = deposit_target(accession, draw.choice(COLLECTIONS[:4]), class_, closed)
     return record(day, "POST", target, bag(contents))
 
 
@@ -176,7 +176,7 @@ def reads(deposits, holds):
         out.append(record(LAST, "POST", "/holds", b'{"deposit":9999999,"matter":"x"}', caller=caller))
         out.append(record(LAST, "DELETE", f"/holds/{holds + 1000}", caller=caller))
         out.append(record(LAST, "DELETE", "/deposits/9999999", caller=caller))
-        out.append(record(LAST, "POST", deposit_target("A", kind="y0", closed="2030-01-01"), b"x", caller))
+        out.append(record(LAST, "POST", deposit_target("A", class_="y0", closed="2030-01-01"), b"x", caller))
         out.append(record(LAST, "PUT", "/collections/maps/", caller=caller))
     return out
 

@@ -93,9 +93,9 @@ def changes(office):
         body = json.dumps({name: value, "matter": "Case 2024"}).encode()
         yield request("POST", "/holds", body), office.hold(TODAY, target, "Case 2024")
     for n in range(20):
-        collection, kind, accession = f"c{n}", f"y{n % 10}", f"B-{n}"
-        target = deposit_target(accession, collection, kind, date(18321))
-        yield request("POST", target, form(BAG)), office.deposit(TODAY, collection, kind, accession, 18321)
+        collection, class_, accession = f"c{n}", f"y{n % 10}", f"B-{n}"
+        target = deposit_target(accession, collection, class_, date(18321))
+        yield request("POST", target, form(BAG)), office.deposit(TODAY, collection, class_, accession, 18321)
     for number in range(1, len(office.holds) + 1, 5):
         yield request("DELETE", f"/holds/{number}"), office.release(TODAY, number)
     for it in office.deposits:

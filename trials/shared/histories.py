@@ -67,10 +67,10 @@ class Office:
         on = (it["deposit"], None, None), (None, it["collection"], None), (None, None, it["class"])
         return sorted(set().union(*(self.live[target] for target in on)))
 
-    def deposit(self, day, collection, kind, accession, closed):
+    def deposit(self, day, collection, class_, accession, closed):
         number = len(self.deposits) + 1
-        place = {"deposit": number, "accession": accession, "collection": collection, "class": kind}
-        days = {"closed": closed, "deposited": day, "due": due_day(closed, YEARS[kind]), "gone": None}
+        place = {"deposit": number, "accession": accession, "collection": collection, "class": class_}
+        days = {"closed": closed, "deposited": day, "due": due_day(closed, YEARS[class_]), "gone": None}
         self.deposits.append(place | days)
         return answer("201 Created", {"deposit": number})
 

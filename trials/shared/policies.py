@@ -2,9 +2,9 @@
 import re
 
 
-def allow(role, action, collection="*", kind="*", **days):
+def allow(role, action, collection="*", class_="*", **days):
     """A rule, which may have a first and a last day."""
-    return {"effect": "allow", "role": role, "action": action, "collection": collection, "class": kind, **days}
+    return {"effect": "allow", "role": role, "action": action, "collection": collection, "class": class_, **days}
 
 
 def deny(*patterns, **days):

@@ -13,9 +13,9 @@ def request(method, target, body=b"", caller="anna", has_length=False):
     return f"{method} {target} HTTP/1.1\r\n{fields}\r\n".encode() + body
 
 
-def deposit_target(accession, collection="maps", kind="y1", closed="2024-02-29"):
+def deposit_target(accession, collection="maps", class_="y1", closed="2024-02-29"):
     """The target of a request that deposits a bag."""
-    return f"/deposits?collection={collection}&class={kind}&accession={accession}&closed={closed}"
+    return f"/deposits?collection={collection}&class={class_}&accession={accession}&closed={closed}"
 
 
 def record(day, asked):
