@@ -15,7 +15,10 @@ import sys
 from needs import needs
 from shared.places import TOP
 
-OWNER = re.compile(r"\s*(?:unsafe )?(?:pub )?(?:impl\b.*?|trait )\b(?:\w+::)*(\w+)(?:<[^{]*>)?\s*(?::[^{]*)?\{\s*$")
+# A list of generic parameters that has no other within it.
+GENERICS = re.compile(r"<(?:->|[^<>])*>")
+# The line with which the functions of a type or a trait begin, without its generic parameters.
+OWNER = re.compile(r"(?:pub )?(?:unsafe )?(?:impl (?:.* for )?|trait )(?:\w+::)*(\w+)\s*(?:(?::|where\b)[^{]*)?\{\s*$")
 FUNCTION = re.compile(r"\s*(?:pub(?:\([^)]*\))? )?(?:const )?(?:unsafe )?fn (\w+)")
 CLAUSE = re.compile(r"\s*(ensures|requires) (?:(\w+) )?\{")
 GHOST = re.compile(r"\s*(?:pub )?ghost (?!use )(\w+)")
@@ -46,6 +49,13 @@ def words(text):
     return tuple(word for word, after in zip(found, [*found[1:], ""]) if not (word == "," and after in ")}]"))
 
 
+def without_generics(line):
+    """A line without its lists of generic parameters."""
+    while (shorter := GENERICS.sub("", line)) != line:
+        line = shorter
+    return line
+
+
 def block(lines, place):
     """The lines from this one on until its braces are closed."""
     depth = 0
@@ -73,8 +83,8 @@ def clauses(text):
     for place, line in enumerate(lines):
         if line == "}":
             owner = ""
-        is_owner = OWNER.match(line)
-        if is_owner and not line.startswith(" "):
+        is_owner = OWNER.match(without_generics(line))
+        if is_owner:
             owner = is_owner[1] + "::"
         is_function = FUNCTION.match(line)
         if is_function:
