@@ -37,6 +37,8 @@ dpkg-deb -x "$first" "$room/tree"
 cmp "$program" "$room/tree/usr/bin/depot"
 matches "files that name the place of a local installation" '' \
     "$(grep -rlE '/usr/local/(lib/depot|bin/depot)' "$room/tree/usr/lib" || true)"
+matches "its change log, compressed without a name and a time" '' \
+    "$(gzip -9n <"$top/CHANGELOG.md" | cmp - "$room/tree/usr/share/doc/depot/changelog.gz" 2>&1 || true)"
 matches "whose the files are" 'root/root' "$(dpkg-deb -c "$first" | awk '{ print $2 }' | sort -u)"
 
 # ---- a machine
