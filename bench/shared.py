@@ -1,4 +1,4 @@
-"""Stands for the package `trials/shared`: `from shared.forms import bag` finds the modules of that folder."""
+"""The package `trials/shared`, for the scripts of this folder: by it `from shared.forms import bag` finds a module."""
 
 from pathlib import Path
 

@@ -3,7 +3,7 @@
 # copy, opened elsewhere, has each of three deposits that were answered, byte for byte. So has the office that is
 # restored from it. Then it shows what other copies give: the file alone, after a kill and while the office runs; the
 # file and its log, of two moments and after a kill; the file after the last connection; a backup beside a later log.
-# Word: the program; if left out, that of DEPOT, or the repository's own.
+# Argument: the program; if left out, that of DEPOT, or the repository's own.
 set -eu
 top=$(readlink -f "$(dirname "$(readlink -f "$0")")/..")
 . "$top/trials/needs.sh"
@@ -66,8 +66,7 @@ has_three() {
     done
 }
 
-# Bags, each with bytes of its own, that are long enough for three of their kind to fill the log, which is then copied
-# into the file.
+# Bags with different bytes, so long that three of them fill the log, which is then copied into the file.
 large=$room/large
 mkdir "$large"
 for number in {4..8}; do

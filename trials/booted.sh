@@ -1,10 +1,10 @@
 #!/usr/bin/env bash
 # Boots a machine (boots.sh) and runs an office there under its systemd, installed by the commands of docs/OPERATING.md,
 # word for word: starts, requests, midnights, stops, restores, audits, failures, a full disk, another policy, another
-# program, and days that are refused. After each it looks at the states of the units, the backups and the journal. Where
-# one line of a unit is what helps, the script also takes it out and sees the trial fail. A stand-in for `date` on the
-# unit's PATH gives other days. There is no proxy.
-# Word: the program; if left out, that of DEPOT, or the repository's own.
+# program, and days that are refused. After each it looks at the states of the units, the backups and the journal. If a
+# case depends on one line of a unit, the script also removes that line, and sees the case fail. A stand-in for `date` on
+# the unit's PATH gives other days. There is no proxy.
+# Argument: the program; if left out, that of DEPOT, or the repository's own.
 # shellcheck disable=SC2016 # what is in single quotes is for the machine
 set -eu
 top=$(readlink -f "$(dirname "$(readlink -f "$0")")/..")
@@ -23,12 +23,12 @@ store=/var/lib/depot/office
 copies=/var/backups/depot/office
 desk=http://127.0.0.1:8080
 
-# What comes in the machine, with the repository's examples in its folder.
+# Runs a command in the machine, in a folder with the repository's examples.
 inside() {
     within bash -euc "cd /root/depot; $1"
 }
 
-# The commands of the page, in the machine.
+# Runs a block of commands of the page in the machine: `follow_inside SECTION NUMBER [BEFORE]`.
 follow_inside() {
     local commands
     commands=$(block "$1" "$2")
@@ -152,7 +152,7 @@ grown "a stop" 1
 matches "the day beside it" "$today" "$(within cat "$(newest | sed 's/db$/day/')")"
 matches "a proxy sees that it is closed" "yes" \
     "$(within runuser -u nobody -- sh -c 'test -f /run/depot/office.closed && echo yes')"
-# The office waits until the clock is right. A stand-in waits for it, since a container's clock isn't set.
+# The office waits until the clock is right. Since a container doesn't set its clock, a stand-in waits for that.
 drop_in systemd-time-wait-sync.service clock <<'END'
 [Unit]
 ConditionCapability=

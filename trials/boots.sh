@@ -54,7 +54,7 @@ within() {
         PATH=/usr/local/sbin:/usr/local/bin:/usr/sbin:/usr/bin:/sbin:/bin "$@"
 }
 
-# Asks an office in it as anna: the words are those of curl.
+# Asks an office in it as anna: the arguments are those of curl.
 anna_within() {
     within curl -sS --max-time 30 -H 'Depot-Caller: anna' "$@"
 }

@@ -5,7 +5,7 @@
 # afterwards. So it is where the output fails too. Then the output alone fails (`/dev/full`): the command ends with 3,
 # and the file has the change without its log. Then an install fails, and the policy from before stays. At last somebody
 # removes the log of an office that serves.
-# Word: the program; if left out, that of DEPOT, or the repository's own.
+# Argument: the program; if left out, that of DEPOT, or the repository's own.
 set -eu
 top=$(readlink -f "$(dirname "$(readlink -f "$0")")/..")
 . "$top/trials/needs.sh"

@@ -6,7 +6,7 @@
 # and so are an office that is open and too little room. Killed at each step of its end, and at other moments, it leaves
 # a whole office, and the next call succeeds. Then its unit runs in a machine with a systemd: the office serves again,
 # and one that was stopped stays stopped.
-# Word: the program; if left out, that of DEPOT, or the repository's own.
+# Argument: the program; if left out, that of DEPOT, or the repository's own.
 set -eu
 top=$(readlink -f "$(dirname "$(readlink -f "$0")")/..")
 . "$top/trials/needs.sh"

@@ -4,7 +4,7 @@
 # this, the copy is killed at 50 moments, and the office answers each time; without `ExecStopPost` it stays stopped. A
 # drill fails on a damaged, an older and a smaller copy, and on others. Of a year's copies `prune` keeps those that
 # another program computes. Each has a control: what it does without the line that is tried.
-# Word: the program; if left out, that of DEPOT, or the repository's own.
+# Argument: the program; if left out, that of DEPOT, or the repository's own.
 set -eu
 top=$(readlink -f "$(dirname "$(readlink -f "$0")")/..")
 . "$top/trials/needs.sh"
@@ -84,7 +84,7 @@ anna -X PUT -d '{"years":1}' "$address/classes/y1" >said
 anna -X PUT "$address/collections/maps" >said
 for number in 1 2 3; do deposit "$number"; done
 
-# ---- words: one line, status 2, and nothing is made
+# ---- invalid arguments: one line, status 2, and nothing is made
 
 for words in "" "office.db" "none.db copies" "office.db ." "office.db office.db" "office.db copies x y" "office.db copies ho;st:x" \
     "--continue" "--continue a b"; do
@@ -156,7 +156,7 @@ serve
 
 # ---- whatever ends it, the office goes on
 
-# A disk without room: a limit on the length of files stands for it.
+# A disk without room, in whose place there is a limit on the length of files.
 matches "no room" '1; ' \
     "$( (trap '' XFSZ; ulimit -f 2; PATH=$PATH says "$units/copy" office.db copies) 2>/dev/null | sed 's/;.*/; /')"
 matches "the office" yes "$(answers)"

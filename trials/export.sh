@@ -6,7 +6,7 @@
 # byte that was changed in a folder. It also names what was destroyed, what a caller may not fetch, what can't be a
 # folder, a bag whose bytes rotted, a full disk, and an office that is closed. pip fetches bagit.py where it can;
 # without it `exported.py` alone judges the folders, and the last line says so.
-# Word: the program; if left out, that of DEPOT, or the repository's own.
+# Argument: the program; if left out, that of DEPOT, or the repository's own.
 set -eu
 top=$(readlink -f "$(dirname "$(readlink -f "$0")")/..")
 . "$top/trials/needs.sh"

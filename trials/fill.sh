@@ -4,8 +4,8 @@
 # bag is in the office once, byte for byte, and those that can't be taken in are named, each with its reason. A bag that
 # is mended goes in by the next call. After a restore the bags that the office lost are deposited again, whatever it has
 # under their numbers; a call that believes LIST.done is seen to lose them. It names a bag that was destroyed, and one
-# of which a byte was flipped in the store. It waits for an office that is closed; `shuts.py` stands for that office.
-# Word: the program; if left out, that of DEPOT, or the repository's own.
+# of which a byte was flipped in the store. While an office is closed, it waits; `shuts.py` plays that office.
+# Argument: the program; if left out, that of DEPOT, or the repository's own.
 set -eu
 top=$(readlink -f "$(dirname "$(readlink -f "$0")")/..")
 . "$top/trials/needs.sh"

@@ -4,7 +4,7 @@
 # and what was answered before is there once there is room, by the page's commands. A backup and a `pack` that have no
 # room leave nothing under their names. Standard error, a file on that disk, gets lines of the failures and of their
 # end; where it has no room either, they are dropped, and the next ones come.
-# Word: the program; if left out, that of DEPOT, or the repository's own.
+# Argument: the program; if left out, that of DEPOT, or the repository's own.
 set -eu
 top=$(readlink -f "$(dirname "$(readlink -f "$0")")/..")
 . "$top/trials/needs.sh"

@@ -4,7 +4,7 @@
 # compared with the page's: its status and its body (of the desk's refusals the name). Then once more with a policy of
 # version 2: the rules of the page's policy count on the page's day alone, and two more rules deny everything until the
 # day before, and from the day after on. Python stands in for `nc`.
-# Word: the program; if left out, that of DEPOT, or the repository's own.
+# Argument: the program; if left out, that of DEPOT, or the repository's own.
 set -eu
 top=$(readlink -f "$(dirname "$(readlink -f "$0")")/..")
 . "$top/trials/needs.sh"

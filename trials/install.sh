@@ -1,9 +1,9 @@
 #!/usr/bin/env bash
 # Installs the program by `./depot install DIR`: under DIR are the program, its man page, its completions and the
 # records room, and nothing else. There the program runs in a tree that has nothing but what `ldd` names, `man` shows
-# the page, and bash loads the completions. A tiny tree stands for the repository, with a stand-in for `rt` that gives
-# the program. Without root or a user namespace the program isn't run by itself.
-# Word: the program; if left out, that of DEPOT, or the repository's own.
+# the page, and bash loads the completions. It works on a tiny tree in the place of the repository, and a stand-in for
+# `rt` gives the program. Without root or a user namespace the program isn't run by itself.
+# Argument: the program; if left out, that of DEPOT, or the repository's own.
 set -eu
 top=$(readlink -f "$(dirname "$(readlink -f "$0")")/..")
 . "$top/trials/needs.sh"

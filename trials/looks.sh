@@ -19,7 +19,7 @@ cp "$top/examples/bag-a.bagset" "$room/-a form"
 echo 'no bag' >"$room/cut"
 cat >"$room/kit/rt" <<'STUB'
 #!/usr/bin/env bash
-# Stands for `rt try --seconds N --cases FOLDER --data ..`, called in the folder of the program's crate.
+# A stand-in for `rt try --seconds N --cases FOLDER --data ..`, called in the folder of the program's crate.
 set -eu
 echo "$(basename "$PWD") $1 $2 $4" >>"$ROOM/calls"
 [ ! -e "$ROOM/fails" ] || { echo "a type is wrong" >&2; exit 1; }
@@ -46,7 +46,7 @@ for tool in bash readlink dirname; do
 done
 
 # What is looked at; the status; how often the program is compiled; what is printed, and what is said beside the first
-# and last lines, which say that it compiles and that nothing is proved; the words.
+# and last lines, which say that it compiles and that nothing is proved; the arguments.
 look() {
     local status=0 said
     : >"$room/calls"

@@ -225,7 +225,7 @@ def is_failure(ended):
 
 def fault_of_asking(ended, again, wanted):
     """What is wrong with the end of `ask`, or of the same request asked again, if anything is."""
-    # (what was answered is done, what wanted memory isn't, and of a failure of the store nothing is known)
+    # (what was answered is done, what lacked memory isn't, and after a failure of the store nothing is known)
     wants = wanted
     if ended.returncode == 0 and ended.stdout == wanted[0]:
         wants = wanted[1:]

@@ -5,7 +5,7 @@
 # its own file system, one whose certificate ends. The status and one line name each, several troubles too. It refuses
 # invalid arguments. Two file systems in memory are the disks. Some cases show what the monitor would miss without
 # CALLER, and that an office on a full disk still answers what is due.
-# Word: the program; if left out, that of DEPOT, or the repository's own.
+# Argument: the program; if left out, that of DEPOT, or the repository's own.
 set -eu
 top=$(readlink -f "$(dirname "$(readlink -f "$0")")/..")
 . "$top/trials/needs.sh"

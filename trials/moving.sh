@@ -1,9 +1,9 @@
 #!/usr/bin/env bash
-# Moves an office to another machine by the commands of docs/OPERATING.md, word for word; a folder stands for each
-# machine. There the audit finds each deposit valid, and the office serves each of them byte for byte and goes on; the
-# old machine can't start it again by mistake. So it is with the newest backup, where the old machine is lost. An
+# Moves an office to another machine by the commands of docs/OPERATING.md, word for word; each machine is a folder here.
+# On the new one the audit finds each deposit valid, and the office serves each of them byte for byte and goes on; the
+# old machine can't start it again by mistake. The same holds for the newest backup, if the old machine is lost. An
 # archive that was damaged on its way is refused.
-# Word: the program; if left out, that of DEPOT, or the repository's own.
+# Argument: the program; if left out, that of DEPOT, or the repository's own.
 set -eu
 top=$(readlink -f "$(dirname "$(readlink -f "$0")")/..")
 . "$top/trials/needs.sh"

@@ -52,7 +52,7 @@ kill_office() {
     ended "$office" 2>/dev/null || true
 }
 
-# Asks as anna: the words are those of curl.
+# Asks as anna: the arguments are those of curl.
 anna() {
     curl -sS --max-time 60 -H 'Depot-Caller: anna' "$@"
 }

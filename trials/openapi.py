@@ -312,7 +312,7 @@ def template_of(path, operations):
 
 
 def value_of(schema, text):
-    """The value that a text in a path or a query stands for, by the type of its schema."""
+    """The value that a text in a path or a query means, by the type of its schema."""
     if schema.get("type") == "integer" and re.fullmatch("0|-?[1-9][0-9]*", text):
         return int(text)
     return text

@@ -3,7 +3,7 @@
 # office serve by it, upgrades it while the office runs, removes it and purges it. An upgrade first makes a backup by
 # the old program, and the office serves again after it. A removal leaves each office, its copies and its settings as
 # they were, and no unit.
-# Word: the program; if left out, that of DEPOT, or the repository's own.
+# Argument: the program; if left out, that of DEPOT, or the repository's own.
 # shellcheck disable=SC2016 # what is in single quotes is for others
 set -eu
 top=$(readlink -f "$(dirname "$(readlink -f "$0")")/..")

@@ -3,7 +3,7 @@
 # of `examples/office.toml`. A row that is changed, and a policy in which a rule is changed, are found. The caller of
 # audits and the monitor may do what they have to, and nothing else. Then the policy is installed in an office, which is
 # asked each row (`ask`): the same rows are denied, by the same rules.
-# Word: the program; if left out, that of DEPOT, or the repository's own.
+# Argument: the program; if left out, that of DEPOT, or the repository's own.
 set -eu
 top=$(readlink -f "$(dirname "$(readlink -f "$0")")/..")
 . "$top/trials/needs.sh"
@@ -103,7 +103,7 @@ done
 
 # ---- the same of an office that has it
 
-# A request, and the answer: the status and the body. Its words are the file, the day, the caller, the method, the
+# A request, and the answer: the status and the body. Its arguments are the file, the day, the caller, the method, the
 # target, and a file that is its body.
 ask() {
     caller=$3 request "${@:4}" | "$program" ask "$1" "$2" | awk \

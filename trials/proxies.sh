@@ -4,7 +4,7 @@
 # shellcheck shell=bash disable=SC2154,SC2034,SC2016
 
 # What a script may set: the users of each office that has no file of users yet; the password of all; and a script of
-# `sed`, which is applied to the file of `examples/` first (so a control takes a cure out).
+# `sed`, which is applied to the file of `examples/` first (so a control removes the lines that help).
 users=(anna)
 password=Sesame-4711
 edit=

@@ -16,7 +16,7 @@
 # - (nginx) a user has one request at a time, and a user's flood keeps nobody else waiting; `examples/fill` isn't
 #   refused.
 # Controls show that the same trials fail without the lines that make the difference.
-# Word: the program; if left out, that of DEPOT, or the repository's own.
+# Argument: the program; if left out, that of DEPOT, or the repository's own.
 # MIB is the size of the large bag, for a slow program.
 # shellcheck disable=SC2016 # what `sed` edits has variables of nginx
 set -eu
@@ -97,7 +97,7 @@ gets() {
     cases=$((cases + 1))
 }
 
-# A part of proxy_client.py, and its words: it counts its cases.
+# Runs a part of proxy_client.py with its arguments, and counts its cases.
 part() {
     local said
     said=$(python3 "$top/trials/proxy_client.py" "$@" 2>trouble) || fail "$1: $(tail -n 3 trouble)"

@@ -19,7 +19,7 @@ done
 echo 'kit one' >"$room/kit/KIT-ID"
 cat >"$room/kit/bin/rt" <<'STUB'
 #!/usr/bin/env bash
-# Stands for `rt lib`, called in the folder of a library, and `rt run -- check FILE`, called in that of the program.
+# A stand-in for `rt lib`, called in the folder of a library, and `rt run -- check FILE`, called in that of the program.
 set -eu
 crate=$(basename "$PWD")
 echo "$crate $*" >>"$ROOM/calls"

@@ -1,5 +1,5 @@
 """Part of room.py: the page and its proxies. Other sites, deposited pages, answers that are lost, an office that is
-closed, busy or restarted, several offices under prefixes; over nginx, and over Caddy what touches the proxy. Then
+closed, busy or restarted, several offices under prefixes; with nginx, and with Caddy as far as the proxy matters. Then
 WebKit."""
 import http.server
 import os

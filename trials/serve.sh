@@ -1,13 +1,13 @@
 #!/usr/bin/env bash
-# Sends `depot serve` requests by curl, for each route and each refusal but want of memory. Installs a policy of version
+# Sends `depot serve` requests by curl, for each route and each refusal but lack of memory. Installs a policy of version
 # 2, whose rules have days, and serves one office on three days, on which other rules decide the same requests; `explain
 # --day` says the same of each. Each command that takes a policy or a day refuses a malformed one. Each command refuses
 # a database that has commits in a log and isn't an office of this version, and an office that another process has open,
 # and leaves it as it was. With too few descriptors to accept a connection `serve` stops, and says why. Then
 # `serve_client.py` sends bytes that are cut, dribbled, stopped or too many, and kills the office 200 times, between
 # requests and in them; what is there after each restart must be what was answered.
-# Word: the program; if left out, that of DEPOT, or the repository's own.
-# A second word: how many times the office is killed.
+# Argument: the program; if left out, that of DEPOT, or the repository's own.
+# A second argument: how many times the office is killed.
 set -eu
 top=$(readlink -f "$(dirname "$(readlink -f "$0")")/..")
 . "$top/trials/needs.sh"
@@ -245,7 +245,7 @@ ends_well() {
     ended "$office" || fail "serve is to end with 0 after its last connection, and ended with $?"
 }
 
-# What is wanted of a command, on its outputs and as its status, and its words. It gets the record of a request, or
+# What is wanted of a command, on its outputs and as its status, and its arguments. It gets the record of a request, or
 # `input`.
 prints() {
     local out=$1 err=$2 wanted=$3 status=0
@@ -259,7 +259,7 @@ prints() {
     fi
 }
 
-# A malformed policy: its fault, its sentence with the place, and words for sed that make it from the policy with days.
+# A malformed policy: its fault, its sentence with the place, and arguments of sed that make it of the policy with days.
 # Each command that reads a policy refuses it, and the office is as it was.
 no_policy() {
     local file=$room/other.toml

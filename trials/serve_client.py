@@ -214,7 +214,7 @@ def check_time(what, began, least, most):
 
 
 def at_one_address():
-    """At 127.0.0.2, which is this machine too, nobody listens: who listened at all its addresses would be reached
+    """At 127.0.0.2, which is this machine too, nobody listens. An office that listened at all addresses would answer
     there."""
     office = opened("here.db")
     with socket.create_server(("0.0.0.0", 0)) as everywhere:
@@ -502,7 +502,7 @@ def killed():
             peer, change, is_half = pending
             peer.close()
             counts[what_became_of(office, kept, change, is_half)] += 1
-        # What stood there when it was killed is what was answered, and what the request that it was killed in did.
+        # What was there when it was killed is what was answered, and what the request that it was killed in did.
         compare("the rows after a kill", kept.counts(), found)
         some = chance.sample(sorted(kept.bags), min(3, len(kept.bags)))
         has_kept(office, kept, {*list(kept.bags)[-5:], *some})

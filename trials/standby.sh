@@ -1,11 +1,11 @@
 #!/usr/bin/env bash
-# Two network namespaces stand for two machines. On the first an office serves four clients that deposit, hold, release,
+# Two network namespaces are the two machines. On the first an office serves four clients that deposit, hold, release,
 # revise and destroy without a pause; `examples/systemd/copy` copies it to the second, over ssh, every second. Then the
 # first machine is lost, at a random moment of a copy: its processes are killed, and its folder is gone. The second
 # starts from its newest copy. Each change that was answered before that copy began is there, byte for byte, and the
 # office goes on: 20 times, or ROUNDS. Control: of copies of both files that are taken under the same load while the
 # office goes on, some are refused, or lack changes.
-# Word: the program; if left out, that of DEPOT, or the repository's own.
+# Argument: the program; if left out, that of DEPOT, or the repository's own.
 set -eu
 top=$(readlink -f "$(dirname "$(readlink -f "$0")")/..")
 . "$top/trials/needs.sh"

@@ -7,7 +7,7 @@
 # its wait for the proxy they get 502; so does a request that nginx lets wait for its turn, where it doesn't look for
 # the file again. Then two uploads that take longer than the stop waits, and what `close` and `open` say to their
 # arguments.
-# Word: the program; if left out, that of DEPOT, or the repository's own.
+# Argument: the program; if left out, that of DEPOT, or the repository's own.
 set -eu
 top=$(readlink -f "$(dirname "$(readlink -f "$0")")/..")
 . "$top/trials/needs.sh"

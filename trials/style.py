@@ -12,7 +12,7 @@
 - `made`: what scripts make of the sources is as they make it: docs/PROMISES.md by promises.py, and docs/depot.1 and
   docs/depot.bash by manual.py, by the program of DEPOT or the repository's own; where there is neither, the last line says so.
 
-Words: the checks; all of them if left out.
+Arguments: the checks; all of them if left out.
 """
 import collections
 import concurrent.futures

@@ -4,7 +4,7 @@
 # reason on the next line, and what was there is as it was. A limit on the length of files: the program is killed, and
 # what was answered is there. As root, `setpriv` gives a user without rights. A mount needs root or a user namespace;
 # without it the last line says that none was tried.
-# Word: the program; if left out, that of DEPOT, or the repository's own.
+# Argument: the program; if left out, that of DEPOT, or the repository's own.
 set -eu
 top=$(readlink -f "$(dirname "$(readlink -f "$0")")/..")
 . "$top/trials/needs.sh"

@@ -3,7 +3,7 @@
 # the unit names; `systemd-analyze security` says how far each is confined. Then the scripts that the units run: `serve`
 # with each kind of day, `backup`, `restore` and `audit`, with invalid arguments, and killed at each of their steps.
 # `trials/booted.sh` runs the units themselves. As root it also restores into a folder of another user.
-# Word: the program; if left out, that of DEPOT, or the repository's own.
+# Argument: the program; if left out, that of DEPOT, or the repository's own.
 set -eu
 shopt -s extglob
 top=$(readlink -f "$(dirname "$(readlink -f "$0")")/..")

@@ -3,7 +3,7 @@
 # the tables of version 4, as an older program made them: then it has those of version 5 and all its deposits. The way
 # back puts the old program and the file from before in their places, byte for byte. (The old program is here a copy of
 # the new one: what it answers isn't tried. `trials/upgrade.py` compares each row.)
-# Word: the program; if left out, that of DEPOT, or the repository's own.
+# Argument: the program; if left out, that of DEPOT, or the repository's own.
 set -eu
 top=$(readlink -f "$(dirname "$(readlink -f "$0")")/..")
 . "$top/trials/needs.sh"

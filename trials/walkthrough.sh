@@ -3,7 +3,7 @@
 # in an empty folder with the examples. What each prints, on both outputs, must be the lines below it. A command that
 # ends with `&` has a minute to print its lines, and must end within a minute of the last command. The first look takes
 # some minutes.
-# Word: the program; if left out, that of DEPOT, or the repository's own.
+# Argument: the program; if left out, that of DEPOT, or the repository's own.
 set -eu
 top=$(readlink -f "$(dirname "$(readlink -f "$0")")/..")
 . "$top/trials/needs.sh"

@@ -1,6 +1,6 @@
 #!/usr/bin/env bash
 # Compares the sentences in the code of `fault_words` with the columns "In words" of docs/BAGS.md and docs/POLICY.md,
-# and prints those that only one side has. A row's fault must be the last code of its sentence. Want of memory has a row
+# and prints those that only one side has. A row's fault must be the last code of its sentence. Lack of memory has a row
 # in docs/POLICY.md alone, and is left out.
 set -eu
 top=$(readlink -f "$(dirname "$(readlink -f "$0")")/..")
@@ -31,7 +31,7 @@ for file in sorted((top / "crates/fault_words/src").glob("*.rt")):
         for place, name in PLACES.items():
             text = text.replace(place, name)
         if file.name == "folder.rt" and not text.startswith(("a ", "an ", "the ", "something ")):
-            text = "PATH " + text  # what is said of a file stands behind its path
+            text = "PATH " + text  # what is said of a file follows its path
         if is_sentence(text):
             coded.add(text)
 

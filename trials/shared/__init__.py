@@ -1,1 +1,1 @@
-"""What the Python scripts of `trials/` and of `bench/` share. (`bench/shared.py` stands for this folder there.)"""
+"""What the Python scripts of `trials/` and of `bench/` share. (There `bench/shared.py` makes this folder known as `shared`.)"""
