@@ -81,7 +81,8 @@ class Office(Server):
         took = (self.used() - before) / len(texts)
         print(
             f"{name}: {shown(took)} of processor time, {shown(median(waits))} until the answer was there"
-            f" ({len(texts):,} of them, the last with a body of {len(body):,} bytes; at most {self.peak():.0f} MiB so far)",
+            f" ({len(texts):,} of them, the last with a body of {len(body):,} bytes;"
+            f" at most {self.peak():.0f} MiB so far)",
             flush=True,
         )
 

@@ -130,7 +130,8 @@ def main():
                 rate = median(found[offices])
                 print(
                     f"{name}: {offices} office{'s' * (offices > 1)}, {CLIENTS} clients, {count:,} requests:"
-                    f" {rate:,.0f} a second, {rate / median(found[1]):.2f} times one office's (spread {spread(found[offices]):.0%})",
+                    f" {rate:,.0f} a second, {rate / median(found[1]):.2f} times one office's"
+                    f" (spread {spread(found[offices]):.0%})",
                     flush=True,
                 )
 

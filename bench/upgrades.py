@@ -90,7 +90,9 @@ def longest_log(file):
     """How many bytes the log beside the file has at most while the program upgrades a copy."""
     to = fresh(file)
     log, longest = to.with_name(to.name + "-wal"), 0
-    with subprocess.Popen([OFFICE_FILE, "upgrade", to], stdout=subprocess.DEVNULL, stderr=subprocess.DEVNULL) as running:
+    with subprocess.Popen(
+        [OFFICE_FILE, "upgrade", to], stdout=subprocess.DEVNULL, stderr=subprocess.DEVNULL
+    ) as running:
         while running.poll() is None:
             longest = max(longest, log.stat().st_size if log.exists() else 0)
             time.sleep(0.0005)

@@ -289,7 +289,8 @@ def due_from_its_day(office):
     for within, is_there in [(3, True), (2, False)]:
         told = asked(office.store, day=due - datetime.timedelta(days=3), within=within)["due"]
         numbers = [it["deposit"] for it in told]
-        compare(f"deposit {one['deposit']} until {within - 3} days after it is due", is_there, one["deposit"] in numbers)
+        compare(f"deposit {one['deposit']} until {within - 3} days after it is due",
+                is_there, one["deposit"] in numbers)
 
 
 def look(program, folder, seed, version):

@@ -130,7 +130,8 @@ has_three "the file and its log, while the office rests" copy/office.db
 cp office.db copy/office.db
 for number in 4 5 6 7; do deposit "$number" "$large/$number"; done
 cp office.db-wal copy/office.db-wal
-compare "the file, and later its log" 'store Q4 depot: cannot open copy/office.db: database disk image is malformed; 3' \
+compare "the file, and later its log" \
+    'store Q4 depot: cannot open copy/office.db: database disk image is malformed; 3' \
     "$(deposits_of copy/office.db)"
 stop_office
 begin
@@ -159,7 +160,8 @@ serve
 for number in 5 6 7 8; do deposit "$number" "$large/$number"; done
 stop_office
 cp older.db office.db
-compare "a backup beside a log of after a copy into the file" 'store Q4 depot: cannot open office.db: database disk image is malformed; 3' \
+compare "a backup beside a log of after a copy into the file" \
+    'store Q4 depot: cannot open office.db: database disk image is malformed; 3' \
     "$(deposits_of office.db)"
 echo "backup: $cases cases: the commands of docs/OPERATING.md, word for word, keep three deposits, and what each" \
     "other copy gives is as the page says"

@@ -23,8 +23,8 @@ from shared.forms import declaration, files_below, form, lay, manifests
 from shared.places import DEPOT, needs_built
 
 ALGORITHMS = ("sha256", "sha512")
-PIECES = ["a", "b", "Z", "0", "-", "_", ".", " ", "  ", "%", "%%", "%2", "%41", "\n", "\r", "\r\n", "\t", "'", '"', "\\",
-          "*", ":", "~", "\x01", "\x7f", "é", "e\u0301", "ß", "中", "\u2028", "\x85", "😀", "Ω"]
+PIECES = ["a", "b", "Z", "0", "-", "_", ".", " ", "  ", "%", "%%", "%2", "%41", "\n", "\r", "\r\n", "\t", "'", '"',
+          "\\", "*", ":", "~", "\x01", "\x7f", "é", "e\u0301", "ß", "中", "\u2028", "\x85", "😀", "Ω"]
 
 
 def call(*words):
@@ -160,8 +160,8 @@ def main():
             count += go_round(seed, os.fsencode(folder))
     with tempfile.TemporaryDirectory() as folder:
         odd = refused(os.fsencode(folder))
-    print(f"seeds {first} to {last}: {last + 1 - first} bags of {count} files packed, checked, unpacked and packed again: "
-          f"the same bytes; {odd} folders refused for an entry")
+    print(f"seeds {first} to {last}: {last + 1 - first} bags of {count} files packed, checked, unpacked and packed "
+          f"again: the same bytes; {odd} folders refused for an entry")
 
 
 if __name__ == "__main__":

@@ -2,8 +2,8 @@
 # Boots a machine (boots.sh) and runs an office there under its systemd, installed by the commands of docs/OPERATING.md,
 # word for word: starts, requests, midnights, stops, restores, audits, failures, a full disk, another policy, another
 # program, and days that are refused. After each it looks at the states of the units, the backups and the journal. If a
-# case depends on one line of a unit, the script also removes that line, and sees the case fail. A stand-in for `date` on
-# the unit's PATH gives other days. There is no proxy.
+# case depends on one line of a unit, the script also removes that line, and sees the case fail. A stand-in for `date`
+# on the unit's PATH gives other days. There is no proxy.
 # Argument: the program; if left out, that of DEPOT, or the repository's own.
 # shellcheck disable=SC2016 # what is in single quotes is for the machine
 set -eu
@@ -119,7 +119,8 @@ within install "$program" /usr/local/bin/depot
 within install -D -m 644 "$top/docs/depot.1" /usr/local/share/man/man1/depot.1
 inside 'sed "/^carl = /a auditor = \"auditor\"" examples/policy.toml >policy.toml
 for action in list audit; do
-    printf "\n[[rule]]\neffect = \"allow\"\nrole = \"auditor\"\naction = \"%s\"\ncollection = \"*\"\nclass = \"*\"\n" $action
+    printf "\n[[rule]]\neffect = \"allow\"\nrole = \"auditor\"\naction = \"%s\"\n" $action
+    printf "collection = \"*\"\nclass = \"*\"\n"
 done >>policy.toml'
 
 # ---- set up, and a first day
@@ -128,7 +129,8 @@ mark
 follow_inside "$section" 1
 matches "the units are set up" "active active" "$(states)"
 matches "nothing of the machine failed" "" "$(within systemctl list-units --failed --plain --no-legend 'depot*')"
-matches "who may read what is there" "$(printf '%s\n' '600 depot office.day' '600 depot office.db' '600 depot office.db-wal')" \
+matches "who may read what is there" \
+    "$(printf '%s\n' '600 depot office.day' '600 depot office.db' '600 depot office.db-wal')" \
     "$(within find "$store" -type f -printf '%m %u %f\n' | sort)"
 today=$(within date +%F)
 matches "the day that is served" "$today" "$(day)"
@@ -141,7 +143,8 @@ done
 matches "the next midnight" "$(within date -d tomorrow '+%a %F 00:00:05 %Z')" \
     "$(state depot-midnight@office.timer NextElapseUSecRealtime)"
 matches "what systemd says of it" '*Next elapse: Thu 2024-02-29 00:00:05 UTC*' \
-    "$(TZ=UTC systemd-analyze calendar --base-time='2024-02-28 13:00:00 UTC' "$(sed -n 's/^OnCalendar=//p' "$top/examples/systemd/depot-midnight@.timer")")"
+    "$(TZ=UTC systemd-analyze calendar --base-time='2024-02-28 13:00:00 UTC' \
+        "$(sed -n 's/^OnCalendar=//p' "$top/examples/systemd/depot-midnight@.timer")")"
 matches "the next audit" 'Sun *' "$(state depot-audit@office.timer NextElapseUSecRealtime)"
 
 # ---- stops and starts
@@ -298,7 +301,8 @@ for with in "a log" "no log" "no store"; do
     follow_inside "Stopping and backing up" 4 "copy=$copy"
     restored=$((restored + 1))
     matches "a restore with $with" "active active; 3" "$(states); $(deposits)"
-    matches "whose files they are" "$(printf '%s\n' '600 depot office.day' '600 depot office.db' '600 depot office.db-wal')" \
+    matches "whose files they are" \
+        "$(printf '%s\n' '600 depot office.day' '600 depot office.db' '600 depot office.db-wal')" \
         "$(within find "$store" -maxdepth 1 -type f -printf '%m %u %f\n' | sort)"
     matches "a fourth deposit again" '{"deposit":4}' "$(deposit 4)"
     sleep 1
@@ -306,8 +310,10 @@ done
 made=$(backups)
 matches "what was there" "$(printf '%s\n' office.day office.day office.db office.db office.db-wal)" \
     "$(within find "$store" -path '*/replaced-*/*' -printf '%f\n' | sort)"
-matches "the deposits of what was replaced first" '{"deposits":[*"deposit":5,*' "$(inside "mkdir -m 777 /tmp/look; cp -p $store/replaced-*/office.db* /tmp/look/ 2>/dev/null || true
-    cp \$(find $store -path '*/replaced-*/office.db-wal' | sed 's/-wal\$//') \$(find $store -path '*/replaced-*/office.db-wal') /tmp/look/
+matches "the deposits of what was replaced first" '{"deposits":[*"deposit":5,*' "$(inside "mkdir -m 777 /tmp/look
+    cp -p $store/replaced-*/office.db* /tmp/look/ 2>/dev/null || true
+    cp \$(find $store -path '*/replaced-*/office.db-wal' | sed 's/-wal\$//') \
+        \$(find $store -path '*/replaced-*/office.db-wal') /tmp/look/
     printf 'GET /deposits HTTP/1.1\r\nDepot-Caller: anna\r\n\r\n' | depot ask /tmp/look/office.db $today | tail -n 1")"
 
 # ---- audits
@@ -328,8 +334,11 @@ done
 systemctl daemon-reload'
 matches "control: an audit that may not make a log" "exit-code" "$(audit)"
 matches "the journal" yes \
-    "$(! within journalctl --no-pager --since="@$moment" | grep -qE 'SIGSYS|Bad system call|code=dumped|status=159' || echo yes)"
-inside 'for each in depot@ depot-; do mv /etc/systemd/system/$each.service.d/sandbox.conf.kept /etc/systemd/system/$each.service.d/sandbox.conf; done
+    "$(! within journalctl --no-pager --since="@$moment" |
+        grep -qE 'SIGSYS|Bad system call|code=dumped|status=159' || echo yes)"
+inside 'for each in depot@ depot-; do
+    mv /etc/systemd/system/$each.service.d/sandbox.conf.kept /etc/systemd/system/$each.service.d/sandbox.conf
+done
 systemctl daemon-reload'
 # Another byte in the content that the deposits share.
 within systemctl restart depot@office
@@ -365,7 +374,8 @@ grown "another program" 1
 # ---- days
 
 inside 'mkdir /usr/local/lib/days
-printf "%s\n" "#!/bin/sh" "[ \"\$*\" = +%F ] && exec cat /usr/local/lib/days/day" "exec /usr/bin/date \"\$@\"" >/usr/local/lib/days/date
+printf "%s\n" "#!/bin/sh" "[ \"\$*\" = +%F ] && exec cat /usr/local/lib/days/day" "exec /usr/bin/date \"\$@\"" \
+    >/usr/local/lib/days/date
 chmod 755 /usr/local/lib/days/date'
 printf '[Service]\nEnvironment=PATH=/usr/local/lib/days:/usr/bin:/bin\n' | drop_in depot@office.service days
 
@@ -376,7 +386,10 @@ is_refused() {
     sleep "${3-0}"
     matches "$1" "failed 4 0" \
         "$(state depot@office ActiveState) $(state depot@office ExecMainStatus) $(state depot@office NRestarts)"
-    matches "$1: the journal" "$2; if it is right, call: echo $(within cat /usr/local/lib/days/day) >$store/office.confirm, as the office's user" \
+    local day
+    day=$(within cat /usr/local/lib/days/day)
+    matches "$1: the journal" \
+        "$2; if it is right, call: echo $day >$store/office.confirm, as the office's user" \
         "$(journal depot@office | grep '^the day is')"
 }
 # A person confirms it by the command that the journal has.
@@ -405,8 +418,9 @@ within systemctl start depot-midnight@office.service
 matches "midnight, and a leap day" "2024-02-29 2024-02-29" "$(both_days)"
 # By `replay`, over a copy of the newest backup, the same is due on the same day.
 anna_within -X PUT "$desk/classes/y4" -d '{"years":4}' >"$room/said"
-matches "a deposit that is due on the leap day" '{"deposit":5}' "$(anna_within --data-binary "@$top/examples/bag-a.bagset" \
-    "$desk/deposits?collection=maps&class=y4&accession=A-5&closed=2020-02-29")"
+matches "a deposit that is due on the leap day" '{"deposit":5}' \
+    "$(anna_within --data-binary "@$top/examples/bag-a.bagset" \
+        "$desk/deposits?collection=maps&class=y4&accession=A-5&closed=2020-02-29")"
 matches "what is due" '{"day":"2024-02-29","deposits":\[1,2,3,4,5\]}' "$(anna_within "$desk/due")"
 within systemctl restart depot@office
 matches "what is due by replay" '{"day":"2024-02-29","deposits":\[1,2,3,4,5\]}' "$(inside "cp $(newest) look.db
@@ -438,7 +452,8 @@ matches "it is confirmed" "2024-03-16 2024-03-16" "$(both_days)"
 within systemctl stop depot@office depot-backup@office
 made=$(backups)
 within sh -c "mkdir -m 700 /root/kept && mv $store/office.* /root/kept/ &&
-    mount -t tmpfs -o size=6m,mode=700,uid=depot,gid=depot office $store && cp -p /root/kept/* $store/ && chown depot: $store/*"
+    mount -t tmpfs -o size=6m,mode=700,uid=depot,gid=depot office $store &&
+    cp -p /root/kept/* $store/ && chown depot: $store/*"
 within systemctl start depot@office
 large() {
     head -c 700000 /dev/urandom | make_bag "$room/bag"

@@ -32,8 +32,8 @@ boot() {
         for each in "${groups[@]}"; do
             echo "$BASHPID" >"$each/cgroup.procs"
         done
-        exec systemd-nspawn --quiet --volatile=overlay --boot --directory="$machine/root" --machine="depot-$$" --register=no \
-            --keep-unit --link-journal=no --private-network "${bind[@]}"
+        exec systemd-nspawn --quiet --volatile=overlay --boot --directory="$machine/root" --machine="depot-$$" \
+            --register=no --keep-unit --link-journal=no --private-network "${bind[@]}"
     ) </dev/null >"$machine/console" 2>&1 &
     nspawn=$!
     until [ -n "$leader" ] && within systemctl is-system-running 2>/dev/null | grep -qE '^(running|degraded)$'; do

@@ -94,9 +94,11 @@ for version in 5 4 3; do
     size=$(stat -c %s "$folder/office.db")
     said=$(run "$folder/office.db" anna)
     now=$(stat -c %s "$folder/office.db")
-    kept=$(sqlite3 "file:$(sed 's/%/%25/; s/?/%3f/; s/#/%23/' <<<"$folder")/office.db?immutable=1" 'SELECT count(*) FROM deposit WHERE gone IS NULL')
+    kept=$(sqlite3 "file:$(sed 's/%/%25/; s/?/%3f/; s/#/%23/' <<<"$folder")/office.db?immutable=1" \
+        'SELECT count(*) FROM deposit WHERE gone IS NULL')
     # (a store of an older version has grown by its upgrade before it is made anew)
-    compare "version $version: it says" "0; $folder/office.db: N bytes before, $now bytes after; $kept deposits are audited as before" \
+    compare "version $version: it says" \
+        "0; $folder/office.db: N bytes before, $now bytes after; $kept deposits are audited as before" \
         "${said/: +([0-9]) bytes before/: N bytes before}"
     [ "$now" -lt $((size * 3 / 4)) ] || fail "the file had $size bytes, and has $now"
     compare "version $version: what the folder has" office.db "$(files "$folder")"
@@ -212,7 +214,8 @@ cat >"$room/stand/sqlite3" <<'END'
 #!/usr/bin/env bash
 # A change of a table that isn't STRICT for that time.
 loose() {
-    "$REAL" new.db "PRAGMA writable_schema = ON; UPDATE sqlite_schema SET sql = replace(sql, ' STRICT', '') WHERE name = '$1'"
+    "$REAL" new.db "PRAGMA writable_schema = ON;
+        UPDATE sqlite_schema SET sql = replace(sql, ' STRICT', '') WHERE name = '$1'"
     "$REAL" new.db "$2"
     "$REAL" new.db "PRAGMA writable_schema = ON; UPDATE sqlite_schema SET sql = sql || ' STRICT' WHERE name = '$1'"
 }
@@ -229,13 +232,24 @@ more) "$REAL" new.db "INSERT INTO collection VALUES ('more')" ;;
 rowid) "$REAL" new.db "UPDATE collection SET rowid = rowid + 1 WHERE rowid = (SELECT max(rowid) FROM collection)" ;;
 key) "$REAL" new.db "UPDATE hold_4 SET number = 1000 WHERE number = (SELECT max(number) FROM hold_4)" ;;
 value) "$REAL" new.db "UPDATE hold_4 SET matter = matter || ' ' WHERE number = 1" ;;
-null) "$REAL" new.db "UPDATE deposit SET gone = 0 WHERE number = (SELECT max(number) FROM deposit WHERE gone IS NULL)" ;;
-content | audits) "$REAL" new.db "UPDATE content SET bytes = CAST(substr(bytes, 1, size - 1) || 'x' AS BLOB) WHERE size > 100" ;;
+null)
+    "$REAL" new.db "UPDATE deposit SET gone = 0 WHERE number =
+        (SELECT max(number) FROM deposit WHERE gone IS NULL)"
+    ;;
+content | audits)
+    "$REAL" new.db "UPDATE content SET bytes = CAST(substr(bytes, 1, size - 1) || 'x' AS BLOB) WHERE size > 100"
+    ;;
 text) loose deposit "UPDATE deposit SET accession = CAST(accession AS BLOB) WHERE number = 1" ;;
 number) loose office "UPDATE office SET max_holds = CAST('1000000' AS BLOB)" ;;
-sql) loose class "SELECT 1"; "$REAL" new.db "PRAGMA writable_schema = ON; UPDATE sqlite_schema SET sql = replace(sql, 'years INTEGER', 'years  INTEGER') WHERE name = 'class'" ;;
+sql)
+    loose class "SELECT 1"
+    "$REAL" new.db "PRAGMA writable_schema = ON;
+        UPDATE sqlite_schema SET sql = replace(sql, 'years INTEGER', 'years  INTEGER') WHERE name = 'class'"
+    ;;
 index)
-    "$REAL" new.db "PRAGMA writable_schema = ON; UPDATE sqlite_schema SET rootpage = (SELECT rootpage FROM sqlite_schema WHERE name = 'deposit_due') WHERE name = 'content_mark'" ;;
+    "$REAL" new.db "PRAGMA writable_schema = ON; UPDATE sqlite_schema SET rootpage =
+        (SELECT rootpage FROM sqlite_schema WHERE name = 'deposit_due') WHERE name = 'content_mark'"
+    ;;
 user) "$REAL" new.db "PRAGMA user_version = 7" ;;
 page) rm new.db; { echo "PRAGMA page_size = 8192;"; "$REAL" "file:$OFFICE?immutable=1" .dump; } | "$REAL" new.db ;;
 esac
@@ -342,7 +356,9 @@ ended_group() {
 # What a killed call left is a whole office, and the next call succeeds.
 goes_on_after() {
     is_whole "$1"
-    compare "$1: what the folder has" office.db "$(cd "$room/office" && find . -mindepth 1 -maxdepth 1 -printf '%P\n' | sort | paste -sd ' ' | sed 's/ office.db-wal//; s/ office.db.compact//')"
+    compare "$1: what the folder has" office.db \
+        "$(cd "$room/office" && find . -mindepth 1 -maxdepth 1 -printf '%P\n' | sort | paste -sd ' ' |
+            sed 's/ office.db-wal//; s/ office.db.compact//')"
     compare "$1: the next call" 0 "$(run "$store" anna | cut -d ';' -f 1)"
     compare "$1: what the folder has then" office.db "$(files "$room/office")"
     is_whole "$1, and the next call"
@@ -397,7 +413,8 @@ number=$(anna -d '{"collection":"maps","matter":"Case 8"}' "$address/holds")
 kill_office
 compare "an office that was killed" 0 "$(run "$store" anna | cut -d ';' -f 1)"
 compare "the hold that it took" "$number Case 8" \
-    "$(sqlite3 -readonly "file:$store?immutable=1" "SELECT printf('{\"hold\":%d} %s', number, matter) FROM hold_4 ORDER BY number DESC LIMIT 1")"
+    "$(sqlite3 -readonly "file:$store?immutable=1" \
+        "SELECT printf('{\"hold\":%d} %s', number, matter) FROM hold_4 ORDER BY number DESC LIMIT 1")"
 
 # ---- its unit
 

@@ -86,8 +86,8 @@ for number in 1 2 3; do deposit "$number"; done
 
 # ---- invalid arguments: one line, status 2, and nothing is made
 
-for words in "" "office.db" "none.db copies" "office.db ." "office.db office.db" "office.db copies x y" "office.db copies ho;st:x" \
-    "--continue" "--continue a b"; do
+for words in "" "office.db" "none.db copies" "office.db ." "office.db office.db" "office.db copies x y" \
+    "office.db copies ho;st:x" "--continue" "--continue a b"; do
     # shellcheck disable=SC2086 # words
     matches "copy $words" '2; copy: * usage: copy *' "$(says "$units/copy" $words)"
 done
@@ -241,12 +241,14 @@ printf x | dd of=other/raw/office.db bs=1 seek=5000 conv=notrunc 2>/dev/null
 matches "a raw copy that isn't whole" "1; fold: the raw copy * isn't whole" "$(says "$units/fold" other)"
 matches "what is there" '*.day logs raw' "$(has other)"
 # shellcheck disable=SC2016
-without fold 's/|| ! (cd "$part" .*; then/; then/'
+without fold '/office.db" \] ||$/{N;s/ ||\n.*; then$/; then/}'
 matches "control: without its sums" '[01]; *' "$(says changed/fold other)"
 [ "$(ls other/*.db 2>/dev/null)" ] || grep -q "can't be opened" told || fail "the sums were asked all the same"
 rm -rf other
-matches "a standby that isn't there" '1; copies/*.db: the office *copy: nowhere:/x didn* take the copy, which stands in copies' \
-    "$(RSYNC_RSH=false says "$units/copy" office.db copies nowhere:/x | sed 's/ rsync[^c]*copy:/ copy:/;s/ms.*copy: nowhere/mscopy: nowhere/')"
+matches "a standby that isn't there" \
+    '1; copies/*.db: the office *copy: nowhere:/x didn* take the copy, which stands in copies' \
+    "$(RSYNC_RSH=false says "$units/copy" office.db copies nowhere:/x |
+        sed 's/ rsync[^c]*copy:/ copy:/;s/ms.*copy: nowhere/mscopy: nowhere/')"
 matches "its deposits" '1 2 3' "$(deposits_of copies/*.db)"
 rm -rf copies
 
@@ -269,7 +271,8 @@ matches "a copy that is too old" "1; drill: no copy of copies is newer than a da
     "$(says "$units/drill" copies anna)"
 copied "300 minutes"
 first=$name
-matches "a drill" "0; copies/$name.db is valid: deposits up to 3, 3 of them kept and audited; holds up to 0, 0 live ones *" \
+matches "a drill" \
+    "0; copies/$name.db is valid: deposits up to 3, 3 of them kept and audited; holds up to 0, 0 live ones *" \
     "$(says "$units/drill" copies anna)"
 matches "another of the same copy" "0; *" "$(says "$units/drill" copies anna)"
 hold deposit 1
@@ -282,15 +285,18 @@ anna -X DELETE "$address/deposits/4" >said # held
 anna -X DELETE "$address/holds/2" >said
 anna -X DELETE "$address/deposits/4" >said
 copied "200 minutes"
-matches "a drill of a later copy" "0; copies/$name.db is valid: deposits up to 4, 3 of them kept and audited; holds up to 2, 1 live ones *" \
+matches "a drill of a later copy" \
+    "0; copies/$name.db is valid: deposits up to 4, 3 of them kept and audited; holds up to 2, 1 live ones *" \
     "$(says "$units/drill" copies anna)"
-matches "what was found valid" "copy $first last 3 hold 0 kept 3 live 0,copy $first last 3 hold 0 kept 3 live 0,copy $name last 4 hold 2 kept 3 live 1" \
+early="copy $first last 3 hold 0 kept 3 live 0"
+matches "what was found valid" "$early,$early,copy $name last 4 hold 2 kept 3 live 1" \
     "$(paste -sd, copies/drill.seen)"
 matches "no folder is left in TMPDIR" '' "$(mkdir tmp; TMPDIR=$PWD/tmp "$units/drill" copies anna >said; ls tmp)"
 # Older by its name: the newest ones are gone.
 mkdir away
 mv "copies/$name.db" away/
-matches "an older copy" "1; drill: the newest copy of copies is $first, and the drill before found $name, which is newer" \
+matches "an older copy" \
+    "1; drill: the newest copy of copies is $first, and the drill before found $name, which is newer" \
     "$(says "$units/drill" copies anna)"
 # Older by what it has, under a newer name.
 mv "away/$name.db" copies/
@@ -335,9 +341,9 @@ rm -rf copies
 # An office without a deposit, and a caller who may list one class alone.
 stop_office
 rm office.db*
-printf '%s\n' 'version = 1' '[callers]' 'anna = "archivist"' 'bea = "clerk"' '[[rule]]' 'effect = "allow"' 'role = "archivist"' \
-    'action = "*"' 'collection = "*"' 'class = "*"' '[[rule]]' 'effect = "allow"' 'role = "clerk"' 'action = "*"' 'collection = "*"' \
-    'class = "y2"' >two.toml
+printf '%s\n' 'version = 1' '[callers]' 'anna = "archivist"' 'bea = "clerk"' \
+    '[[rule]]' 'effect = "allow"' 'role = "archivist"' 'action = "*"' 'collection = "*"' 'class = "*"' \
+    '[[rule]]' 'effect = "allow"' 'role = "clerk"' 'action = "*"' 'collection = "*"' 'class = "y2"' >two.toml
 "$program" policy office.db two.toml >said
 serve
 mkdir copies
@@ -362,7 +368,10 @@ stays() {
     python3 - "$@" <<'END'
 import datetime, os, re, sys
 folder, counts, valid = sys.argv[1], [int(n) for n in sys.argv[2:5]], sys.argv[5:]
-names = sorted((n[:17] for n in os.listdir(folder) if re.fullmatch(r"\d{4}-[01]\d-[0-3]\d-[0-2]\d[0-5]\d[0-5]\d\.db", n)), reverse=True)
+names = sorted(
+    (n[:17] for n in os.listdir(folder) if re.fullmatch(r"\d{4}-[01]\d-[0-3]\d-[0-2]\d[0-5]\d[0-5]\d\.db", n)),
+    reverse=True,
+)
 kept = set(names[:1] + [n for n in valid if n in names])
 kinds = [lambda m: m.strftime("%Y%m%d%H"), lambda m: m.date(), lambda m: m.isocalendar()[:2]]
 for kind, count in zip(kinds, counts):
@@ -408,8 +417,19 @@ matches "other files" "$others" \
 matches "a second call" '0; ' "$(says "$units/prune" year 24 14 53)"
 # Killed in the middle, and called again.
 mkdir broken
-# shellcheck disable=SC2016
-printf '#!/bin/sh\nfor each; do case $each in -*) ;; *) n=$((n + 1)); [ $n -le 701 ] || kill -KILL 0; /bin/rm -fv "$each" ;; esac; done\n' >broken/rm
+cat >broken/rm <<'END'
+#!/bin/sh
+for each; do
+    case $each in
+    -*) ;;
+    *)
+        n=$((n + 1))
+        [ $n -le 701 ] || kill -KILL 0
+        /bin/rm -fv "$each"
+        ;;
+    esac
+done
+END
 chmod 755 broken/rm
 { PATH=$PWD/broken:$PATH says setsid --wait "$units/prune" again 24 14 53 >status; } 2>/dev/null
 matches "a call that is killed" '137; *' "$(cut -c 1-10 status)"
@@ -431,7 +451,9 @@ cp -r year other
 changed/prune other 2 1 1 >said
 matches "control: without that" "removed 'other/$valid.db'*" "$(cat said)"
 "$units/prune" year 0 0 0 >said
-matches "none is to stay" "$(tail -n 1 found) $valid" "$(find year -type f -name '????-??-??-??????.db' -not -name '2024-99*' -printf '%f\n' | cut -d . -f 1 | sort -r | paste -sd' ')"
+matches "none is to stay" "$(tail -n 1 found) $valid" \
+    "$(find year -type f -name '????-??-??-??????.db' -not -name '2024-99*' -printf '%f\n' | cut -d . -f 1 | sort -r |
+        paste -sd' ')"
 mkdir empty foreign
 touch foreign/office.db foreign/2024-03-02.db
 matches "an empty folder" '0; ' "$(says "$units/prune" empty 1 1 1)"
@@ -451,7 +473,8 @@ cat >>inside <<'END'
 systemctl is-active -q depot@office && exit 0
 groupadd --system depot
 useradd --system --gid depot --home-dir /var/lib/depot --shell /bin/sh depot
-install -d -m 700 -o depot -g depot /var/lib/depot /var/lib/depot/office /var/backups/depot /var/backups/depot/office /srv/standby /var/lib/depot/.ssh
+install -d -m 700 -o depot -g depot /var/lib/depot /var/lib/depot/office /var/backups/depot \
+    /var/backups/depot/office /srv/standby /var/lib/depot/.ssh
 find "$top/examples/systemd" -type f -executable -exec install -D -t /usr/local/lib/depot {} +
 install -m 755 "$program" /usr/local/bin/depot
 install -m 644 "$top"/examples/systemd/depot*.service "$top"/examples/systemd/depot*.timer /etc/systemd/system/
@@ -466,7 +489,10 @@ for each in $(seq 100); do curl -sS -o /dev/null http://127.0.0.1:8080/due 2>/de
 asks() { curl -sS --fail -H 'Depot-Caller: anna' -o /dev/null "$@"; }
 asks -X PUT -d '{"years":1}' http://127.0.0.1:8080/classes/y1
 asks -X PUT http://127.0.0.1:8080/collections/maps
-for n in 1 2 3; do asks --data-binary "@$bag" "http://127.0.0.1:8080/deposits?collection=maps&class=y1&accession=A-$n&closed=2024-02-29"; done
+for n in 1 2 3; do
+    asks --data-binary "@$bag" \
+        "http://127.0.0.1:8080/deposits?collection=maps&class=y1&accession=A-$n&closed=2024-02-29"
+done
 END
 within bash "$room/inside" >said 2>told || fail "the office can't be installed: $(tail -n 5 told)"
 # The journal's last line of a unit.
@@ -491,7 +517,9 @@ matches "the unit's prune" "removed '/var/backups/depot/office/2024-01-01-000000
 within bash -c "$(block "Copies without a stop" 1)" 2>/dev/null
 matches "the page's timers" 3 "$(within systemctl list-timers --no-legend 'depot-*' | wc -l)"
 within systemctl stop depot-{copy,drill,prune}@office.timer
-matches "a quarter of an hour" '* 15min' "$(within systemd-analyze calendar --iterations=2 '*:07/15' | grep -c -e ':07:00' -e ':22:00' -e ':37:00' -e ':52:00' | sed 's/[24]/& 15min/')"
+matches "a quarter of an hour" '* 15min' \
+    "$(within systemd-analyze calendar --iterations=2 '*:07/15' |
+        grep -c -e ':07:00' -e ':22:00' -e ':37:00' -e ':52:00' | sed 's/[24]/& 15min/')"
 # To a standby, over ssh: here it is the same machine.
 cat >inside <<'END'
 set -eu
@@ -501,7 +529,8 @@ ssh-keygen -q -t ed25519 -N '' -f /var/lib/depot/.ssh/id_ed25519
 cp /var/lib/depot/.ssh/id_ed25519.pub /var/lib/depot/.ssh/authorized_keys
 sed 's/^/[127.0.0.1]:2222 /' /var/lib/depot/host.pub >/var/lib/depot/.ssh/known_hosts
 chown -R depot:depot /var/lib/depot/.ssh
-systemd-run -q --unit=ssh-here /usr/sbin/sshd -D -p 2222 -h /var/lib/depot/host -o ListenAddress=127.0.0.1 -o StrictModes=no
+systemd-run -q --unit=ssh-here /usr/sbin/sshd -D -p 2222 -h /var/lib/depot/host -o ListenAddress=127.0.0.1 \
+    -o StrictModes=no
 install -d -m 2751 -o root -g depot /var/log/depot
 echo one >/var/log/depot/access.log
 printf '%s\n' STANDBY=depot@127.0.0.1:/srv/standby 'RSYNC_RSH=ssh -p 2222' LOGS=/var/log/depot >>/etc/depot/office.conf
@@ -551,7 +580,9 @@ echo "still $still; stopped $stopped; $longest"
 END
 killed=$(within bash "$room/inside")
 matches "killed at 50 moments" 'still [1-9]*; stopped 0; *' "$killed"
-within bash -c 'mkdir -p /run/systemd/system/depot-copy@.service.d; printf "[Service]\nExecStopPost=\n" >/run/systemd/system/depot-copy@.service.d/no.conf; systemctl daemon-reload'
+within bash -c 'mkdir -p /run/systemd/system/depot-copy@.service.d
+    printf "[Service]\nExecStopPost=\n" >/run/systemd/system/depot-copy@.service.d/no.conf
+    systemctl daemon-reload'
 matches "control: without ExecStopPost" 'still [1-9]*; stopped [1-9]; *' "$(within bash "$room/inside")"
 within bash -c 'rm /run/systemd/system/depot-copy@.service.d/no.conf; systemctl daemon-reload'
 within systemctl reset-failed depot-copy@office.service

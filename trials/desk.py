@@ -97,7 +97,10 @@ HEADS = [
     ("x" * 8191, refused("Truncated")),
     (head_of_fields(64), due()),
     (head_of_fields(65), refused("BadHead")),
-    ("GET /x HTTP/1.1\nDepot-Caller: a\nDepot-Caller: a\nContent-Length: x\nTransfer-Encoding: a\n\n", refused("Chunked")),
+    (
+        "GET /x HTTP/1.1\nDepot-Caller: a\nDepot-Caller: a\nContent-Length: x\nTransfer-Encoding: a\n\n",
+        refused("Chunked"),
+    ),
     ("GET /due HTTP/1.1\ntransfer-ENCODING:\n\n", refused("Chunked")),
     ("GET /due HTTP/1.1\nTransfer-Encoding: a\nTransfer-Encoding: b\n\n", refused("Chunked")),
     ("GET /due HTTP/1.1\nContent-Length: x\nTransfer-Encoding: identity\n\n", refused("Chunked")),
@@ -126,8 +129,16 @@ CALLERS = [
     ("GET /due HTTP/1.1\nDepot-Caller: anna\ndepot-caller:\n\n", refused("TwoCallers")),
     ('PUT /classes/y1 HTTP/1.1\ndepot-CALLER:anna\t\nContent-Length: 11\n\n{"years":1}', years("y1", 1)),
     ('PUT /classes/y1 HTTP/1.1\nDepot-Caller: carl\nContent-Length: 11\n\n{"years":1}', CLERK),
-    ('PUT /classes/y1 HTTP/1.1\nDepot-Caller: abcdefghijabcdefghijabcdefghijabcdefghij\nContent-Length: 11\n\n{"years":1}', years("y1", 1)),
-    ('PUT /classes/y1 HTTP/1.1\nDepot-Caller: abcdefghijabcdefghijabcdefghijabcdefghijk\nContent-Length: 11\n\n{"years":1}', STRANGER),
+    (
+        "PUT /classes/y1 HTTP/1.1\nDepot-Caller: abcdefghijabcdefghijabcdefghijabcdefghij\n"
+        'Content-Length: 11\n\n{"years":1}',
+        years("y1", 1),
+    ),
+    (
+        "PUT /classes/y1 HTTP/1.1\nDepot-Caller: abcdefghijabcdefghijabcdefghijabcdefghijk\n"
+        'Content-Length: 11\n\n{"years":1}',
+        STRANGER,
+    ),
     ('PUT /classes/y1 HTTP/1.1\nDepot-Caller: Anna\nContent-Length: 11\n\n{"years":1}', STRANGER),
     (b'PUT /classes/y1 HTTP/1.1\nDepot-Caller: \xff\nContent-Length: 11\n\n{"years":1}', STRANGER),
     ('PUT /classes/y1 HTTP/1.1\nDepot-Caller:\nContent-Length: 11\n\n{"years":1}', STRANGER),
@@ -136,15 +147,19 @@ CALLERS = [
 
 # Paths that name nothing.
 NOTHING = [
-    "//", "//due", "/due/1", "/Due", "/DUE", "/dues", "/du", "/%64ue", "/due%3F", "http://depot/due", "/classes", "/classes/",
-    "/classes//", "/classes/y10/", "/classes//y10", "/classes/y10/y10", "/classes/Y10", "/classes/y%31", "/Classes/y10", "/class/y10",
-    "/classes/abcdefghijabcdefghijabcdefghijabcdefghija", "/collections", "/collections/", "/collections/tax/", "/collections/T",
-    "/deposits/", "/deposits/00000001", "/deposits/+1", "/deposits/-1", "/deposits/1a", "/deposits/%31", "/deposits/\u0663",
-    "/deposits/1/", "/deposits//holds", "/deposits/1/Holds", "/deposits/1/holds/", "/deposits/1/holds/2", "/deposits/01/files/a",
-    "/holds/", "/holds/08",
+    "//", "//due", "/due/1", "/Due", "/DUE", "/dues", "/du", "/%64ue", "/due%3F", "http://depot/due", "/classes",
+    "/classes/", "/classes//", "/classes/y10/", "/classes//y10", "/classes/y10/y10", "/classes/Y10", "/classes/y%31",
+    "/Classes/y10", "/class/y10", "/classes/abcdefghijabcdefghijabcdefghijabcdefghija", "/collections", "/collections/",
+    "/collections/tax/", "/collections/T", "/deposits/", "/deposits/00000001", "/deposits/+1", "/deposits/-1",
+    "/deposits/1a", "/deposits/%31", "/deposits/\u0663", "/deposits/1/", "/deposits//holds", "/deposits/1/Holds",
+    "/deposits/1/holds/", "/deposits/1/holds/2", "/deposits/01/files/a", "/holds/", "/holds/08",
 ]
 
-PATHS = [(f"{method} {path} HTTP/1.1\n\n", refused("NoRoute")) for path in NOTHING for method in ("DELETE", "GET", "POST", "PUT")] + [
+PATHS = [
+    (f"{method} {path} HTTP/1.1\n\n", refused("NoRoute"))
+    for path in NOTHING
+    for method in ("DELETE", "GET", "POST", "PUT")
+] + [
     ("GET /x?a=b HTTP/1.1\nContent-Length: 5\n\n", refused("NoRoute")),
     ("HEAD /x HTTP/1.1\nDepot-Caller: anna\n\n", refused("NoRoute")),
     ("GET * HTTP/1.1\n\n", refused("NoRoute")),
@@ -217,7 +232,10 @@ QUERIES = [
     ("GET /deposits?Class=y1 HTTP/1.1\n\n", refused("BadQuery")),
     ("GET /deposits?closed=y1 HTTP/1.1\n\n", refused("BadQuery")),
     ("POST /deposits?collection=maps&class=y1&accession=A-1 HTTP/1.1\nContent-Length: 5\n\n", refused("BadQuery")),
-    ("POST /deposits?collection=maps&class=y1&class=y1&accession=A-1&closed=2024-02-29 HTTP/1.1\n\n", refused("BadQuery")),
+    (
+        "POST /deposits?collection=maps&class=y1&class=y1&accession=A-1&closed=2024-02-29 HTTP/1.1\n\n",
+        refused("BadQuery"),
+    ),
     ("POST /deposits?collection=maps&class=y1&accession=A-1&closed=2025-02-29 HTTP/1.1\n\n", refused("BadQuery")),
     (POST + "&x HTTP/1.1\n\n", refused("BadQuery")),
     ('POST /holds?x=y HTTP/1.1\nContent-Length: 31\n\n{"deposit":1,"matter":"Case 7"}', refused("BadQuery")),
@@ -285,7 +303,9 @@ def told(number, accession, class_, until, closed="2024-02-29"):
 ONE, TWO = told(1, "A-1", "y1", "2025-02-28"), told(2, "A-2", "good", "permanent")
 VALID = '{"bytes":3,"deposit":1,"files":1,"manifests":1,"valid":true,"version":"1.0"}'
 ON_ONE = '{"hold":1,"matter":"Case 7","on":"deposit","placed":"2024-03-02"}'
-ON_MAPS = '{"hold":2,"matter":"\\"\\\\/ \u00e9\u20ac\U0001f600\u0080\u009f\u2028","on":"collection","placed":"2024-03-02"}'
+ON_MAPS = (
+    '{"hold":2,"matter":"\\"\\\\/ \u00e9\u20ac\U0001f600\u0080\u009f\u2028","on":"collection","placed":"2024-03-02"}'
+)
 ON_CLASS = '{"hold":3,"matter":"Case 9","on":"class","placed":"2024-03-02"}'
 
 # A request, its answer, and its day where that isn't the first.
@@ -318,7 +338,11 @@ SESSION = [
     (asked("GET /deposits/1/audit"), (200, VALID)),
     (asked("GET /deposits/1/holds"), (200, '{"holds":[]}')),
     (body(HOLD, '{"deposit":1,"matter":"Case 7"}'), (201, '{"hold":1}'), "2024-03-02"),
-    (body(HOLD, '{"matter":"\\"\\\\\\/ \\u00e9\\u20ac\\ud83d\\ude00\\u0080\\u009f\\u2028","collection":"maps"}'), (201, '{"hold":2}'), "2024-03-02"),
+    (
+        body(HOLD, '{"matter":"\\"\\\\\\/ \\u00e9\\u20ac\\ud83d\\ude00\\u0080\\u009f\\u2028","collection":"maps"}'),
+        (201, '{"hold":2}'),
+        "2024-03-02",
+    ),
     (asked("GET /deposits/1/holds"), (200, '{"holds":[%s,%s]}' % (ON_ONE, ON_MAPS)), "2024-03-02"),
     (body(HOLD, '{"class":"y1","matter":"Case 9"}'), (201, '{"hold":3}'), "2024-03-02"),
     (asked("GET /deposits/1/holds"), (200, '{"holds":[%s,%s,%s]}' % (ON_ONE, ON_MAPS, ON_CLASS)), "2024-03-02"),
@@ -354,15 +378,19 @@ LISTS = [(f"GET /deposits?{query} HTTP/1.1\n\n", given) for query, given in [
     ("%63lass=y%31%30", NO_DEPOSITS),
     ("class=abcdefghijabcdefghijabcdefghijabcdefghij", NO_DEPOSITS),
     *((query, refused("BadQuery")) for query in [
-        "class=abcdefghijabcdefghijabcdefghijabcdefghijk", "class=", "class", "class=Y10", "class=y%20", "class=%ff", "class=y10=",
-        "class%20=y10", "class=y10&class=y10", "collection=tax&collection=maps", "class=y10&closed=2024-02-29", "class=y10&x",
-        "class=y10&=", "=y10", "?class=y10"]),
+        "class=abcdefghijabcdefghijabcdefghijabcdefghijk", "class=", "class", "class=Y10", "class=y%20", "class=%ff",
+        "class=y10=", "class%20=y10", "class=y10&class=y10", "collection=tax&collection=maps",
+        "class=y10&closed=2024-02-29", "class=y10&x", "class=y10&=", "=y10", "?class=y10"]),
 ]]
 
 # Queries of a deposit.
 TAKEN = (409, '{"deposit":1,"error":"Taken"}')
 ALL_FOUR = "collection=maps&class=y10&accession=A-1&closed=2024-02-29"
-DEPOSITS = [(f"POST /deposits?{query} HTTP/1.1\nDepot-Caller: anna\nContent-Length: {len(BAG)}\n\n".encode() + BAG, given, "2025-03-01") for query, given in [
+DEPOSITS = [(
+    f"POST /deposits?{query} HTTP/1.1\nDepot-Caller: anna\nContent-Length: {len(BAG)}\n\n".encode() + BAG,
+    given,
+    "2025-03-01",
+) for query, given in [
     (ALL_FOUR, TAKEN),
     ("closed=2024-02-29&accession=A-1&class=y10&collection=maps", TAKEN),
     ("&collection=maps&&class=y10&accession=A-1&closed=2024-02-29&", TAKEN),
@@ -373,11 +401,14 @@ DEPOSITS = [(f"POST /deposits?{query} HTTP/1.1\nDepot-Caller: anna\nContent-Leng
     (f"collection=none&class=y10&accession={'A' * 65}&closed=2024-02-29", refused("BadQuery")),
     *((query, refused("BadQuery")) for query in [
         "", "class=y10&accession=A-1&closed=2024-02-29", "collection=maps&accession=A-1&closed=2024-02-29",
-        "collection=maps&class=y10&closed=2024-02-29", "collection=maps&class=y10&accession=A-1", ALL_FOUR + "&closed=2024-02-29",
-        ALL_FOUR + "&collection=maps", ALL_FOUR + "&accession=A-2", ALL_FOUR + "&x=", ALL_FOUR + "&=",
-        "collection=Maps&class=y10&accession=A-1&closed=2024-02-29", "collection=maps&class=&accession=A-1&closed=2024-02-29",
-        "collection=maps&class=y10&accession=A+1&closed=2024-02-29", "collection=maps&class=y10&accession=A-1&closed=2024-2-29",
-        "collection=maps&class=y10&accession=A-1&closed=1899-12-31", "collection=maps&class=y10&accession=A-1&closed=9800-01-01",
+        "collection=maps&class=y10&closed=2024-02-29", "collection=maps&class=y10&accession=A-1",
+        ALL_FOUR + "&closed=2024-02-29", ALL_FOUR + "&collection=maps", ALL_FOUR + "&accession=A-2", ALL_FOUR + "&x=",
+        ALL_FOUR + "&=", "collection=Maps&class=y10&accession=A-1&closed=2024-02-29",
+        "collection=maps&class=&accession=A-1&closed=2024-02-29",
+        "collection=maps&class=y10&accession=A+1&closed=2024-02-29",
+        "collection=maps&class=y10&accession=A-1&closed=2024-2-29",
+        "collection=maps&class=y10&accession=A-1&closed=1899-12-31",
+        "collection=maps&class=y10&accession=A-1&closed=9800-01-01",
         "collection=maps&class=y10&accession=A-1&closed="]),
 ]]
 
@@ -389,10 +420,14 @@ YEARS = [(body(CLASS, text), given) for text, given in [
     ('{"years":201,"years":"x","years":200}', years("y10", 200)),
     ('{"years":' + "[" * 126 + "]" * 126 + ',"years":1}', years("y10", 1)),
     *((text, refused("BadBody")) for text in [
-        '{"years":' + "[" * 127 + "]" * 127 + ',"years":1}', '{"years":200,"years":201}', '{"years":"\\ud800","years":1}', '{"years":456}',
-        '{"years":-1}', '{"years":010}', '{"years":18446744073709551616}', '{"years":"10"}', '{"years":true}', '{"years":[10]}', '{"years":{}}',
+        '{"years":' + "[" * 127 + "]" * 127 + ',"years":1}', '{"years":200,"years":201}',
+        '{"years":"\\ud800","years":1}', '{"years":456}', '{"years":-1}', '{"years":010}',
+        '{"years":18446744073709551616}', '{"years":"10"}', '{"years":true}', '{"years":[10]}', '{"years":{}}',
         '{"Years":10}', "{}", "[10]", "10", "null", '{"years":10} x', '{"years":10']),
-]] + [(b'PUT /classes/y10 HTTP/1.1\nDepot-Caller: anna\nContent-Length: 23\n\n{"years":"\xff","years":1}', refused("BadBody"))]
+]] + [(
+    b'PUT /classes/y10 HTTP/1.1\nDepot-Caller: anna\nContent-Length: 23\n\n{"years":"\xff","years":1}',
+    refused("BadBody"),
+)]
 
 # Bodies of a hold, on an office that has destroyed deposit 1.
 GONE = (410, '{"day":"2025-02-28","error":"Gone"}')
@@ -413,17 +448,19 @@ HOLDS = [(body(HOLD, text), given, "2025-03-01") for text, given in [
     ('{"deposit":3,"matter":"%s"}' % ("m" * 201), refused("BadBody")),
     ('{"deposit":3,"matter":"%sm"}' % ("\u00e9" * 100), refused("BadBody")),
     *((text, refused("BadBody")) for text in [
-        '{"deposit":4294967297,"matter":"a"}', '{"deposit":-1,"matter":"a"}', '{"deposit":1.0,"matter":"a"}', '{"deposit":"1","matter":"a"}',
-        '{"deposit":null,"matter":"a"}', '{"collection":1,"matter":"a"}', '{"collection":"Tax","matter":"a"}', '{"collection":"","matter":"a"}',
-        '{"deposit":1,"matter":"a\\nb"}', '{"deposit":1,"matter":"a\\u007f"}', '{"deposit":1,"matter":7}',
+        '{"deposit":4294967297,"matter":"a"}', '{"deposit":-1,"matter":"a"}', '{"deposit":1.0,"matter":"a"}',
+        '{"deposit":"1","matter":"a"}', '{"deposit":null,"matter":"a"}', '{"collection":1,"matter":"a"}',
+        '{"collection":"Tax","matter":"a"}', '{"collection":"","matter":"a"}', '{"deposit":1,"matter":"a\\nb"}',
+        '{"deposit":1,"matter":"a\\u007f"}', '{"deposit":1,"matter":7}',
         '{"deposit":1,"matter":"a","placed":"2024-03-02"}', '{"collection":"tax","deposit":1}', '{"matter":"a"}',
         '{"class":"y10","collection":"tax","matter":"a"}', '{"class":"y10","deposit":2,"matter":"a"}',
         '{"class":"y10","collection":"tax","deposit":2,"matter":"a"}', '{"collection":"tax","deposit":2,"class":"y10"}',
-        '{"class":"y10","collection":"tax"}', '{"class":"y10","deposit":2}', '{"class":"y10"}', '{"class":"y10","matter":""}',
-        '{"class":"y10","matter":null}', '{"class":"Y10","matter":"a"}', '{"class":"","matter":"a"}', '{"class":1,"matter":"a"}',
-        '{"class":null,"matter":"a"}', '{"class":["y10"],"matter":"a"}', '{"class":"abcdefghijabcdefghijabcdefghijabcdefghijk","matter":"a"}',
-        '{"Class":"y10","matter":"a"}', '{"classes":"y10","matter":"a"}', '{"class":"y10","matter":"a","placed":"2024-03-02"}',
-        "{}", '[1,"a"]', ""]),
+        '{"class":"y10","collection":"tax"}', '{"class":"y10","deposit":2}', '{"class":"y10"}',
+        '{"class":"y10","matter":""}', '{"class":"y10","matter":null}', '{"class":"Y10","matter":"a"}',
+        '{"class":"","matter":"a"}', '{"class":1,"matter":"a"}', '{"class":null,"matter":"a"}',
+        '{"class":["y10"],"matter":"a"}', '{"class":"abcdefghijabcdefghijabcdefghijabcdefghijk","matter":"a"}',
+        '{"Class":"y10","matter":"a"}', '{"classes":"y10","matter":"a"}',
+        '{"class":"y10","matter":"a","placed":"2024-03-02"}', "{}", '[1,"a"]', ""]),
 ]]
 
 POLICY = policy(
@@ -466,7 +503,8 @@ DATED = [
     (body("PUT /classes/y2", '{"years":2}', caller="carl"), years("y2", 2), "2024-03-03"),
     (body("PUT /classes/y2", '{"years":2}', caller="carl"), years("y2", 2), "2024-12-31"),
     (body("PUT /classes/y2", '{"years":2}', caller="carl"), denied(None), "2025-01-01"),
-    # Rule 4 denies a hold on its class, and of a deposit in it, from its first day on; one on a collection names no class.
+    # Rule 4 denies a hold on its class, and of a deposit in it, from its first day on; one on a collection names no
+    # class.
     (body(HOLD, '{"class":"y1","matter":"Case 1"}'), (201, '{"hold":1}')),
     (body(HOLD, '{"class":"y1","matter":"Case 2"}'), denied(4), "2024-03-02"),
     (body(HOLD, '{"class":"y1","matter":"Case 2"}'), denied(4), "9799-12-31"),
@@ -481,7 +519,10 @@ DATED = [
     (body(HOLD, '{"class":"y1"}'), refused("BadBody"), "2024-03-02"),
     # A deposit that comes later is held, too: by the class and by the collection.
     (deposited("A-2", closed="2023-02-28"), (201, '{"deposit":2}'), "2024-03-01"),
-    (asked("GET /deposits/2/holds"), (200, '{"holds":[%s,%s]}' % (told_hold(1, "class"), told_hold(2, "collection", "2024-03-02")))),
+    (
+        asked("GET /deposits/2/holds"),
+        (200, '{"holds":[%s,%s]}' % (told_hold(1, "class"), told_hold(2, "collection", "2024-03-02"))),
+    ),
     (asked("DELETE /deposits/2"), (409, '{"error":"Held","hold":1}'), "2024-03-02"),
     (asked("DELETE /deposits/2", caller="carl"), denied(1)),
     (asked("DELETE /deposits/2", caller="carl"), (409, '{"error":"Held","hold":1}'), "2024-03-02"),
@@ -536,7 +577,10 @@ def answer(status, text, fields=""):
     """The record of an answer."""
     data = text if isinstance(text, bytes) else text.encode()
     kind = BYTES if isinstance(text, bytes) else "application/json"
-    head = f"HTTP/1.1 {status} {STATUS[status]}\r\nContent-Type: {kind}\r\nContent-Length: {len(data)}\r\n{fields}Connection: close\r\n\r\n"
+    head = (
+        f"HTTP/1.1 {status} {STATUS[status]}\r\nContent-Type: {kind}\r\nContent-Length: {len(data)}\r\n"
+        f"{fields}Connection: close\r\n\r\n"
+    )
     return requests.answer_record(head.encode() + data)
 
 
@@ -558,7 +602,10 @@ def run_program(installed, store=":memory:", *tables):
             fail(f"request {place}, {request[:200]!r}: {wanted} is wanted, and this came: {found}; {done.stderr!r}")
         at += len(wanted)
     if (len(done.stdout), done.stderr, done.returncode) != (at, b"", 0):
-        fail(f"the program ended with {done.returncode}, {done.stderr!r} and {len(done.stdout) - at} bytes after its answers")
+        fail(
+            f"the program ended with {done.returncode}, {done.stderr!r} and {len(done.stdout) - at} bytes after its "
+            "answers"
+        )
 
 
 def run_dated():

@@ -23,7 +23,8 @@ seeds=$((last - first + 1))
 
 # What is counted of all seeds (`all`), and of the requests that follow an upgrade (`on`), as `office_file` prints it.
 counts=(accepted refused held released listed asked denied)
-declare -A all on upgraded=([3]=0 [4]=0 [5]=0) holds=([3]=0 [4]=0 [5]=0) freed=([3]=0 [4]=0 [5]=0) bags=([3]=0 [4]=0 [5]=0)
+declare -A all on upgraded=([3]=0 [4]=0 [5]=0) holds=([3]=0 [4]=0 [5]=0) freed=([3]=0 [4]=0 [5]=0)
+declare -A bags=([3]=0 [4]=0 [5]=0)
 for name in "${counts[@]}"; do
     all[$name]=0
     on[$name]=0

@@ -51,12 +51,14 @@ is_same() {
     for register in deposits.csv holds.csv bags.list; do cmp "whole/$register" "$2/$register" || exit 1; done
     diff -r whole/deposits "$2/deposits" || fail "$1: the folders differ"
     compare "$1: what else is there" "bags.list deposits deposits.csv exported holds.csv missing" \
-        "$(cd "$2" && echo ./* ./.[!.]* | tr ' ' '\n' | grep -vE '^\./(\.\[|aside$|all_holds|classes|collections|destroyed)' | cut -c 3- | paste -sd' ')"
+        "$(cd "$2" && echo ./* ./.[!.]* | tr ' ' '\n' |
+            grep -vE '^\./(\.\[|aside$|all_holds|classes|collections|destroyed)' | cut -c 3- | paste -sd' ')"
 }
 
 # bagit.py, which Debian doesn't have.
 has_bagit="and bagit.py wasn't there to judge them"
-if ! python3 -c 'import bagit' 2>/dev/null && timeout 60 python3 -m pip -q --retries 0 --timeout 10 install --target bagit bagit >noise 2>&1; then
+if ! python3 -c 'import bagit' 2>/dev/null &&
+    timeout 60 python3 -m pip -q --retries 0 --timeout 10 install --target bagit bagit >noise 2>&1; then
     export PYTHONPATH=$room/bagit
 fi
 if python3 -c 'import bagit' 2>/dev/null; then has_bagit="and bagit.py takes them"; fi
@@ -86,7 +88,9 @@ mkdir bags
 python3 "$top/trials/exported.py" make bags >all.list
 ./depot policy office.db policy.toml >noise
 serve office.db 2024-03-02
-for class in y0:0 y1:1 y10:10 good:null; do anna -X PUT -d "{\"years\":${class#*:}}" "$OFFICE/classes/${class%:*}" >noise; done
+for class in y0:0 y1:1 y10:10 good:null; do
+    anna -X PUT -d "{\"years\":${class#*:}}" "$OFFICE/classes/${class%:*}" >noise
+done
 for collection in maps tax letters long empty; do anna -X PUT "$OFFICE/collections/$collection" >noise; done
 examples/fill "$OFFICE" anna all.list >noise
 count=$(grep -c '' all.list)
@@ -101,7 +105,10 @@ hold '{"collection":"empty","matter":"to be released"}'
 hold '{"deposit":18,"matter":"to be released too"}'
 stop_office
 serve office.db 2025-02-28
-for hold in 3 5 6; do compare "hold $hold is released" "{\"hold\":$hold,\"released\":\"2025-02-28\"}" "$(anna -X DELETE "$OFFICE/holds/$hold")"; done
+for hold in 3 5 6; do
+    compare "hold $hold is released" "{\"hold\":$hold,\"released\":\"2025-02-28\"}" \
+        "$(anna -X DELETE "$OFFICE/holds/$hold")"
+done
 for accession in DESTROYED-1.1 DESTROYED-2.1; do
     anna -X DELETE "$OFFICE/deposits/$(number_of "$accession")" >noise
     compare "$accession is destroyed" '{"day":"2025-02-28","dest' "$(cut -c 1-25 noise)"
@@ -204,7 +211,11 @@ for round in {1..20}; do
     setsid examples/export "$OFFICE" ex killed >noise 2>&1 &
     exporting=$!
     sleep "$(awk "BEGIN { print $took * ($round - 0.5) / 20000 }")"
-    if [ $((round % 2)) = 0 ]; then kill -KILL -- "-$exporting" 2>/dev/null || true; else kill -KILL "$exporting" 2>/dev/null || true; fi
+    if [ $((round % 2)) = 0 ]; then
+        kill -KILL -- "-$exporting" 2>/dev/null || true
+    else
+        kill -KILL "$exporting" 2>/dev/null || true
+    fi
     ended "$exporting" 2>/dev/null || true
     mkdir -p killed/deposits
     for folder in killed/deposits/*; do
@@ -220,13 +231,16 @@ done
 out half half
 compare "what may not be fetched" "1; $((count - 2 - 3)) of $((count - 2)) deposits that half may list are in half" \
     "$status; $(tail -n 1 half.said)"
-compare "each of it is told" $'4\tBOTH.1: 403 {"error":"Denied","rule":3}\n6\tNONE.1: 403 {"error":"Denied","rule":3}\n16\tLARGE.1: 403 {"error":"Denied","rule":3}' \
+denied='403 {"error":"Denied","rule":3}'
+compare "each of it is told" $'4\tBOTH.1: '"$denied"$'\n6\tNONE.1: '"$denied"$'\n16\tLARGE.1: '"$denied" \
     "$(cat half/missing)"
 exported registers half "$OFFICE" half
 out nobody nobody
 compare "a caller who sees nothing" "1; no deposit is listed for nobody" "$status; $(cat nobody.told)"
 out anna all
-compare "what can't be a folder" "1; $((count - 2)) of $((count - 2)) deposits that anna may list are in all; $((count - 2)) of $((count - 2)): LONG.1 is forms/$count.bagset: device" \
+counted="$((count - 2)) of $((count - 2))"
+compare "what can't be a folder" \
+    "1; $counted deposits that anna may list are in all; $counted: LONG.1 is forms/$count.bagset: device" \
     "$status; $(tail -n 1 all.said); $(sed 's/device .*/device/' all.told)"
 cmp bags/long.bagset "all/forms/$count.bagset"
 exported registers all "$OFFICE" anna
@@ -294,11 +308,13 @@ out ex rotten
 compare "what is here is kept, whatever rots" "0; " "$status; $(cat rotten.told)"
 rm -r rotten
 out ex rotten
-compare "a bag that rotted" "1; 3 of $listed: SHA512.1 is missing: 503 {\"error\":\"Store\"}: what is stored of it was altered" \
+compare "a bag that rotted" \
+    "1; 3 of $listed: SHA512.1 is missing: 503 {\"error\":\"Store\"}: what is stored of it was altered" \
     "$status; $(cat rotten.told)"
 stop_office
 sqlite3 rotten.db \
-    "UPDATE content SET bytes = zeroblob(size) WHERE id = (SELECT content FROM file WHERE deposit = 1 AND path = 'bagit.txt')"
+    "UPDATE content SET bytes = zeroblob(size)
+        WHERE id = (SELECT content FROM file WHERE deposit = 1 AND path = 'bagit.txt')"
 serve rotten.db 2025-02-28
 mkdir -p blind/deposits/1
 out blind blind
@@ -313,7 +329,8 @@ anna -X PUT "$OFFICE/collections/maps" >noise
 anna --data-binary @form "$OFFICE/deposits?collection=maps&class=y1&accession=NEW.1&closed=2025-01-01" >noise
 cp -a whole restored
 out ex restored
-compare "another deposit under the number" "1; deposits/1 was of PLAIN.1, and is aside/1-other now; 1 of 1: NEW.1 is deposits/1; 1" \
+compare "another deposit under the number" \
+    "1; deposits/1 was of PLAIN.1, and is aside/1-other now; 1 of 1: NEW.1 is deposits/1; 1" \
     "$status; $(head -n 1 restored.told); $(head -n 1 restored.said); $(ls restored/deposits)"
 stop_office
 

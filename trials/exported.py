@@ -36,8 +36,12 @@ def bag_of(payload, version="1.0", algorithms=("sha256",), tagged=(), tags=None,
     more = {name.encode(): content for name, content in (tags or {}).items()}
     if info:
         oxum = f"{sum(map(len, payload.values()))}.{len(payload)}"
-        more[b"bag-info.txt"] = f"Source-Organization: Büro\n of the maps\nPayload-Oxum: {oxum}\nBagging-Date: 2024-02-29\n".encode()
-    return bag({b"data/" + name.encode(): content for name, content in payload.items()}, algorithms, tagged, version, more)
+        more[b"bag-info.txt"] = (
+            f"Source-Organization: Büro\n of the maps\nPayload-Oxum: {oxum}\nBagging-Date: 2024-02-29\n".encode()
+        )
+    return bag(
+        {b"data/" + name.encode(): content for name, content in payload.items()}, algorithms, tagged, version, more
+    )
 
 
 def kinds():
@@ -49,7 +53,9 @@ def kinds():
     digests = re.sub(rb"(?m)^[0-9a-f]{64}", lambda m: m[0].upper(), upper[b"manifest-sha256.txt"])
     upper[b"manifest-sha256.txt"] = b"\r\n \n" + digests.replace(b"\n", b"\r\n")
     yield "plain", "maps", "y0", "2024-02-29", bag_of({"a": b"abc"})
-    yield "old", "maps", "y10", "1900-01-01", bag_of({"a": b"abc", "100%25": b"per", "%41": b"A", "two\nlines": b"2"}, "0.97")
+    yield "old", "maps", "y10", "1900-01-01", bag_of(
+        {"a": b"abc", "100%25": b"per", "%41": b"A", "two\nlines": b"2"}, "0.97"
+    )
     yield "sha512", "tax", "y1", "1999-12-31", bag_of({"a": b"abc" * 100}, algorithms=("sha512",))
     yield "both", "tax", "good", "2024-02-29", bag_of({"a": b"1", "b/c": b"2"}, algorithms=both, tagged=both, info=True)
     yield "empty", "maps", "y1", "2023-02-28", bag_of({"nothing": b"", "some": b"x"}, info=True)
@@ -58,16 +64,22 @@ def kinds():
     yield "percent", "letters", "y10", "2024-02-29", bag_of(coded)
     blanks = {"a b  c/d e": b"1", " first": b"2", "tab\there": b"3", "'\"\\$*?[": b"4"}
     yield "blanks", "letters", "y10", "2024-02-29", bag_of(blanks, algorithms=both)
-    yield "letters-of-others", "letters", "y10", "2024-02-29", bag_of({"Büro/中文 😀.txt": b"1", "Ω": b"2"}, tagged=("sha256",))
+    yield "letters-of-others", "letters", "y10", "2024-02-29", bag_of(
+        {"Büro/中文 😀.txt": b"1", "Ω": b"2"}, tagged=("sha256",)
+    )
     yield "apart", "letters", "y0", "2024-02-29", bag_of({nfd: b"1"})
-    yield "many", "maps", "y10", "2020-01-31", bag_of({f"{n % 17}/{n}": b"%d" % (n % 40) for n in range(300)}, info=True)
+    yield "many", "maps", "y10", "2020-01-31", bag_of(
+        {f"{n % 17}/{n}": b"%d" % (n % 40) for n in range(300)}, info=True
+    )
     shared = some.randbytes(4000)
     yield "shared-1", "maps", "y0", "2024-02-29", bag_of({"same": shared, "own": b"1"})
     yield "shared-2", "tax", "y10", "2024-02-29", bag_of({"same": shared, "other": b"2", "again": shared})
     deep, tags = {"/".join("abcdefgh" * 8): b"deep", ".hidden/.x": b"h"}, {"notes/a": b"tag", ".tag": b"t"}
     yield "deep", "tax", "y1", "2024-02-29", bag_of(deep, tags=tags, tagged=("sha512",))
     yield "upper", "maps", "y1", "2024-02-29", upper
-    yield "large", "maps", "good", "2024-02-29", bag_of({"large": some.randbytes(100000)}, "0.97", both, ("sha256",), info=True)
+    yield "large", "maps", "good", "2024-02-29", bag_of(
+        {"large": some.randbytes(100000)}, "0.97", both, ("sha256",), info=True
+    )
     yield "destroyed-1", "maps", "y0", "2024-01-01", bag_of({"a": b"to go"})
     yield "destroyed-2", "tax", "y0", "2024-01-02", bag_of({"same": shared})
     yield "long", "long", "y10", "2024-02-29", bag_of({"x" * 300: b"long"})
@@ -138,7 +150,9 @@ def registers(export, office, caller):
         status, answer = ask(office, caller, f"/deposits/{number}/holds")
         live = json.loads(answer)["holds"] if status == 200 else []
         for hold in live:
-            covering.append({"deposit": str(number), **{key: str(hold[key]) for key in ("hold", "on", "matter", "placed")}})
+            covering.append(
+                {"deposit": str(number), **{key: str(hold[key]) for key in ("hold", "on", "matter", "placed")}}
+            )
         record["holds"] = len(live) if status == 200 else "denied"
         status, answer = ask(office, caller, f"/deposits/{number}/bag")
         record["sha256"] = hashlib.sha256(answer).hexdigest() if status == 200 else ""
@@ -163,7 +177,9 @@ def tables(export, copy, office):
     store.row_factory = sqlite3.Row
     destroyed(export, store, office)
     all_holds(export, store, office)
-    years = {row[0]: "permanent" if row[1] < 0 else str(row[1]) for row in store.execute("SELECT name, years FROM class")}
+    years = {
+        row[0]: "permanent" if row[1] < 0 else str(row[1]) for row in store.execute("SELECT name, years FROM class")
+    }
     compare("classes", years, {row["class"]: row["years"] for row in register(export, "classes.csv")})
     names = {row[0] for row in store.execute("SELECT name FROM collection")}
     compare("collections", names, {row["collection"] for row in register(export, "collections.csv")})
@@ -194,7 +210,10 @@ def all_holds(export, store, office):
         holds.append({"hold": str(row["number"]), "on": on, "name": str(row[on]), "matter": row["matter"], **days})
     compare("all holds", holds, rows)
     compare("that some are released and some aren't", {True, False}, {row["released"] == "" for row in rows})
-    lists = [json.loads(ask(office, "anna", f"/deposits/{it['deposit']}/holds")[1])["holds"] for it in records(office, "anna")]
+    lists = [
+        json.loads(ask(office, "anna", f"/deposits/{it['deposit']}/holds")[1])["holds"]
+        for it in records(office, "anna")
+    ]
     live = {str(hold["hold"]) for holds in lists for hold in holds}
     compare("the live ones that cover a deposit", live, {row["hold"] for row in rows if row["released"] == ""})
 
@@ -219,7 +238,11 @@ def judge(folder):
     compare(f"{folder}: its data", True, b"data" in folders_below(folder))
     lines = files[b"bagit.txt"].decode().splitlines()
     version = lines[0].removeprefix("BagIt-Version: ")
-    compare(f"{folder}: bagit.txt", True, version in ("0.97", "1.0") and lines[1:] == ["Tag-File-Character-Encoding: UTF-8"])
+    compare(
+        f"{folder}: bagit.txt",
+        True,
+        version in ("0.97", "1.0") and lines[1:] == ["Tag-File-Character-Encoding: UTF-8"],
+    )
     payload = {path for path in files if path.startswith(b"data/")}
     manifests = [name for name in files if re.fullmatch(rb"(tag)?manifest-[a-z0-9]+\.txt", name)]
     compare(f"{folder}: a manifest", True, any(name.startswith(b"manifest") for name in manifests))
@@ -232,7 +255,11 @@ def judge(folder):
             compare(f"{folder}: the payload", payload, set(sums))
     oxum = re.search(rb"^Payload-Oxum: (\d+)\.(\d+)$", files.get(b"bag-info.txt", b""), re.M)
     if oxum:
-        compare(f"{folder}: its size", (sum(len(files[p]) for p in payload), len(payload)), tuple(map(int, oxum.groups())))
+        compare(
+            f"{folder}: its size",
+            (sum(len(files[p]) for p in payload), len(payload)),
+            tuple(map(int, oxum.groups())),
+        )
     # (a reader may leave %25 as it is, and drop blanks at the end of a name: bagit.py isn't asked about such names)
     return version == "1.0" and any(b"%" in path or path.endswith(b" ") for path in payload)
 

@@ -44,7 +44,9 @@ fill() {
 # Waits until this number of bags is in the office.
 await_bags() {
     local end=$((SECONDS + 60))
-    until [ "$({ wc -l <bags.list.done; } 2>/dev/null || echo 0)" -ge "$1" ] || [ "$SECONDS" -ge "$end" ]; do sleep 0.02; done
+    until [ "$({ wc -l <bags.list.done; } 2>/dev/null || echo 0)" -ge "$1" ] || [ "$SECONDS" -ge "$end" ]; do
+        sleep 0.02
+    done
 }
 
 # How many deposits the office has.
@@ -87,7 +89,8 @@ kill_office
 sleep 1
 serve
 ended "$filling" || true
-compare "the last line of a call during which the office was started again" "54 of $count bags are in the office, and 6 were refused" \
+compare "the last line of a call during which the office was started again" \
+    "54 of $count bags are in the office, and 6 were refused" \
     "$(tail -n 1 filled)"
 cat >reasons <<END
 7	A-07: invalid B17 manifest-sha256.txt data/a
@@ -140,7 +143,8 @@ compare "further arguments" '1; 1	A-61: 400 {"error":"TwoCallers"}' "$status; $(
 stop_office
 printf 'bags/01\tmaps\ty1\tA-61\t2024-02-29\n' >>bags.list
 fill
-compare "the office is away" "3; stopped: what bags.list.done has is still to be compared with the office; call again to go on" \
+compare "the office is away" \
+    "3; stopped: what bags.list.done has is still to be compared with the office; call again to go on" \
     "$status; $(tail -n 1 refusals)"
 rm -f more.list* bags.list*
 
@@ -207,7 +211,9 @@ stop_office
 ./depot ask office.db "$day" </dev/null >/dev/null
 cp office.db empty.db
 serve
-for number in 01 02 03 04 06 07 08 09; do printf 'bags/%s\tmaps\ty1\tA-%s\t2024-02-29\n' "$number" "$number"; done >eight.list
+for number in 01 02 03 04 06 07 08 09; do
+    printf 'bags/%s\tmaps\ty1\tA-%s\t2024-02-29\n' "$number" "$number"
+done >eight.list
 fill_eight
 compare "eight bags" "0; $all" "$status; $(tail -n 1 filled)"
 cp eight.list.done believed
@@ -232,7 +238,8 @@ compare "a call after it" "0; $all; 8; " "$status; $(tail -n 1 filled); $(deposi
 cp eight.list.done before
 fill_eight carl
 compare "a caller without \`record\`" \
-    "3; carl can't see the record of deposit 1: 403 {\"error\":\"Denied\",\"rule\":\"default\"}" "$status; $(head -n 1 refusals)"
+    "3; carl can't see the record of deposit 1: 403 {\"error\":\"Denied\",\"rule\":\"default\"}" \
+    "$status; $(head -n 1 refusals)"
 fill_eight anna "$OFFICE/office"
 compare "another address" "3; anna can't see the record of deposit 1: 404 {\"error\":\"NoRoute\"}" \
     "$status; $(head -n 1 refusals)"
@@ -252,7 +259,8 @@ cp believed eight.list.done
 fill_eight
 compare "numbers that are others' deposits" "1; 6 of 8 bags are in the office, and 2 were refused; 10" \
     "$status; $(tail -n 1 filled); $(deposits)"
-compare "those whose accession is taken" $'4\tA-04: 409 {"deposit":5,"error":"Taken"}\n5\tA-06: 409 {"deposit":4,"error":"Taken"}' \
+compare "those whose accession is taken" \
+    $'4\tA-04: 409 {"deposit":5,"error":"Taken"}\n5\tA-06: 409 {"deposit":4,"error":"Taken"}' \
     "$(cat eight.list.refused)"
 
 # One is destroyed: by LIST.done, by the accession alone, and after its folder was thrown away.
@@ -268,8 +276,9 @@ for case in LIST.done accession folder; do
         mv bags/06 thrown
     fi
     fill_eight
+    gone="destroyed on $day, as deposit 5"
     compare "one was destroyed ($case)" "1; 7 of 8 bags are in the office, and 0 were refused
-1 were destroyed, and aren't deposited again; 7; 5 of 8: A-06 was destroyed on $day, as deposit 5; 5	A-06: destroyed on $day, as deposit 5" \
+1 were destroyed, and aren't deposited again; 7; 5 of 8: A-06 was $gone; 5	A-06: $gone" \
         "$status; $(tail -n 2 filled); $(deposits); $(cat refusals); $(cat eight.list.refused)"
 done
 mv thrown bags/06
@@ -286,8 +295,8 @@ for case in lost again; do
     [ "$case" = again ] || rm -f eight.list.done
     began=$SECONDS
     fill_eight
-    compare "a byte was flipped ($case)" \
-        $'1; 7 of 8 bags are in the office, and 1 were refused; 8; 5\tA-06: 409 {"deposit":5,"error":"Taken"}: what is stored of it was altered' \
+    altered=$'5\tA-06: 409 {"deposit":5,"error":"Taken"}: what is stored of it was altered'
+    compare "a byte was flipped ($case)" "1; 7 of 8 bags are in the office, and 1 were refused; 8; $altered" \
         "$status; $(tail -n 1 filled); $(deposits); $(cat eight.list.refused)"
     [ $((SECONDS - began)) -le 20 ] || fail "it was to be refused at once"
 done
@@ -311,7 +320,11 @@ for moment in 0.05 0.1 0.2 0.3 0.4 0.6 0.8 1.2; do
         DEPOT=./depot setsid examples/fill "$OFFICE" anna eight.list >filled 2>refusals &
         filling=$!
         sleep "$moment"
-        if [ "$again" = 1 ]; then kill -KILL -- "-$filling" 2>/dev/null || true; else kill -KILL "$filling" 2>/dev/null || true; fi
+        if [ "$again" = 1 ]; then
+            kill -KILL -- "-$filling" 2>/dev/null || true
+        else
+            kill -KILL "$filling" 2>/dev/null || true
+        fi
         ended "$filling" 2>/dev/null || true
     done
     fill_eight
@@ -369,7 +382,8 @@ compare "no number of seconds" \
 
 # Invalid arguments change nothing.
 mkdir words
-for words in '' "$OFFICE anna" "$OFFICE anna none" "$OFFICE anna ." "ftp://office anna ../eight.list" "$OFFICE Anna ../eight.list"; do
+for words in '' "$OFFICE anna" "$OFFICE anna none" "$OFFICE anna ." "ftp://office anna ../eight.list" \
+    "$OFFICE Anna ../eight.list"; do
     status=0
     # shellcheck disable=SC2086 # these are words
     (cd words && DEPOT=../depot ../examples/fill $words) >filled 2>refusals || status=$?
@@ -384,5 +398,5 @@ sed -i '1s/^bags.01/one.bagset/' eight.list
 fill_eight
 compare "a form in place of a folder" "0; $all" "$status; $(tail -n 1 filled)"
 anna "$OFFICE/deposits/1/bag" | cmp - one.bagset
-echo "fill: $cases cases: a call after each stop goes on, $count bags are in the office once, six were named with their reasons," \
-    "and what a restore took is deposited again"
+echo "fill: $cases cases: a call after each stop goes on, $count bags are in the office once, six were named with" \
+    "their reasons, and what a restore took is deposited again"

@@ -1,7 +1,7 @@
 #!/usr/bin/env bash
-# Follows docs/FIRST-CHANGE.md in a copy of the repository: makes each edit and runs each command in the order of the page,
-# and compares what is printed with what the page shows. In the end nothing in the copy may have changed. Needs git,
-# python3 and the kit, and takes some minutes.
+# Follows docs/FIRST-CHANGE.md in a copy of the repository: makes each edit and runs each command in the order of the
+# page, and compares what is printed with what the page shows. In the end nothing in the copy may have changed. Needs
+# git, python3 and the kit, and takes some minutes.
 #
 #   trials/first_change.sh           the page of the repository
 #   trials/first_change.sh PAGE      another page, in the same form
@@ -51,8 +51,8 @@ def in_full(command):
     whole = f'{command}\nstatus=$?\npwd >"{reached}"\nexit "$status"'
     try:
         ran = subprocess.run(
-            ["bash", "-c", whole], cwd=folder, stdin=subprocess.DEVNULL, stdout=subprocess.PIPE, stderr=subprocess.STDOUT,
-            encoding="utf-8", errors="replace", timeout=PATIENCE,
+            ["bash", "-c", whole], cwd=folder, stdin=subprocess.DEVNULL, stdout=subprocess.PIPE,
+            stderr=subprocess.STDOUT, encoding="utf-8", errors="replace", timeout=PATIENCE,
         )
     except subprocess.TimeoutExpired:
         sys.exit(f"$ {command}\nhadn't ended after {PATIENCE} seconds")
@@ -121,7 +121,9 @@ if len(blocks) * 2 != len(re.findall(r"^\s*```", page, re.M)):
 commands = edits = 0
 for verb, file, kind, block in blocks:
     if (verb, kind) not in KINDS:
-        sys.exit(f"{name} has a block of another kind, {kind or 'none'} after {verb or 'neither In nor Write'}:\n{block}")
+        sys.exit(
+            f"{name} has a block of another kind, {kind or 'none'} after {verb or 'neither In nor Write'}:\n{block}"
+        )
     if kind == "console":
         commands += run(block)
     elif kind == "diff":
@@ -133,7 +135,9 @@ for verb, file, kind, block in blocks:
 
 if not commands or not edits:
     sys.exit(f"{name} has no command, or no edit")
-left = subprocess.run(["git", "status", "--porcelain"], cwd=copy, stdout=subprocess.PIPE, encoding="utf-8", check=True).stdout
+left = subprocess.run(
+    ["git", "status", "--porcelain"], cwd=copy, stdout=subprocess.PIPE, encoding="utf-8", check=True
+).stdout
 if left:
     sys.exit(f"{name} doesn't leave the repository as it was:\n{left}")
 print(f"{commands} commands of {name} print what it shows, after its {edits} edits, and the repository ends as it was")

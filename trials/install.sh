@@ -34,10 +34,12 @@ for words in 'install' 'install a b'; do
 done
 [ ! -e crates/depot/out ] || fail "invalid arguments began a build"
 mkdir "$room/root"
-page=$(cd "$top/room" && LC_ALL=C find . -type f -not -name README.md -printf '644 share/depot/room/%P\n' | LC_ALL=C sort | paste -sd' ')
+page=$(cd "$top/room" && LC_ALL=C find . -type f -not -name README.md -printf '644 share/depot/room/%P\n' |
+    LC_ALL=C sort | paste -sd' ')
 for _ in once again; do
     ./depot install "$room/root/usr/local" 2>../told
-    compare "what stands under DIR" "644 share/bash-completion/completions/depot $page 644 share/man/man1/depot.1 755 bin/depot" \
+    compare "what stands under DIR" \
+        "644 share/bash-completion/completions/depot $page 644 share/man/man1/depot.1 755 bin/depot" \
         "$(cd "$room/root/usr/local" && find . -type f -printf '%m %P\n' | LC_ALL=C sort | paste -sd' ')"
 done
 cmp "$program" "$room/root/usr/local/bin/depot"
@@ -65,6 +67,7 @@ fi
 compare "man finds the page" "$room/root/usr/local/share/man/man1/depot.1" \
     "$(MANPATH=$room/root/usr/local/share/man man -w depot)"
 # shellcheck disable=SC2016 # for the inner shell
-compare "bash completes" 'serve' "$(bash -euc '. "$0"; COMP_WORDS=(depot se) COMP_CWORD=1; _depot; echo "${COMPREPLY[*]}"' \
-    "$room/root/usr/local/share/bash-completion/completions/depot")"
+compare "bash completes" 'serve' \
+    "$(bash -euc '. "$0"; COMP_WORDS=(depot se) COMP_CWORD=1; _depot; echo "${COMPREPLY[*]}"' \
+        "$room/root/usr/local/share/bash-completion/completions/depot")"
 echo "install: $cases cases: the program, its page and its completions, and it needs nothing else$alone"

@@ -68,7 +68,8 @@ look "several, of which one can't be packed and one is no bag" 1 1 \
 look "a word that names nothing" 2 0 "" "first-look: missing is neither a folder nor a file that can be read" \
     "a folder" missing
 look "two of them" 2 0 "" \
-    $'first-look: x is neither a folder nor a file that can be read\nfirst-look: y is neither a folder nor a file that can be read' x y
+    "first-look: x is neither a folder nor a file that can be read
+first-look: y is neither a folder nor a file that can be read" x y
 look "an end of line in a name" 2 0 "" "first-look: a name with an end of line can't be passed on: a b" $'a\nb'
 touch "$room/fails"
 look "a program that doesn't compile" 3 1 "cut:" \

@@ -1,12 +1,12 @@
 #!/usr/bin/env python3
-"""Makes the man page and the completions for bash from what `depot --help` and `depot COMMAND --help` print, and compares them
-with docs/depot.1 and docs/depot.bash, byte for byte. So each command, option and sentence of the help is in the page. The page
-also has texts of this script: the transfer form, the exit statuses, the files and some examples. A packed folder is compared
-with the form, a run shows each status, and each example is run. `man` sets the page without a warning, and shows each sentence
-of the help. bash completes some words by the file.
+"""Makes the man page and the completions for bash from what `depot --help` and `depot COMMAND --help` print, and
+compares them with docs/depot.1 and docs/depot.bash, byte for byte. So each command, option and sentence of the help is
+in the page. The page also has texts of this script: the transfer form, the exit statuses, the files and some examples.
+A packed folder is compared with the form, a run shows each status, and each example is run. `man` sets the page without
+a warning, and shows each sentence of the help. bash completes some words by the file.
 
-Argument: the program; without it that of the variable DEPOT, or `depot` of the repository. With --write before it both files
-are written, and not compared. Needs man, groff and curl.
+Argument: the program; without it that of the variable DEPOT, or `depot` of the repository. With --write before it both
+files are written, and not compared. Needs man, groff and curl.
 """
 
 import os
@@ -23,12 +23,15 @@ from needs import needs
 
 TOP = Path(__file__).resolve().parent.parent
 PAGE, COMPLETIONS = TOP / "docs/depot.1", TOP / "docs/depot.bash"
-# What a man page needs besides the help. First what a form is: `form_of` makes one by these words. LIMITS has its limits.
+# What a man page needs besides the help. First what a form is: `form_of` makes one by these words. LIMITS has its
+# limits.
 LIMITS = TOP / "crates/bag_text/src/transfer.rt"
 FORM = """\
-A bag travels as one file, its transfer form. depot pack writes the form of a folder, and depot unpack makes the folder again.
+A bag travels as one file, its transfer form. depot pack writes the form of a folder, and depot unpack makes the \
+folder again.
 A form begins with the line BAGSET 1.
-For each file, ascending by path, it has a line FILE P C, then the P bytes of the path, the C bytes of the content and a line
+For each file, ascending by path, it has a line FILE P C, then the P bytes of the path, the C bytes of the content \
+and a line
 feed.
 It ends with the line END.
 It has at most MAX_FORM bytes and MAX_FILES files. Copy it byte for byte.
@@ -39,8 +42,8 @@ FILES = [
     ("STORE-wal", "Its log, which may have the newest changes. Never move or remove one of the two without the other."),
     (".depot-pack-N", "What a depot pack that was killed may leave in the folder of FILE."),
 ]
-# Each example with its commands and their output. They are run in turn, in a folder with a bag `letters` and a policy, and with a
-# free port in place of PORT.
+# Each example with its commands and their output. They are run in turn, in a folder with a bag `letters` and a policy,
+# and with a free port in place of PORT.
 PORT = "8080"
 EXAMPLES = [
     (
@@ -81,10 +84,18 @@ EXAMPLES = [
 ]
 # Each status by a run that ends with it, and what it means.
 STATUSES = [
-    (0, ["check", "examples/bag-a.bagset"], "The command did what was asked. Where it answers yes or no, the answer is yes."),
+    (
+        0,
+        ["check", "examples/bag-a.bagset"],
+        "The command did what was asked. Where it answers yes or no, the answer is yes.",
+    ),
     (1, ["check", "examples/policy.toml"], "The answer is no, or the input is refused. Standard error says why."),
     (2, ["check"], "The arguments are invalid, or ask for help. Standard error has the text."),
-    (3, ["check", "examples/none"], "The store, a file, a port or memory failed. Standard error says which, and what was tried."),
+    (
+        3,
+        ["check", "examples/none"],
+        "The store, a file, a port or memory failed. Standard error says which, and what was tried.",
+    ),
 ]
 
 
@@ -128,14 +139,17 @@ def typed(text):
 
 def file_name(text):
     """The name of a file: placeholders are italic."""
-    return "".join(f"\\f{'I' if part.isupper() else 'B'}{escaped(part)}\\fR" for part in re.split("([A-Z]+)", text) if part)
+    return "".join(
+        f"\\f{'I' if part.isupper() else 'B'}{escaped(part)}\\fR" for part in re.split("([A-Z]+)", text) if part
+    )
 
 
 def marked(text):
     """A usage or an entry: what is typed as shown is bold, and placeholders are italic."""
     words = re.split(r"([\w-]+)", text.replace("<", "").replace(">", ""))
     return "".join(
-        f"\\f{'I' if word.isupper() else 'B'}{escaped(word)}\\fR" if re.match(r"[\w-]", word) else word for word in words
+        f"\\f{'I' if word.isupper() else 'B'}{escaped(word)}\\fR" if re.match(r"[\w-]", word) else word
+        for word in words
     )
 
 
@@ -257,7 +271,9 @@ def completed(*words):
 
 def form_of(folder):
     """The form of a folder, by the words of the page."""
-    files = sorted((os.fsencode(file.relative_to(folder)), file.read_bytes()) for file in folder.rglob("*") if file.is_file())
+    files = sorted(
+        (os.fsencode(file.relative_to(folder)), file.read_bytes()) for file in folder.rglob("*") if file.is_file()
+    )
     entries = (b"FILE %d %d\n%s%s\n" % (len(path), len(content), path, content) for path, content in files)
     return b"BAGSET 1\n" + b"".join(entries) + b"END\n"
 
@@ -299,7 +315,9 @@ def run_examples(program):
         (room / "bin").mkdir()
         (room / "bin/depot").symlink_to(program)
         shutil.copy(TOP / "examples/policy.toml", room)
-        subprocess.run([program, "unpack", TOP / "examples/bag-a.bagset", room / "letters"], stdout=subprocess.DEVNULL, check=True)
+        subprocess.run(
+            [program, "unpack", TOP / "examples/bag-a.bagset", room / "letters"], stdout=subprocess.DEVNULL, check=True
+        )
         unused.bind(("127.0.0.1", 0))
         port = str(unused.getsockname()[1])
         unused.close()
@@ -360,8 +378,8 @@ def main():
             tried += 1
     ran = run_examples(program)
     print(
-        f"manual: {len(names)} commands, {looked_for} sentences in the page as it is shown, {tried} words completed by bash,"
-        f" {ran} commands of examples run"
+        f"manual: {len(names)} commands, {looked_for} sentences in the page as it is shown, {tried} words completed by"
+        f" bash, {ran} commands of examples run"
     )
 
 

@@ -204,7 +204,10 @@ def replays(library, first, last, policy, records):
             fail(f"desk, allocation {number}: {why}")
         wants = any(is_wanting(it) for it in records_in(ended.stdout)[0])
         tally["ended" if ended.returncode else "answered" if wants else "did without"] += 1
-    said = f"{tally['answered']} answered with 503, {tally['ended']} ended the program, {tally['did without']} made no difference"
+    said = (
+        f"{tally['answered']} answered with 503, {tally['ended']} ended the program, "
+        f"{tally['did without']} made no difference"
+    )
     print(f"desk: {len(wanted)} requests, {sum(tally.values())} allocations refused: {said}", flush=True)
     return sum(tally.values())
 
@@ -330,7 +333,9 @@ def lines_of(kinds, answered):
             if count + 1 in (1, 10, 100):
                 lines.append(f"depot: connection {number}: a {kind} was answered {last[kind]}, {count + 1} in a row")
         elif answer.startswith(b"HTTP/1.1 200 ") and count:
-            lines.append(f"depot: connection {number}: {again[kind]}, after {count} in a row, the last answered {last[kind]}")
+            lines.append(
+                f"depot: connection {number}: {again[kind]}, after {count} in a row, the last answered {last[kind]}"
+            )
             rows[kind] = 0
     return lines
 
@@ -403,7 +408,9 @@ def sweep(library, first, last, kept, wanted, words, given):
             break
         is_done = ended.returncode == 0 and (ended.stdout == plain.stdout or is_wanting(ended.stdout))
         if not is_done and not is_failure(ended):
-            fail(f"{words[0]}, allocation {number}: it ended with {ended.returncode}, {ended.stdout!r} {ended.stderr!r}")
+            fail(
+                f"{words[0]}, allocation {number}: it ended with {ended.returncode}, {ended.stdout!r} {ended.stderr!r}"
+            )
         if found != wanted and (is_done or found != before):
             fail(f"{words[0]}, allocation {number}: {other(found)}")
         if (again.returncode, again.stdout) != (0, plain.stdout) or later != wanted:
@@ -491,10 +498,14 @@ def cases(group):
             wants = sum(it.endswith(b": want of memory") for it in lines)
             fits = all(it.endswith((b": as worked out", b": want of memory")) for it in lines)
             if ended.returncode != 0 or not fits or len(lines) != count:
-                fail(f"{group}, allocation {number}: it ended with {ended.returncode}, {ended.stdout!r} {ended.stderr!r}")
+                fail(
+                    f"{group}, allocation {number}: it ended with {ended.returncode}, {ended.stdout!r} {ended.stderr!r}"
+                )
             refused += 1
             without += wants == 0 and len(lines) == ended.stdout.count(b"\n")
-        print(f"{group}: {count} cases, {refused} allocations refused, {without} of them made no difference", flush=True)
+        print(
+            f"{group}: {count} cases, {refused} allocations refused, {without} of them made no difference", flush=True
+        )
         return refused
 
     return trial
@@ -519,7 +530,10 @@ def main():
     with tempfile.TemporaryDirectory() as folder:
         library = compiled(pathlib.Path(folder))
         refused = sum(GROUPS[name](library, first, last) for name in names)
-    print(f"memory: {refused} allocations refused in turn in {', '.join(names)}: nothing but lack of memory, and nothing lost")
+    print(
+        f"memory: {refused} allocations refused in turn in {', '.join(names)}: nothing but lack of memory, "
+        "and nothing lost"
+    )
 
 
 if __name__ == "__main__":

@@ -98,7 +98,8 @@ for text in sys.argv[1:]:
     client.recv(65536)
     status, _, body = text.partition(" ")
     body = body.encode().decode("unicode_escape").encode("latin-1")
-    client.sendall(b"HTTP/1.1 %s X\r\nContent-Length: %d\r\nConnection: close\r\n\r\n" % (status.encode(), len(body)) + body)
+    head = b"HTTP/1.1 %s X\r\nContent-Length: %d\r\nConnection: close\r\n\r\n" % (status.encode(), len(body))
+    client.sendall(head + body)
     client.close()
 client, _ = desk.accept()
 time.sleep(60)
@@ -118,7 +119,8 @@ no_peer() {
 serve "$today"
 [ "$(asks -X PUT -d '{"years":3}' "$desk/classes/y3") $(asks -X PUT "$desk/collections/maps")" = \
     '{"class":"y3","years":3} 200 {"collection":"maps"} 200' ]
-[ "$(asks --data-binary "@$top/examples/bag-a.bagset" "$desk/deposits?collection=maps&class=y3&accession=A-1&closed=2024-02-29")" = \
+[ "$(asks --data-binary "@$top/examples/bag-a.bagset" \
+    "$desk/deposits?collection=maps&class=y3&accession=A-1&closed=2024-02-29")" = \
     '{"deposit":1} 201' ]
 before=$(asks "$desk/deposits")
 
@@ -162,9 +164,12 @@ cp office.db here/
 expect "copies on the store's file system" '1; WARNING: office.db and its copies in here are on one file system' env \
     STORE=office.db "$monitor" "$desk" here monitor
 rm -r here
-expect "a store that isn't there for the user" "0; OK: $well; it takes changes; *; not looked at: the disk of none/office.db, which isn't there for this user" \
+expect "a store that isn't there for the user" \
+    "0; OK: $well; it takes changes; *; not looked at: the disk of none/office.db, which isn't there for this user" \
     env STORE=none/office.db "$monitor" "$desk" backup monitor
-expect "the same without a caller" "1; WARNING: nothing shows whether changes are taken: CALLER is missing, and none/office.db isn't there for this user" \
+unseen="none/office.db isn't there for this user"
+expect "the same without a caller" \
+    "1; WARNING: nothing shows whether changes are taken: CALLER is missing, and $unseen" \
     env STORE=none/office.db "$monitor" "$desk" backup
 
 # ---- a full disk: what is due is still answered. The log may have room for some small changes, so the monitor names
@@ -180,8 +185,8 @@ done
 [[ $(asks "$desk/due") == *' 200' ]] || fail "what is due isn't answered on a full disk"
 FREE=0 expect "the same, where nobody looks at the room" "0; OK: $well; no change was tried; *" alone
 FREE=0 expect "the same with a caller" '2; CRITICAL: the office takes no change: {"error":"Store"} 503' page
-expect "a full disk, with a caller" \
-    '2; CRITICAL: the office takes no change: {"error":"Store"} 503; the disk of office.db has 0 KiB left, less than 256 MiB' \
+full="the disk of office.db has 0 KiB left, less than 256 MiB"
+expect "a full disk, with a caller" "2; CRITICAL: the office takes no change: {\"error\":\"Store\"} 503; $full" \
     page
 rm filling
 mount -t tmpfs -o remount,size=300m office "$room/work"
@@ -195,12 +200,25 @@ certificate() {
     mkdir "$room/ca"
     : >"$room/ca/index"
     echo 01 >"$room/ca/serial"
-    printf '[ca]\ndefault_ca=a\n[a]\ndatabase=%s/index\nserial=%s/serial\nnew_certs_dir=%s\npolicy=p\ndefault_md=sha256\n[p]\ncommonName=supplied\n[req]\ndistinguished_name=d\n[d]\n' \
-        "$room/ca" "$room/ca" "$room/ca" >"$room/ca/conf"
+    cat >"$room/ca/conf" <<END
+[ca]
+default_ca=a
+[a]
+database=$room/ca/index
+serial=$room/ca/serial
+new_certs_dir=$room/ca
+policy=p
+default_md=sha256
+[p]
+commonName=supplied
+[req]
+distinguished_name=d
+[d]
+END
     openssl req -config "$room/ca/conf" -new -newkey ec -pkeyopt ec_paramgen_curve:P-256 -nodes -keyout "$room/ca/key" \
         -subj /CN=x -out "$room/ca/new" 2>/dev/null
-    openssl ca -batch -config "$room/ca/conf" -selfsign -keyfile "$room/ca/key" -in "$room/ca/new" -out "$room/proxy.pem" \
-        -startdate 20200101000000Z -enddate "$(date -u -d "$1" +%Y%m%d%H%M%SZ)" 2>/dev/null
+    openssl ca -batch -config "$room/ca/conf" -selfsign -keyfile "$room/ca/key" -in "$room/ca/new" \
+        -out "$room/proxy.pem" -startdate 20200101000000Z -enddate "$(date -u -d "$1" +%Y%m%d%H%M%SZ)" 2>/dev/null
 }
 export CERTIFICATE=$room/proxy.pem
 expect "a certificate that isn't there" \
@@ -216,20 +234,26 @@ certificate '1 day ago'
 expect "one that ended yesterday" "2; CRITICAL: the certificate $room/proxy.pem ends, or ended, on *" page
 # Several troubles: the failure comes first, though it is found last.
 touch -d '37 hours ago' "backup/$today.db"
-FREE=1000 expect "three troubles" "2; CRITICAL: the certificate * GMT; the newest copy, backup/$today.db, is 22[12]? minutes old; the disk of office.db has * MiB" page
+aged="the newest copy, backup/$today.db, is 22[12]? minutes old"
+FREE=1000 expect "three troubles" \
+    "2; CRITICAL: the certificate * GMT; $aged; the disk of office.db has * MiB" page
 touch "backup/$today.db"
 unset CERTIFICATE
 
 # ---- the policy, the day, and an office that doesn't answer
 
-expect "a caller whom the policy allows nothing" "1; WARNING: no change was tried, since the policy doesn't let carl revise the class monitor: {\"error\":\"Denied\",\"rule\":\"default\"} 403" \
+untried="no change was tried, since the policy doesn't let"
+expect "a caller whom the policy allows nothing" \
+    "1; WARNING: $untried carl revise the class monitor: {\"error\":\"Denied\",\"rule\":\"default\"} 403" \
     env STORE=office.db "$monitor" "$desk" backup carl
 stop_office
 expect "an office that was killed" "2; CRITICAL: the office doesn't answer: curl: (7) *" page
 expect "the same without a caller" "2; CRITICAL: the office doesn't answer: curl: (7) *" alone
 "$program" policy office.db "$top/examples/policy.toml" >/dev/null
 serve 2024-03-02
-expect "a policy without the rule, on another day" "2; CRITICAL: the office serves the day 2024-03-02, and it is $today; no change was tried, since the policy doesn't let monitor revise the class monitor: *" page
+other="the office serves the day 2024-03-02, and it is $today"
+expect "a policy without the rule, on another day" \
+    "2; CRITICAL: $other; $untried monitor revise the class monitor: *" page
 # The same some minutes after midnight: a stand-in for `date` says so.
 # shellcheck disable=SC2016 # for the inner shell
 printf '#!/bin/sh\ncase $1 in\n-d) echo 2024-03-02 ;;\n+%%F) echo 2024-03-03 ;;\n*) exec /bin/date "$@" ;;\nesac\n' \

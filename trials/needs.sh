@@ -87,7 +87,8 @@ needs_office_file() {
     local crate=$top/crates/office_file
     if [ -z "${OFFICE_FILE-}" ]; then
         needs_kit
-        (cd "$crate" && rt run -- draw 1 1) >/dev/null 2>&1 || lacks "the program office_file, which can't be built: try rt run in $crate"
+        (cd "$crate" && rt run -- draw 1 1) >/dev/null 2>&1 ||
+            lacks "the program office_file, which can't be built: try rt run in $crate"
     fi
     use_program "${OFFICE_FILE:-$crate/out/office_file}"
 }

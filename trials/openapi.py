@@ -112,7 +112,10 @@ def read_file():
     if RULES.is_file():
         judges.append("the schema of OpenAPI")
         for fault in jsonschema.Draft4Validator(json.loads(RULES.read_text(encoding="utf-8"))).iter_errors(whole):
-            tell(f"docs/openapi.yaml, {'/'.join(map(str, fault.absolute_path))}", f"this is no OpenAPI 3.0: {cut(fault.message)}")
+            tell(
+                f"docs/openapi.yaml, {'/'.join(map(str, fault.absolute_path))}",
+                f"this is no OpenAPI 3.0: {cut(fault.message)}",
+            )
     try:
         import openapi_spec_validator
         judges.append("openapi-spec-validator")
@@ -423,7 +426,9 @@ def asks(operations, request):
     asked = here.get(method)
     entries = next(iter(here.values())).of("path").values() if here else []
     allowed = ", ".join(sorted(here))
-    if template is None or any(against(entry["schema"], value_of(entry["schema"], texts[entry["name"]])) for entry in entries):
+    if template is None or any(
+        against(entry["schema"], value_of(entry["schema"], texts[entry["name"]])) for entry in entries
+    ):
         return asked, "NoRoute", None
     if asked is None:
         return None, "Method", allowed
@@ -448,7 +453,10 @@ def check_fields(place, answer, kind, exchange):
         if fault := against(wanted[name], value_of(wanted[name], came[name])):
             tell(place, f"the field {name} of the answer:{fault}")
     if came.get("Content-Length") != str(len(exchange.body)):
-        tell(place, f"the answer's Content-Length is {came.get('Content-Length')}, and its body has {len(exchange.body)} bytes")
+        tell(
+            place,
+            f"the answer's Content-Length is {came.get('Content-Length')}, and its body has {len(exchange.body)} bytes",
+        )
 
 
 def check_request(operations, exchange, code, place):
@@ -525,7 +533,9 @@ def rows_of(part, columns):
         if line.startswith("|") and not rules[place] and not rules[place + 1]:
             cells = [cell.strip() for cell in line.strip()[1:-1].split("|")]
             if len(cells) != columns:
-                fail(f"docs/HTTP.md: this script reads {columns} columns, and finds {len(cells)} in the row {cut(line)}")
+                fail(
+                    f"docs/HTTP.md: this script reads {columns} columns, and finds {len(cells)} in the row {cut(line)}"
+                )
             yield cells
 
 
@@ -582,7 +592,9 @@ def request_of(line):
     if data is not None and b"content-type" not in own:
         fields.append((b"Content-Type", b"application/x-www-form-urlencoded"))
     line = b"%s %s HTTP/1.1" % (method or (b"GET" if data is None else b"POST"), target)
-    head = [line, b"Host: 127.0.0.1:8080", b"User-Agent: curl", b"Accept: */*"] + [name + b": " + value for name, value in fields]
+    head = [line, b"Host: 127.0.0.1:8080", b"User-Agent: curl", b"Accept: */*"] + [
+        name + b": " + value for name, value in fields
+    ]
     return b"\r\n".join(head) + b"\r\n\r\n" + (data or b"")
 
 
@@ -688,8 +700,17 @@ def check_routes(page, operations, numbers, desk):
                 tell(place, f"docs/HTTP.md and docs/openapi.yaml differ in whether the query needs {key}")
         kind = None if not body else JSON if "{" in body else BYTES
         if kind != (operation.body and operation.body[0]):
-            tell(place, f"docs/HTTP.md has the body {body or 'none'}, and docs/openapi.yaml {(operation.body or ['none'])[0]}")
-        same(place, "the accepting status", {answer.split(" ")[0]}, {status for status in operation.answers if status < "400"})
+            tell(
+                place,
+                f"docs/HTTP.md has the body {body or 'none'}, and docs/openapi.yaml "
+                f"{(operation.body or ['none'])[0]}",
+            )
+        same(
+            place,
+            "the accepting status",
+            {answer.split(" ")[0]},
+            {status for status in operation.answers if status < "400"},
+        )
         codes = {code for _, code, _ in refusals_in(operation.answers)}
         office = {numbers.get(number, number) for number in re.findall(r"E\d+", refused)}
         same(place, "the refusal", office | OF_ALL, codes - desk)
@@ -794,7 +815,9 @@ def main():
             check_exchange(operations, others, one, shown)
         of_all |= shown
         missing = [name for name in wanted if name not in shown]
-        lines.append(f"openapi: {len(exchanges)} exchanges of {source}; not shown there: {', '.join(missing) or 'nothing'}")
+        lines.append(
+            f"openapi: {len(exchanges)} exchanges of {source}; not shown there: {', '.join(missing) or 'nothing'}"
+        )
     end()
     print(f"openapi: docs/openapi.yaml is OpenAPI 3.0 by {' and by '.join(judges)}, and has what docs/HTTP.md has")
     print("\n".join(lines))

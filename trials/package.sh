@@ -69,7 +69,8 @@ matches "it is installed again" 'install ok installed' \
 within install -m 644 /usr/share/doc/depot/examples/office.conf /etc/depot/office.conf
 within install -d -m 700 -o depot -g depot /var/lib/depot/office /var/backups/depot/office
 matches "an office is made" 'installed 3 rules 2 callers' \
-    "$(within runuser -u depot -- sh -c 'umask 077 && depot policy /var/lib/depot/office/office.db "$0"' "$top/examples/policy.toml")"
+    "$(within runuser -u depot -- \
+        sh -c 'umask 077 && depot policy /var/lib/depot/office/office.db "$0"' "$top/examples/policy.toml")"
 within systemctl enable --quiet --now depot@office.service depot-midnight@office.timer
 target=/collections/maps matches "it is asked" '{"collection":"maps"} 200' "$(target=/collections/maps asks -X PUT)"
 matches "no backup yet" '' "$(within ls /var/backups/depot/office)"
@@ -106,6 +107,7 @@ within dpkg -P depot >"$room/said" 2>&1 || fail "$(cat "$room/said")"
 matches "a purge leaves the office" 'depot 600' "$(within stat -c '%U %a' /var/lib/depot/office/office.db)"
 matches "its settings and backups" 'office.conf' "$(within ls /etc/depot)"
 matches "and no link to a unit" '' "$(within find /etc/systemd/system -name 'depot*')"
-matches "what was deposited is there" '{"collection":"tax"}*' "$(within cp "$program" /usr/local/bin/depot;
-    printf 'PUT /collections/tax HTTP/1.1\r\nDepot-Caller: anna\r\n\r\n' | within runuser -u depot -- /usr/local/bin/depot ask /var/lib/depot/office/office.db "$(date +%F)" | tail -n 1)"
+matches "what was deposited is there" '{"collection":"tax"}*' "$(within cp "$program" /usr/local/bin/depot
+    printf 'PUT /collections/tax HTTP/1.1\r\nDepot-Caller: anna\r\n\r\n' |
+        within runuser -u depot -- /usr/local/bin/depot ask /var/lib/depot/office/office.db "$(date +%F)" | tail -n 1)"
 echo "package: $cases cases: installed, used, upgraded while an office ran, removed and purged, and the office stays"

@@ -112,16 +112,19 @@ ask() {
 
 office=$room/office.db
 found=$("$program" policy "$office" "$policy")
-wanted="installed $(grep -c '^\[\[rule\]\]' "$policy") rules $(awk '/^\[callers\]/ { on = 1; next } /^\[/ { on = 0 } on && / = /' "$policy" | wc -l) callers"
+callers=$(awk '/^\[callers\]/ { on = 1; next } /^\[/ { on = 0 } on && / = /' "$policy" | wc -l)
+wanted="installed $(grep -c '^\[\[rule\]\]' "$policy") rules $callers callers"
 compare "the install of the policy" "$wanted" "$found"
 echo '{"years":10}' >"$room/years"
 collections=(tax maps personnel minutes)
 for class in y10 monitor; do
-    [[ $(ask "$office" 2026-07-01 anna PUT "/classes/$class" "$room/years") == 200\ * ]] || fail "the class $class isn't defined"
+    [[ $(ask "$office" 2026-07-01 anna PUT "/classes/$class" "$room/years") == 200\ * ]] ||
+        fail "the class $class isn't defined"
 done
 for at in "${!collections[@]}"; do
     each=${collections[$at]}
-    [[ $(ask "$office" 2026-07-01 anna PUT "/collections/$each") == 200\ * ]] || fail "the collection $each isn't defined"
+    [[ $(ask "$office" 2026-07-01 anna PUT "/collections/$each") == 200\ * ]] ||
+        fail "the collection $each isn't defined"
     [ "$(ask "$office" 2026-07-01 anna POST "/deposits?collection=$each&class=y10&accession=$each&closed=2024-02-29" \
         "$top/examples/bag-a.bagset")" = "201 {\"deposit\":$((at + 1))}" ] || fail "nothing is deposited in $each"
     printf '{"deposit":%s,"matter":"Case 7"}' "$((at + 1))" >"$room/hold"
@@ -139,7 +142,8 @@ while IFS=$'\t' read -r asked verdict; do
     class) words=(PUT "/classes/$class" "$room/years") ;;
     collection) words=(PUT "/collections/$collection") ;;
     deposit)
-        words=(POST "/deposits?collection=$collection&class=$class&accession=A-1&closed=2024-02-29" "$top/examples/bag-a.bagset")
+        words=(POST "/deposits?collection=$collection&class=$class&accession=A-1&closed=2024-02-29"
+            "$top/examples/bag-a.bagset")
         ;;
     record) words=(GET "/deposits/$number") ;;
     download) words=(GET "/deposits/$number/files/data/a") ;;

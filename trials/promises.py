@@ -1,14 +1,17 @@
 #!/usr/bin/env python3
 """Looks up what the sources in crates/ promise.
 
-  trials/promises.py [--check]   looks up each name of docs/PROMISES.md, and of "What is proved" in README.md, where these say it is.
-                                 Prints a line for each that isn't there, and ends with 1 if there is one.
-  trials/promises.py CRATE..     prints each public call and law of these crates: the first sentence of its comment, and its clauses
+  trials/promises.py [--check]   looks up each name of docs/PROMISES.md, and of "What is proved" in README.md, where
+                                 these say it is. Prints a line for each that isn't there, and ends with 1 if there is
+                                 one.
+  trials/promises.py CRATE..     prints each public call and law of these crates: the first sentence of its comment, and
+                                 its clauses
 
-How docs/PROMISES.md is read: a heading, or a column "Crates", names the crates of a table's rows. A column "Call", "Law" or the like
-has public calls, laws and types. A name in parentheses beside them is a clause of one of these, or a ghost member. `NAME` of `OTHER`
-is a clause of a call, a member of a type, or what a crate defines. In a table "with each clause" a row has each clause of its calls;
-with a table "Each law" the page has each law of the table's crates. In README.md a name alone has to occur in the sources.
+How docs/PROMISES.md is read: a heading, or a column "Crates", names the crates of a table's rows. A column "Call",
+"Law" or the like has public calls, laws and types. A name in parentheses beside them is a clause of one of these, or a
+ghost member. `NAME` of `OTHER` is a clause of a call, a member of a type, or what a crate defines. In a table "with
+each clause" a row has each clause of its calls; with a table "Each law" the page has each law of the table's crates. In
+README.md a name alone has to occur in the sources.
 """
 
 import re
@@ -52,7 +55,8 @@ def owner_of(line):
 
 
 class Crate:
-    """What a crate promises: its public calls, its types with their ghost members, and what its specifications define."""
+    """What a crate promises: its public calls, its types with their ghost members, and what its specifications
+    define."""
 
     def __init__(self, folder):
         self.name, self.calls, self.types, self.defined = folder.name, {}, {}, set()
@@ -102,7 +106,9 @@ class Crate:
         if name in self.calls:
             return self.calls[name].clauses
         if name in self.types:
-            return self.types[name].union(*(call.clauses for called, call in self.calls.items() if called.startswith(name + "::")))
+            return self.types[name].union(
+                *(call.clauses for called, call in self.calls.items() if called.startswith(name + "::"))
+            )
         return None
 
     def has(self, name):
@@ -138,7 +144,8 @@ class Page:
         self.lacking.append(f"{self.page}:{place}: {text}")
 
     def read(self, lines, first=1):
-        """Reads these lines: a paragraph as one text, since a name may be at the end of its line and what has it on the next."""
+        """Reads these lines: a paragraph as one text, since a name may be at the end of its line and what has it on the
+        next."""
         heading, columns, paragraph = [], [], []
         for place, line in enumerate([*lines, ""], first):
             cells = [cell.strip() for cell in line.split("|")]
@@ -212,15 +219,22 @@ class Page:
             self.read_name(place, name)
 
     def read_name(self, place, name):
-        """A name alone: a crate, something of a crate, a file, or a word of the program. Other texts aren't looked up."""
+        """A name alone: a crate, something of a crate, a file, or a word of the program. Other texts aren't looked
+        up."""
         self.named.add(name)
         if re.fullmatch(r"[\w./]+", name) and re.search(r"\w[./]", name):
-            folders = [TOP, TOP / "docs", TOP / "crates", *(TOP / "crates").iterdir(), *(TOP / "crates").glob("*/specs")]
+            folders = [
+                TOP, TOP / "docs", TOP / "crates", *(TOP / "crates").iterdir(), *(TOP / "crates").glob("*/specs")
+            ]
             if not any((folder / name).exists() for folder in folders):
                 self.lack(place, f"there is no file `{name}`")
         elif re.fullmatch(r"[A-Za-z]\w*(?:::\w+)?(?:<\w>)?", name):
             plain = without_bounds(name)
-            is_known = plain in self.crates or plain in self.kit | self.alone or any(crate.has(plain) for crate in self.crates.values())
+            is_known = (
+                plain in self.crates
+                or plain in self.kit | self.alone
+                or any(crate.has(plain) for crate in self.crates.values())
+            )
             if not is_known:
                 self.lack(place, f"no crate has `{name}`")
 

@@ -53,9 +53,16 @@ start_nginx() {
     log=$in/logs/nginx.log
     for each in "$@"; do
         office=office
-        case $each in *=*) office=${each%=*} several='s/^( *)#(.*)$/\1\2/; /^ *default +(office|\$request_uri);/d' ;; esac
+        case $each in
+        *=*)
+            office=${each%=*}
+            several='s/^( *)#(.*)$/\1\2/; /^ *default +(office|\$request_uri);/d'
+            ;;
+        esac
         ports+="s/^( *)$office +[0-9]+;/\1$office ${each#*=};/;"
-        [ -e "$in/nginx/$office.users" ] || for user in "${users[@]}"; do nginx_user "$user"; done >"$in/nginx/$office.users"
+        if [ ! -e "$in/nginx/$office.users" ]; then
+            for user in "${users[@]}"; do nginx_user "$user"; done >"$in/nginx/$office.users"
+        fi
     done
     # (only the maps of the offices, which come first, have lines with a `#` to remove)
     sed -E "$edit" "$top/examples/nginx.conf" |
@@ -66,7 +73,8 @@ start_nginx() {
             }
         }" -e "s|listen 443 ssl|listen 127.0.0.1:$https ssl|; s|/etc/nginx/office\.(crt\|key)|$in/office.\1|" \
             -e "s|/etc/nginx|$in/nginx|; s|/var/log/depot/access|$in/logs/nginx|; s|/run/depot|$in|; s|:8079|:$page|" \
-            -e "s|https://office.example.org|https://localhost:$https|; s|office.example.org|localhost|" >"$in/nginx/site.conf"
+            -e "s|https://office.example.org|https://localhost:$https|; s|office.example.org|localhost|" \
+            >"$in/nginx/site.conf"
     cat >"$in/nginx/nginx.conf" <<END
 worker_processes 2;
 pid $in/nginx/pid;
@@ -91,7 +99,7 @@ END
 # Starts Caddy in the same way. Its configuration is `caddy/Caddyfile` in the folder: `reload_caddy FOLDER` reads it
 # anew.
 start_caddy() {
-    local in=$1 each several="" office edits="" user
+    local in=$1 each several="" office edits="" user tls
     shift
     proxies_in "$in"
     https=$(free_port)
@@ -100,18 +108,25 @@ start_caddy() {
         office=office
         case $each in *=*) office=${each%=*} several=yes ;; esac
         edits+="s/import office $office [0-9]+\$/import office $office ${each#*=}/;"
-        [ -e "$in/caddy/$office.users" ] || for user in "${users[@]}"; do caddy_user "$user"; done >"$in/caddy/$office.users"
+        if [ ! -e "$in/caddy/$office.users" ]; then
+            for user in "${users[@]}"; do caddy_user "$user"; done >"$in/caddy/$office.users"
+        fi
     done
     # (the certificate of this script, and no port for HTTP)
+    tls="tls $in/office.crt $in/office.key"
     sed -E "$edit" "$top/examples/Caddyfile" | awk -v several="$several" -v in_="$in" '
-            /^\{$/ { print; print "\tadmin unix/" in_ "/caddy/admin\n\tauto_https off\n\tstorage file_system " in_ "/caddy"; next }
+            /^\{$/ {
+                print
+                print "\tadmin unix/" in_ "/caddy/admin\n\tauto_https off\n\tstorage file_system " in_ "/caddy"
+                next
+            }
             several && /^\t#(@20|handle|\t|})/ { sub("#", ""); print; next }
             several && /^\thandle \{$/ { is_one = 1 }
             is_one { is_one = $0 != "\t}"; next }
             { print }' |
         sed -E -e "$edits" -e "s|https://office.example.org|https://localhost:$https|; s|/etc/caddy|$in/caddy|" \
             -e "s|/var/log/depot/access|$in/logs/caddy|; s|/run/depot|$in|; s|:8079|:$page|" \
-            -e "s|^office.example.org \{|https://localhost:$https {\n\tbind 127.0.0.1\n\ttls $in/office.crt $in/office.key|" \
+            -e "s|^office.example.org \{|https://localhost:$https {\n\tbind 127.0.0.1\n\t$tls|" \
             >"$in/caddy/Caddyfile"
     HOME=$in/caddy caddy run --config "$in/caddy/Caddyfile" --adapter caddyfile >>"$in/logs/caddy.said" 2>&1 &
     server=$!

@@ -91,7 +91,8 @@ asks --data-binary @small.bagset \
 gets() {
     local status=$1 body=$2 user=$3 target=$4 said
     shift 4
-    said=$(curl -sS --max-time 300 --cacert office.crt -u "$user:$password" -w '\n%{http_code} %{content_type}' "$@" "https://localhost:$https$target" 2>&1) || true
+    said=$(curl -sS --max-time 300 --cacert office.crt -u "$user:$password" -w '\n%{http_code} %{content_type}' \
+        "$@" "https://localhost:$https$target" 2>&1) || true
     [ "$said" = "$body"$'\n'"$status application/json" ] ||
         fail "$target by $user${*:+ with $*}: $status $body is wanted, and this came: $said"
     cases=$((cases + 1))
@@ -173,7 +174,8 @@ try_proxy() {
     cases=$((cases + 1))
 
     # who is slow holds nobody else up
-    curl -sS --limit-rate 500K --cacert office.crt -u "carl:$password" -o /dev/null --data-binary @large.bagset "https://localhost:$https$(next)" &
+    curl -sS --limit-rate 500K --cacert office.crt -u "carl:$password" -o /dev/null --data-binary @large.bagset \
+        "https://localhost:$https$(next)" &
     slow=$!
     sleep 0.5
     quick 'a slow upload'
@@ -197,11 +199,14 @@ try_proxy() {
     said=$(curl -sS --cacert office.crt -w '\n%{http_code} %{content_type}' "https://localhost:$https/deposits")
     [ "$said" = '{"error":"Unauthorized"}'$'\n401 application/json' ] ||
         fail "without a password 401 as JSON is wanted, and this came: $said"
-    said=$(curl -sS --cacert office.crt -u anna:wrong -o /dev/null -D - "https://localhost:$https/deposits" | tr -d '\r' | grep -i '^www-authenticate:')
+    said=$(curl -sS --cacert office.crt -u anna:wrong -o /dev/null -D - "https://localhost:$https/deposits" |
+        tr -d '\r' | grep -i '^www-authenticate:')
     [ -n "$said" ] || fail "a wrong password isn't asked for again"
     head -c $((17 << 20)) /dev/zero >beyond
-    said=$(curl -sS --cacert office.crt -u "anna:$password" -H 'Expect:' -w '\n%{http_code} %{content_type}' --data-binary @beyond "https://localhost:$https$(next)" 2>/dev/null) || true
-    [ "$said" = '{"error":"TooLarge"}'$'\n413 application/json' ] || fail "of a body of 17 MiB 413 as JSON is wanted, and this came: $said"
+    said=$(curl -sS --cacert office.crt -u "anna:$password" -H 'Expect:' -w '\n%{http_code} %{content_type}' \
+        --data-binary @beyond "https://localhost:$https$(next)" 2>/dev/null) || true
+    [ "$said" = '{"error":"TooLarge"}'$'\n413 application/json' ] ||
+        fail "of a body of 17 MiB 413 as JSON is wanted, and this came: $said"
     cases=$((cases + 3))
     gets 405 '{"error":"Method"}' anna /due -X TRACE
     long=$(head -c 9000 /dev/zero | tr '\0' a)
@@ -212,7 +217,8 @@ try_proxy() {
         # a line that is no request, and a request without TLS
         gets 400 '{"error":"BadRequest"}' anna /due -X 'GE T'
         said=$(curl -sS -w '\n%{http_code} %{content_type}' "http://localhost:$https/due")
-        [ "$said" = '{"error":"BadRequest"}'$'\n400 application/json' ] || fail "without TLS 400 as JSON is wanted, and this came: $said"
+        [ "$said" = '{"error":"BadRequest"}'$'\n400 application/json' ] ||
+            fail "without TLS 400 as JSON is wanted, and this came: $said"
         cases=$((cases + 1))
     else
         # (it passes such a head on)
@@ -246,10 +252,12 @@ refused_or() {
 import base64, socket, ssl, sys
 port, user, target, line = sys.argv[1:]
 context = ssl.create_default_context(cafile="office.crt")
-with socket.create_connection(("127.0.0.1", int(port))) as plain, context.wrap_socket(plain, server_hostname="localhost") as peer:
+with socket.create_connection(("127.0.0.1", int(port))) as plain, \
+        context.wrap_socket(plain, server_hostname="localhost") as peer:
     peer.settimeout(30)
     given = base64.b64encode(user.encode()).decode()
-    peer.sendall(f"GET {target} HTTP/1.1\r\nHost: localhost\r\nAuthorization: Basic {given}\r\n{line}\r\nConnection: close\r\n\r\n".encode())
+    head = f"GET {target} HTTP/1.1\r\nHost: localhost\r\nAuthorization: Basic {given}\r\n"
+    peer.sendall(f"{head}{line}\r\nConnection: close\r\n\r\n".encode())
     print(peer.recv(4096).split(b"\r\n")[0].decode())
 END
     )
@@ -263,8 +271,10 @@ END
 # Two requests over one connection of the client.
 two_over_one_connection() {
     local said
-    said=$(curl -sS --cacert office.crt -u "anna:$password" "https://localhost:$https/due" "https://localhost:$https/due" -w '%{num_connects}' 2>&1)
-    [ "$said" = "{\"day\":\"$day\",\"deposits\":[]}1{\"day\":\"$day\",\"deposits\":[]}0" ] || fail "two requests over one connection gave $said"
+    said=$(curl -sS --cacert office.crt -u "anna:$password" "https://localhost:$https/due" \
+        "https://localhost:$https/due" -w '%{num_connects}' 2>&1)
+    [ "$said" = "{\"day\":\"$day\",\"deposits\":[]}1{\"day\":\"$day\",\"deposits\":[]}0" ] ||
+        fail "two requests over one connection gave $said"
     cases=$((cases + 1))
 }
 
@@ -283,7 +293,8 @@ come_and_go() {
     local file=$proxy/office.users slow rate=250K unknown='{"error":"Unauthorized"}'
     # (Caddy's hash of a password takes a second)
     [ "$proxy" = nginx ] || rate=70K
-    curl -sS --limit-rate $rate --cacert office.crt -u "carl:$password" -o answer --data-binary @medium.bagset "https://localhost:$https$(next)" &
+    curl -sS --limit-rate $rate --cacert office.crt -u "carl:$password" -o answer --data-binary @medium.bagset \
+        "https://localhost:$https$(next)" &
     slow=$!
     gets 401 "$unknown" dora /due
     "${proxy}_user" dora >>"$file"
@@ -310,9 +321,11 @@ fills() {
         printf '%s\tmaps\ty1\tF-%s\t2024-02-29\n' filled "$at"
     done >bags.list
     before=$(wc -l <"$log")
-    DEPOT=$program "$top/examples/fill" "https://localhost:$https" anna bags.list --cacert office.crt -u "anna:$password" >filling ||
+    DEPOT=$program "$top/examples/fill" "https://localhost:$https" anna bags.list --cacert office.crt \
+        -u "anna:$password" >filling ||
         fail "fill ended with $?: $(tail -n 1 filling)"
-    [ "$(tail -n 1 filling)" = '25 of 25 bags are in the office, and 0 were refused' ] || fail "fill said $(tail -n 1 filling)"
+    [ "$(tail -n 1 filling)" = '25 of 25 bags are in the office, and 0 were refused' ] ||
+        fail "fill said $(tail -n 1 filling)"
     ! tail -n +$((before + 1)) "$log" | grep '"status":429' || fail "a request of fill was refused"
     last=$((last + 25))
     cases=$((cases + 2))
@@ -330,7 +343,8 @@ rotates() {
             # (as if that were a month ago)
             mv "$log-$(date +%Y%m%d)" "$log-2023010$at"
         done
-        [ "$(cd logs; echo nginx.log-2023*)" = 'nginx.log-20230101.gz nginx.log-20230102.gz nginx.log-20230103' ] || fail "the log became $(ls logs)"
+        [ "$(cd logs; echo nginx.log-2023*)" = \
+            'nginx.log-20230101.gz nginx.log-20230102.gz nginx.log-20230103' ] || fail "the log became $(ls logs)"
         [ "$(stat -c %a "$log")" = 640 ] || fail "the new file of the log has the mode $(stat -c %a "$log")"
         cases=$((cases + 2))
     else
@@ -350,7 +364,10 @@ flood() {
 
 # ---- each proxy, and the controls
 
-case $(PATH=$PATH:/usr/sbin nginx -v 2>&1) in */1.[0-9].* | */1.1[0-9].* | */1.2[0-2].*) joined=first ;; *) joined=joined ;; esac
+case $(PATH=$PATH:/usr/sbin nginx -v 2>&1) in
+*/1.[0-9].* | */1.1[0-9].* | */1.2[0-2].*) joined=first ;;
+*) joined=joined ;;
+esac
 owner='www-data root'
 [ "$(id -u)" -eq 0 ] || owner="$(id -un) $(id -gn)"
 last=1
@@ -370,7 +387,8 @@ done
 proxy=nginx
 # a user's flood, for 8 seconds; the control has no limits
 last=$((last + 1))
-asks --data-binary @asked.bagset "http://127.0.0.1:$desk/deposits?collection=maps&class=y1&accession=A-$last&closed=2024-02-29"
+asks --data-binary @asked.bagset \
+    "http://127.0.0.1:$desk/deposits?collection=maps&class=y1&accession=A-$last&closed=2024-02-29"
 audit=/deposits/$last/audit
 cost=$(curl -sS -o answer -w '%{time_total}' -H 'Depot-Caller: anna' "http://127.0.0.1:$desk$audit")
 grep -q '"valid":true' answer || fail "the bag of the flood isn't there: $(cat answer)"
@@ -389,12 +407,18 @@ rotates
 stop_proxy
 edit='/limit_(req|conn)/d' start_nginx "$room" "$desk"
 flood carl "$password" 20
-python3 -c "import sys; sys.exit($waited <= 2 * $bound)" || fail "the control: without limits another waited $waited seconds, and with them $with"
+python3 -c "import sys; sys.exit($waited <= 2 * $bound)" ||
+    fail "the control: without limits another waited $waited seconds, and with them $with"
 stop_proxy
 # (and one whose rate is that of a name that a client gives, before the password is looked at: others use it up)
-edit='s/"\$office \$office_user"/"$office $remote_user"/; s/zone=office_addresses burst.*/zone=office_rates burst=50;/' start_nginx "$room" "$desk"
+edit='s/"\$office \$office_user"/"$office $remote_user"/
+    s/zone=office_addresses burst.*/zone=office_rates burst=50;/' \
+    start_nginx "$room" "$desk"
 flood anna wrong 6
-case $came in *429*) ;; *) fail "the control: who doesn't know a password used up nothing of a user's rate: $came" ;; esac
+case $came in
+*429*) ;;
+*) fail "the control: who doesn't know a password used up nothing of a user's rate: $came" ;;
+esac
 stop_proxy
 
 # without the lines that do it
@@ -414,7 +438,8 @@ part foreign "$https" caddy "$desk" without "$joined"
 rotates
 stop_proxy
 # (a log of the site, as Caddy's documents have it, misses a client that writes the host in capitals)
-edit='s/include http.log.access$/include http.log.access.log0/; s|^\tlog$|\tlog {\n\t\toutput discard\n\t}|' start_caddy "$room" "$desk"
+edit='s/include http.log.access$/include http.log.access.log0/; s|^\tlog$|\tlog {\n\t\toutput discard\n\t}|' \
+    start_caddy "$room" "$desk"
 fails 'lines are wanted' logged "$https" caddy "$log" "$desk" "$office"
 stop_proxy
 
@@ -437,7 +462,8 @@ for proxy in nginx caddy; do
     part prefixes "$https" "$proxy" "$log"
     stop_proxy
     # the control: what the proxy made of the target
-    edit='s/^( *#?)("~\^.\[.*|default +)\$(office_rest|request_uri);/\1\2$uri;/; s/(uri) path_regexp .(\/20..)\/ \//\1 strip_prefix \2/' \
+    edit='s/^( *#?)("~\^.\[.*|default +)\$(office_rest|request_uri);/\1\2$uri;/
+        s/(uri) path_regexp .(\/20..)\/ \//\1 strip_prefix \2/' \
         "start_$proxy" "$room" "${several[@]}"
     fails 'came as' prefixes "$https" "$proxy" "$log"
     stop_proxy

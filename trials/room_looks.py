@@ -53,10 +53,15 @@ def seed(stand):
             class_=("y0", "y10", "good")[i % 3],
             closed=f"2024-0{1 + i % 2}-{10 + i}",
         )
-    evil = b"<script>document.title='pwned';fetch('/holds',{method:'POST',body:'{\"class\":\"y0\",\"matter\":\"evil\"}'})</script>"
+    evil = (
+        b"<script>document.title='pwned';"
+        b"fetch('/holds',{method:'POST',body:'{\"class\":\"y0\",\"matter\":\"evil\"}'})</script>"
+    )
     stand.deposited(form({"evil.html": evil}), "PAGE")
     stand.deposited(form({"a": b"a"}), "KEYS")
-    stand.json("POST", "/holds", {"collection": "parish-registers", "matter": "Enquiry 12/2024: boundary of the parish"})
+    stand.json(
+        "POST", "/holds", {"collection": "parish-registers", "matter": "Enquiry 12/2024: boundary of the parish"}
+    )
     stand.json("POST", "/holds", {"deposit": 1, "matter": "Case 7"})
 
 
@@ -78,9 +83,13 @@ def documented():
         "B6",
         "B13",
     }  # (these three are shown by the codes of V, L and I)
-    refusals = set(re.findall(r'"error":"(\w+)"', http)) | set(re.findall(r"^\|[ 1-7]*\| \d{3} \| `(\w+)` \|", http, re.M))
+    refusals = set(re.findall(r'"error":"(\w+)"', http)) | set(
+        re.findall(r"^\|[ 1-7]*\| \d{3} \| `(\w+)` \|", http, re.M)
+    )
     for name in ("nginx.conf", "Caddyfile"):
-        refusals |= set(re.findall(r"^\s+(?:\d+|default|~\S+) +([A-Z]\w+);?$", (TOP / "examples" / name).read_text(), re.M))
+        refusals |= set(
+            re.findall(r"^\s+(?:\d+|default|~\S+) +([A-Z]\w+);?$", (TOP / "examples" / name).read_text(), re.M)
+        )
     return faults, refusals
 
 
@@ -92,7 +101,8 @@ def words(said):
     check(len(faults) >= 42 and not drift, f"the page has exactly the {len(faults)} faults of BAGS.md {sorted(drift)}")
     drift = refusals ^ ({key.split(" ")[0] for key in said["refusal"]} - OWN)
     check(
-        len(refusals) > 30 and not drift, f"and exactly the {len(refusals)} refusals of HTTP.md and of both proxies {sorted(drift)}"
+        len(refusals) > 30 and not drift,
+        f"and exactly the {len(refusals)} refusals of HTTP.md and of both proxies {sorted(drift)}",
     )
     poor = [
         key
@@ -105,7 +115,10 @@ def words(said):
     named = set(re.findall(r"\bwords\.(?!js\b)(\w+)", code))
     for words_ in re.findall(r"\b(?:t|nodes|field|button|notify|tick)\(([^(){}]*)", code):
         named |= set(re.findall(r'(?:^|\? |: )"(\w+)"', words_))
-    check(len(named) > 100 and not named - set(said), f"each of {len(named)} texts asked for by name is there {named - set(said)}")
+    check(
+        len(named) > 100 and not named - set(said),
+        f"each of {len(named)} texts asked for by name is there {named - set(said)}",
+    )
 
 
 def texts_asked_for(parts, all_parts):
@@ -121,10 +134,20 @@ def texts_asked_for(parts, all_parts):
 def page_itself():
     """Its length, and that it is all here."""
     files = {it.name: it.read_text() for it in ROOM.glob("*.[chjs]*")}
-    long = [(name, i + 1) for name, text in files.items() for i, line in enumerate(text.splitlines()) if len(line) > 120]
+    long = [
+        (name, i + 1)
+        for name, text in files.items()
+        for i, line in enumerate(text.splitlines())
+        if len(line) > 120
+    ]
     lines = sum(len(text.splitlines()) for text in files.values())
     check(lines <= 1500 and not long, f"the page has {lines} lines, of at most 120 columns {long[:3]}")
-    outside = [it for name, text in files.items() if name not in ("words.js", "icon.svg") for it in re.findall(r"https?://[\w./-]+", text)]
+    outside = [
+        it
+        for name, text in files.items()
+        if name not in ("words.js", "icon.svg")
+        for it in re.findall(r"https?://[\w./-]+", text)
+    ]
     check(not outside, f"and names no other origin {outside}")
 
 
@@ -181,7 +204,8 @@ def shown_by_page(page, keys, faults):
           const say = e => { box.replaceChildren(...o.refusalWords(e).flat(9)); return box.innerText };
           document.body.append(box);
           for (const key of keys) { const [error, detail] = key.split(' ');
-            const body = { error, day: '2024-03-01', deposit: 4, hold: 5, rule: 6, due: '2025-01-01', what: undefined, retry: 7 };
+            const body = { error, day: '2024-03-01', deposit: 4, hold: 5, rule: 6, due: '2025-01-01',
+              what: undefined, retry: 7 };
             if (detail) { body.rule = body.due = body.what = detail; if (detail === 'matter') body.matter = 'Case <7>' }
             out[key] = say(new o.Refusal(409, body)) }
           for (const fault of faults) out[fault] = say(new o.Refusal(422, { error: 'BadBag', fault }));
@@ -200,7 +224,8 @@ CONTRAST = """
   const ground = e => { for (; e; e = e.parentElement) { const c = numbers(getComputedStyle(e).backgroundColor);
     if (c.length < 4 || c[3] > 0) return c }
     return matchMedia('(prefers-color-scheme: dark)').matches ? [0, 0, 0] : [255, 255, 255] };
-  const ratio = (one, other) => { const [a, b] = [light(one), light(other)]; return (Math.max(a, b) + .05) / (Math.min(a, b) + .05) };
+  const ratio = (one, other) => {
+    const [a, b] = [light(one), light(other)]; return (Math.max(a, b) + .05) / (Math.min(a, b) + .05) };
   const low = []; let n = 0, least = 99;
   const walk = document.createTreeWalker(document.body, NodeFilter.SHOW_TEXT);
   while (walk.nextNode()) { const e = walk.currentNode.parentElement, text = walk.currentNode.data;
@@ -317,8 +342,14 @@ def looks(page, kind, width=None):
         stops += len(some)
         found["unseen"] += [(view, it) for it in some if it]
     nameless = found["nameless"]
-    check(seen == 13 and not nameless, f"{kind}: in {seen} views each control, table and region has a name {nameless[:4]}")
-    check(not found["low"], f"{kind}: {total} texts and borders have their contrast, texts at least {least} {found['low'][:4]}")
+    check(
+        seen == 13 and not nameless,
+        f"{kind}: in {seen} views each control, table and region has a name {nameless[:4]}",
+    )
+    check(
+        not found["low"],
+        f"{kind}: {total} texts and borders have their contrast, texts at least {least} {found['low'][:4]}",
+    )
     check(not found["unseen"], f"{kind}: the focus is seen at each of {stops} stops {found['unseen'][:4]}")
     check(not found["wide"], f"{kind}: no page is wider than the window {found['wide'][:4]}")
     check(not found["outside"], f"{kind}: each dialog fits the window {found['outside'][:4]}")
@@ -329,11 +360,14 @@ def looks(page, kind, width=None):
 
 def laid_out(page, width):
     """What is wider than the window, a dialog that doesn't fit it, and controls that are too small."""
-    inner, outer = page.run("return [document.documentElement.scrollWidth, arguments[0] ?? document.documentElement.clientWidth]", width)
+    inner, outer = page.run(
+        "return [document.documentElement.scrollWidth, arguments[0] ?? document.documentElement.clientWidth]", width
+    )
     yield "wide", [(inner, outer)] if inner > outer else []
     yield "outside", page.run(
         "return [...document.querySelectorAll('dialog')].map(e => [e, e.getBoundingClientRect()])"
-        ".filter(([e, r]) => r.left < 0 || r.right > innerWidth || r.top < 0 || r.bottom > innerHeight || e.scrollWidth > e.clientWidth)"
+        ".filter(([e, r]) => r.left < 0 || r.right > innerWidth || r.top < 0 || r.bottom > innerHeight"
+        " || e.scrollWidth > e.clientWidth)"
         ".map(([e, r]) => [r.left, r.right, r.top, r.bottom, e.scrollWidth])"
     )
     yield "small", page.run(
@@ -369,7 +403,11 @@ def tab_to(page, name, most=90):
     for i in range(most):
         page.press(TAB)
         it = page.focused()
-        if name in (it.text, it.get_attribute("aria-label"), page.run("return arguments[0].labels?.[0]?.textContent", it)):
+        if name in (
+            it.text,
+            it.get_attribute("aria-label"),
+            page.run("return arguments[0].labels?.[0]?.textContent", it),
+        ):
             return i + 1
     raise AssertionError("no way by Tab to " + name)
 
@@ -378,7 +416,10 @@ def keyboard(page, stand):
     """From the top of a page to a placed hold and to a disposal, by keyboard alone."""
     page.go("due", "Due today")
     page.run("document.querySelector('.skip').focus()")
-    check(page.one(".skip").is_displayed() and page.one(".skip").size["height"] > 20, "the skip link shows when it has the focus")
+    check(
+        page.one(".skip").is_displayed() and page.one(".skip").size["height"] > 20,
+        "the skip link shows when it has the focus",
+    )
     page.shot("skip")
     page.press(ENTER)
     check(page.focused().tag_name == "h1", "and leads to the heading")
@@ -433,7 +474,9 @@ def revised_by_keys(page, stand):
     page.wait(lambda: not page.all("dialog"))
     check(stand.json("GET", "/deposits/2")["due"] == "2034-02-11", "and Escape changes nothing")
     page.run("dispatchEvent(new ErrorEvent('error', { message: 'a <b> fault' }))")
-    check(page.says("This page failed.") and "a <b> fault" in page.text("#failed"), "a fault of the page itself is said")
+    check(
+        page.says("This page failed.") and "a <b> fault" in page.text("#failed"), "a fault of the page itself is said"
+    )
 
 
 # ---- rules for bags
@@ -472,7 +515,14 @@ def broken(draw, files):
         elif kind == 1:
             files[
                 draw.choice(
-                    [b"data/more", b"fetch.txt", b"manifest-md5.txt", b"tagmanifest-md5.txt", b"other.txt", b"manifest-.txt"]
+                    [
+                        b"data/more",
+                        b"fetch.txt",
+                        b"manifest-md5.txt",
+                        b"tagmanifest-md5.txt",
+                        b"other.txt",
+                        b"manifest-.txt",
+                    ]
                 )
             ] = content
         elif kind == 2:
@@ -486,7 +536,11 @@ def broken(draw, files):
             files[path] = content.replace(*draw.choice(SWAPS))
         elif content:
             at = draw.randrange(len(content))
-            files[path] = content[:at] + bytes([draw.randrange(256)]) * draw.choice([0, 1]) + content[at + draw.choice([0, 1]) :]
+            files[path] = (
+                content[:at]
+                + bytes([draw.randrange(256)]) * draw.choice([0, 1])
+                + content[at + draw.choice([0, 1]) :]
+            )
     return files
 
 
@@ -608,8 +662,10 @@ def judged(page, stand):
     said = page.driver.execute_async_script(
         """const [texts, done] = arguments, at = name => new URL(name, location.origin + location.pathname).href;
         Promise.all([import(at('bags.js')), import(at('judging.js'))]).then(async ([b, j]) => { const out = [];
-          for (const text of texts) { const { files, fault } = b.readForm(Uint8Array.from(atob(text), c => c.charCodeAt(0)));
-            const found = fault ?? await j.bagFault(files); out.push(fault ? 'unreadable ' + fault : found ? 'invalid ' + found : 'valid') }
+          for (const text of texts) {
+            const { files, fault } = b.readForm(Uint8Array.from(atob(text), c => c.charCodeAt(0)));
+            const found = fault ?? await j.bagFault(files);
+            out.push(fault ? 'unreadable ' + fault : found ? 'invalid ' + found : 'valid') }
           done(out) })""",
         [base64.b64encode(it).decode() for it in forms],
     )
@@ -637,12 +693,14 @@ def damaged(page):
     page.go("deposit/2", "Deposit 2")
     page.run(
         """window.real = fetch; window.fetch = (u, o) => u.endsWith('/audit') ?
-        Promise.resolve(new Response('{"deposit":2,"fault":"B17 manifest-sha256.txt data/letter%2000.txt","valid":false}')) : real(u, o)"""
+        Promise.resolve(new Response(
+          '{"deposit":2,"fault":"B17 manifest-sha256.txt data/letter%2000.txt","valid":false}')) : real(u, o)"""
     )
     page.button("Audit now").click()
     page.awaits("This deposit is damaged", "#told-audit")
     check(
-        "data/letter 00.txt was changed" in page.text("#told-audit") and "Tell the administrator" in page.text("#told-audit"),
+        "data/letter 00.txt was changed" in page.text("#told-audit")
+        and "Tell the administrator" in page.text("#told-audit"),
         "an audit that finds damage says which file, and what to do",
     )
     page.run("window.fetch = real")
@@ -673,7 +731,10 @@ def altered_shown(page):
         page.wait(lambda: page.all("#told-files .refusal"))
         said.append(page.text("#told-files"))
     check(
-        all("Its files can't be shown, since what is stored of it was altered." in it and "503 Store" in it for it in said),
+        all(
+            "Its files can't be shown, since what is stored of it was altered." in it and "503 Store" in it
+            for it in said
+        ),
         f"a bag of which a byte was flipped isn't shown, and why {said[0]}",
     )
     found = []
@@ -724,7 +785,8 @@ def many(page, stand):
     (stand.room / "many.html").write_text(json.dumps({"deposits": rows}, separators=(",", ":")))
     page.go("new", "New deposit")
     page.run(
-        """window.real = fetch; window.fetch = (u, o) => real(u.endsWith('/deposits') ? new URL('many.html', location.origin +
+        """window.real = fetch;
+        window.fetch = (u, o) => real(u.endsWith('/deposits') ? new URL('many.html', location.origin +
           location.pathname).href : u, o);
         new MutationObserver(() => { if (document.querySelector('#list tbody td')) window.stood ??= performance.now()
           }).observe(document.body, {subtree: true, childList: true})"""
@@ -772,12 +834,14 @@ def largest_bag(page, stand):
           for (const f of m.files) { f.content = await b.read(f); sums.push(await b.sha256(f.content)) } tick();
           const f = await b.bagOf(m.files, sums, { day: '2024-03-01', accession: 'A', description: '' }); tick();
             const p = b.readForm(f).files; tick();
-          const fault = await j.bagFault(p); tick(); const d = j.digests(p); const o = z.zip('A', p, '2024-03-01'); tick();
+          const fault = await j.bagFault(p); tick(); const d = j.digests(p);
+          const o = z.zip('A', p, '2024-03-01'); tick();
           done([f.length, m.size, p.length, d.size, fault, t.slice(1).map((x, i) => Math.round(x - t[i]))]) })"""
     )
     check(
         found[2] == 2000 and found[3] == 1999 and found[4] is None and found[0] <= found[1] <= 16777216,
-        f"a form of {found[0]:,} bytes of 1,996 files: measuring, hashing, packing, reading, judging, zipping take {found[5]} ms",
+        f"a form of {found[0]:,} bytes of 1,996 files: measuring, hashing, packing, reading, judging, zipping take "
+        f"{found[5]} ms",
     )
 
 
@@ -800,7 +864,11 @@ ENGLISH = """const out = [], walk = document.createTreeWalker(document.body, Nod
 def in_brackets(it):
     if isinstance(it, str):
         return it if it in ("en", "ltr") else "⟦" + it + "⟧"
-    return {key: in_brackets(value) for key, value in it.items()} if isinstance(it, dict) else [in_brackets(value) for value in it]
+    return (
+        {key: in_brackets(value) for key, value in it.items()}
+        if isinstance(it, dict)
+        else [in_brackets(value) for value in it]
+    )
 
 
 def translated(page, stand, said):
@@ -815,7 +883,8 @@ def translated(page, stand, said):
     for view in views(page, "rtl"):
         english += [(view, it) for it in page.run(ENGLISH)]
         found = page.run(
-            "const there = document.querySelector('dialog') ?? document.querySelector('main'), all = document.documentElement;"
+            "const there = document.querySelector('dialog') ?? document.querySelector('main'), "
+            "all = document.documentElement;"
             "return [getComputedStyle(there).direction, all.scrollWidth <= innerWidth]"
         )
         left += [] if found == ["rtl", True] else [(view, found)]

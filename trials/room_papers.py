@@ -18,7 +18,9 @@ def placed(stand, accession, class_="y0", files=None):
 
 
 def numbered(stand, accession):
-    return next((it["deposit"] for it in stand.json("GET", "/deposits")["deposits"] if it["accession"] == accession), None)
+    return next(
+        (it["deposit"] for it in stand.json("GET", "/deposits")["deposits"] if it["accession"] == accession), None
+    )
 
 
 def kept(stand, accession, path):
@@ -74,7 +76,8 @@ def swapped(page, stand):
         sum_ = hashlib.sha256(form(bag_of(b"one"))).hexdigest()
         check(
             page.text("h1") == "Receipt" and sum_ in page.text() and kept(stand, f"SWAP-{number}", "data/a") == b"one",
-            f"the bag that was submitted is deposited, and on the receipt, though {second.name} was chosen meanwhile ({how})",
+            "the bag that was submitted is deposited, and on the receipt, "
+            f"though {second.name} was chosen meanwhile ({how})",
         )
         if page.all("#failed"):
             page.driver.get(stand.url + "/room/?failed")
@@ -115,7 +118,10 @@ def new_day(stand):
         "Receipt" in said and "2024-03-01" not in said and "Deposited on\n2024-03-02" in said,
         "on a new day the receipt has the new day" + ("" if "Receipt" in said else repr(said[-300:])),
     )
-    check(b"Bagging-Date: 2024-03-02\n" in kept(stand, "NIGHT-1", "bag-info.txt"), "and so has the bag that the page makes")
+    check(
+        b"Bagging-Date: 2024-03-02\n" in kept(stand, "NIGHT-1", "bag-info.txt"),
+        "and so has the bag that the page makes",
+    )
     fill_in(page, small, "NIGHT-2")
     page.put("Closed on", "2024-03-03")
     stand.office.serve("2024-03-03")
@@ -131,7 +137,10 @@ def new_day(stand):
         "if the day changes in the midst, a receipt without the record says no day",
     )
     page.go("due", "Due today")
-    check(page.says("Nothing that you may destroy is due on 2024-03-04.", "#count"), "who may destroy nothing has nothing due")
+    check(
+        page.says("Nothing that you may destroy is due on 2024-03-04.", "#count"),
+        "who may destroy nothing has nothing due",
+    )
     page.quit()
 
 
@@ -151,7 +160,8 @@ def day_of_others(page, stand):
     page.run("waiting()")
     said = outcome(page)
     check(
-        "Receipt" in said and re.search(r"record (?:could|can)(?:n't| not) be (?:read|shown|asked)|couldn't read the record", said),
+        "Receipt" in said
+        and re.search(r"record (?:could|can)(?:n't| not) be (?:read|shown|asked)|couldn't read the record", said),
         "a receipt whose record couldn't be read says so",
     )
     page.run("window.fetch = real")
@@ -244,7 +254,10 @@ def certificate_stays(page, stand):
             check(page.says("“Case meanwhile”", "dialog[open]"), "a refusal is said, whatever was pressed meanwhile")
             page.press(ESCAPE)
         else:
-            check(stays(page, "Certificate of destruction"), "the certificate comes and stays, whatever was clicked meanwhile")
+            check(
+                stays(page, "Certificate of destruction"),
+                "the certificate comes and stays, whatever was clicked meanwhile",
+            )
         for box in page.all("dialog[open]"):
             page.run("arguments[0].close()", box)
 
@@ -267,19 +280,32 @@ def receipt_stays(page, stand):
         for box in page.all("dialog[open] button:not(.danger)"):
             box.click()
         if is_taken:
-            said = page.becomes(lambda: "already has this accession." in page.text("#told")) and stays(page, "New deposit")
-            check(said and "already has" in page.text("#told"), "a refusal stays, though another page was asked for meanwhile")
+            said = page.becomes(
+                lambda: "already has this accession." in page.text("#told")
+            ) and stays(page, "New deposit")
+            check(
+                said and "already has" in page.text("#told"),
+                "a refusal stays, though another page was asked for meanwhile",
+            )
         else:
             came = stays(page, "Receipt") and page.run("return heads")
-            check(came == ["Receipt"], f"the receipt comes and stays, though another page was asked for meanwhile {came}")
+            check(
+                came == ["Receipt"],
+                f"the receipt comes and stays, though another page was asked for meanwhile {came}",
+            )
 
 
-HEADS = """window.heads = []; new MutationObserver(() => { const head = document.querySelector('h1')?.textContent;
-    if (head !== (heads.at(-1) ?? 'New deposit')) heads.push(head) }).observe(document.body, {subtree: true, childList: true})"""
+HEADS = (
+    """window.heads = []; new MutationObserver(() => { const head = document.querySelector('h1')?.textContent;
+    if (head !== (heads.at(-1) ?? 'New deposit')) heads.push(head) }).observe("""
+    "document.body, {subtree: true, childList: true})"
+)
 
 
 def asks_before(page):
-    return page.run("const e = new Event('beforeunload', {cancelable: true}); dispatchEvent(e); return e.defaultPrevented")
+    return page.run(
+        "const e = new Event('beforeunload', {cancelable: true}); dispatchEvent(e); return e.defaultPrevented"
+    )
 
 
 def slow_page(page, stand):
@@ -322,7 +348,9 @@ def chosen_folders(page, stand):
 def shown_to_compare(page, slashed, linked):
     """A folder with a \\ in a name, and one with a link, each chosen by the field."""
     page.go("new", "New deposit")
-    order = page.run("return document.querySelector('#drop').compareDocumentPosition(document.querySelector('#folder')) & 4")
+    order = page.run(
+        "return document.querySelector('#drop').compareDocumentPosition(document.querySelector('#folder')) & 4"
+    )
     check(order and "Or choose" in page.text(), "the page recommends dropping a folder, and choosing one after that")
     page.one("#folder").send_keys(str(slashed))
     page.wait(lambda: page.all("#seen .good, #seen .refusal"))
@@ -333,7 +361,10 @@ def shown_to_compare(page, slashed, linked):
     page.one("#folder").send_keys(str(linked))
     page.wait(lambda: page.all("#seen .good"))
     listed = dict(
-        page.run("return [...document.querySelectorAll('#seen tbody tr')].map(row => [...row.cells].map(it => it.textContent.trim()))")
+        page.run(
+            "return [...document.querySelectorAll('#seen tbody tr')]"
+            ".map(row => [...row.cells].map(it => it.textContent.trim()))"
+        )
     )
     check(
         listed.get("b/") == "1" and listed.get("a/", "0") in ("0", "2"),
@@ -355,13 +386,21 @@ def what_is_no_bag(page, stand):
         page.wait(lambda: page.all("#seen .refusal"))
         said = page.text("#seen")
         fits = "ename" in said and (more or "choose the folder “data” in it" not in said)
-        check(fits and words in said, f"a folder with a bagit.txt that is none: what to do fits ({name}) " + ("" if fits else said[-300:]))
-    system = ["._report.doc", "desktop.ini", "Thumbs.db", ".DS_Store", "a/._1", "a/.DS_Store", "b/Thumbs.db", "c/desktop.ini"]
+        check(
+            fits and words in said,
+            f"a folder with a bagit.txt that is none: what to do fits ({name}) " + ("" if fits else said[-300:]),
+        )
+    system = [
+        "._report.doc", "desktop.ini", "Thumbs.db", ".DS_Store", "a/._1", "a/.DS_Store", "b/Thumbs.db", "c/desktop.ini"
+    ]
     page.go("new", "New deposit")
     page.one("#folder").send_keys(str(folder(stand, "system", {it: b"" for it in [*system, "letter.txt"]})))
     page.wait(lambda: page.all("#seen .good"))
     lacking = [it for it in system if it not in page.text("#seen")]
-    check(not lacking and "left out" in page.text("#seen"), f"each file of the system that is left out is named {lacking}")
+    check(
+        not lacking and "left out" in page.text("#seen"),
+        f"each file of the system that is left out is named {lacking}",
+    )
 
 
 def nothing_to_deposit(page, stand):
@@ -389,12 +428,17 @@ def unread_form(page, stand):
     page.one("#dispose").click()
     page.becomes(lambda: page.all("dialog[open], #told-end .refusal, #failed"))
     check(
-        page.all("#told-end .refusal") and not page.all("dialog") and "The policy doesn't let you" not in page.text("body"),
+        page.all("#told-end .refusal")
+        and not page.all("dialog")
+        and "The policy doesn't let you" not in page.text("body"),
         "a form that can't be read is a fault, and nothing is destroyed",
     )
     page.press(ESCAPE)
     page.button("Show the files").click()
-    check(page.becomes(lambda: page.all("#told-files .refusal")) and not page.all("#failed"), "and so where its files are shown")
+    check(
+        page.becomes(lambda: page.all("#told-files .refusal")) and not page.all("#failed"),
+        "and so where its files are shown",
+    )
     page.run("window.fetch = real")
 
 
@@ -443,16 +487,24 @@ def revised_unseen(stand):
     if asked:
         page.button("Cancel", "dialog").click()
         time.sleep(0.5)
-    check(stand.json("GET", f"/deposits/{numbered(stand, 'YEARS')}")["due"] == "2034-02-01", "and “Cancel” changes nothing")
+    check(
+        stand.json("GET", f"/deposits/{numbered(stand, 'YEARS')}")["due"] == "2034-02-01",
+        "and “Cancel” changes nothing",
+    )
     page.go("holds", "Holds")
     page.button("Look through the deposits").click()
-    check(page.says("No live hold covers the deposits that are listed for you.", "#live"), "holds are looked for among those listed")
+    check(
+        page.says("No live hold covers the deposits that are listed for you.", "#live"),
+        "holds are looked for among those listed",
+    )
     page.quit()
 
 
 def revise(page, class_, years):
     page.go("names", "Collections and classes")
-    for control, value in zip(page.all("main form")[1].find_elements("css selector", "input:not([type=checkbox])"), (class_, years)):
+    for control, value in zip(
+        page.all("main form")[1].find_elements("css selector", "input:not([type=checkbox])"), (class_, years)
+    ):
         control.clear()
         control.send_keys(value)
     page.press(ENTER)
@@ -463,7 +515,10 @@ def same_years(page, stand):
     revise(page, "y10", "10")
     page.wait(lambda: page.all("dialog[open]") or "keeps its deposits for 10 years" in page.text("#told"))
     said = page.text("dialog") if page.all("dialog") else page.text("#told")
-    check(not re.search(r"moves: [1-9]|[1-9]\d* due days? move", said), f"the same years move no due day: {said!r}"[:150])
+    check(
+        not re.search(r"moves: [1-9]|[1-9]\d* due days? move", said),
+        f"the same years move no due day: {said!r}"[:150],
+    )
     for box in page.all("dialog[open] button:not(.danger)"):
         box.click()
     page.wait(lambda: not page.all("dialog[open]"))
@@ -488,7 +543,11 @@ def by_number(page, stand):
     page.put("Matter", "Case of the focus")
     page.button("Place a hold").click()
     page.awaits("Case of the focus", "#holds")
-    page.dialog(next(row for row in page.all("#holds tbody tr") if "of the focus" in row.text).find_element("css selector", "button"))
+    page.dialog(
+        next(row for row in page.all("#holds tbody tr") if "of the focus" in row.text).find_element(
+            "css selector", "button"
+        )
+    )
     page.button("Release", "dialog").click()
     page.awaits("was released", "#told")
     time.sleep(0.7)
@@ -506,7 +565,10 @@ def no_match(page, stand):
     said = page.becomes(lambda: not page.all("#list tbody tr")) and page.text("#list")
     check(said and "lets you list" not in said, f"a search without a match has a sentence of its own: {said!r}")
     page.put("Deposit with the number", "2a" + ENTER)
-    check(page.says("Write a number from 1 to 9,999,999 here."), "and what isn't a deposit's number is refused in the page")
+    check(
+        page.says("Write a number from 1 to 9,999,999 here."),
+        "and what isn't a deposit's number is refused in the page",
+    )
 
 
 def many_due(page, stand):
@@ -530,9 +592,15 @@ def hold_not_placed(page, stand):
     """A hold whose request is lost is looked for, and not found."""
     page.go("deposit/3", "Deposit 3")
     page.put("Matter", "Case that never came")
-    page.run("window.real = fetch; window.fetch = (u, o) => o.method === 'POST' ? Promise.reject(new TypeError()) : real(u, o)")
+    page.run(
+        "window.real = fetch; "
+        "window.fetch = (u, o) => o.method === 'POST' ? Promise.reject(new TypeError()) : real(u, o)"
+    )
     page.button("Place a hold").click()
-    check(page.says("the office has no such hold: none was placed.", "#told"), "a hold whose request is lost is said not to be placed")
+    check(
+        page.says("the office has no such hold: none was placed.", "#told"),
+        "a hold whose request is lost is said not to be placed",
+    )
     page.run("window.fetch = real")
 
 
@@ -556,7 +624,10 @@ def lacking_texts(page, stand):
         page.go(f"deposit/{number}", f"Deposit {number}")
         page.awaits("No live hold", "#holds")
         page.destroy("LACKING")
-        check(page.becomes(lambda: page.text("h1") == "Certificate of destruction", 15), "and no certificate is lost for it")
+        check(
+            page.becomes(lambda: page.text("h1") == "Certificate of destruction", 15),
+            "and no certificate is lost for it",
+        )
         page.run("dispatchEvent(new Event('hashchange'))")
         check(page.becomes(lambda: page.all("main .refusal") and not page.all("#failed"), 15), "nor a refusal")
 
@@ -589,7 +660,10 @@ def narrow(stand):
         "const b = document.querySelector('dialog'), h = b.querySelector('h2');"
         "return [h.getBoundingClientRect().top, document.activeElement === h]"
     )
-    check(0 <= top < 600 and focused, f"at 320 pixels the dialog begins with its heading, which has the focus ({top:.0f})")
+    check(
+        0 <= top < 600 and focused,
+        f"at 320 pixels the dialog begins with its heading, which has the focus ({top:.0f})",
+    )
     page.press(ESCAPE)
     page.quit()
 

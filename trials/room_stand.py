@@ -94,7 +94,8 @@ def printed(*words):
 
 # Ends words.js as it is served: the page notes which texts it asks for by name, and which of them aren't there.
 NOTING = """
-const noted = kind => new Set(JSON.parse(sessionStorage[kind] ?? "[]")), [asked, lacking] = ["asked", "lacking"].map(noted);
+const noted = kind => new Set(JSON.parse(sessionStorage[kind] ?? "[]")), \
+[asked, lacking] = ["asked", "lacking"].map(noted);
 const note = (kind, all, key) => { if (typeof key === "string" && !all.has(key))
   sessionStorage[kind] = JSON.stringify([...all.add(key)]) };
 const seen = key => Object.hasOwn(texts, key) ? note("asked", asked, key) : note("lacking", lacking, key);
@@ -195,7 +196,8 @@ class Stand:
         self.users(lambda user: printed("openssl", "passwd", "-apr1", "pw-" + user), "{}:{}\n")
         (self.folder / "site.conf").write_text(change(self.placed((TOP / "examples/nginx.conf").read_text())))
         temporary = "".join(
-            f"    {name}_temp_path {self.folder}/{name};\n" for name in ("client_body", "proxy", "fastcgi", "uwsgi", "scgi")
+            f"    {name}_temp_path {self.folder}/{name};\n"
+            for name in ("client_body", "proxy", "fastcgi", "uwsgi", "scgi")
         )
         (self.folder / "nginx.conf").write_text(
             ("user root;\n" if os.geteuid() == 0 else "") + f"worker_processes 1; daemon off; pid {self.folder}/pid;\n"
@@ -205,14 +207,18 @@ class Stand:
 
     def caddy(self, change=lambda text: text):
         self.end_proxy()
-        # (`caddy hash-password` makes hashes that take a second each time that one is compared; these are of the same kind.)
+        # (`caddy hash-password` makes hashes that take a second each time that one is compared; these are of the same
+        # kind.)
         self.users(
-            lambda user: printed("perl", "-e", "print crypt($ARGV[0], q($2a$04$abcdefghijklmnopqrstuu))", "pw-" + user), "{} {}\n"
+            lambda user: printed("perl", "-e", "print crypt($ARGV[0], q($2a$04$abcdefghijklmnopqrstuu))", "pw-" + user),
+            "{} {}\n",
         )
         text = self.placed((TOP / "examples/Caddyfile").read_text())
         text = text.replace("{\n", f"{{\n\tadmin off\n\tauto_https off\n\tstorage file_system {self.folder}/caddy\n", 1)
         text = text.replace(
-            "\nlocalhost {\n", f"\n{self.url} {{\n\tbind 127.0.0.1\n\ttls {self.folder}/office.crt {self.folder}/office.key\n", 1
+            "\nlocalhost {\n",
+            f"\n{self.url} {{\n\tbind 127.0.0.1\n\ttls {self.folder}/office.crt {self.folder}/office.key\n",
+            1,
         )
         (self.folder / "Caddyfile").write_text(change(text))
         self.start(["caddy", "run", "--adapter", "caddyfile", "--config", self.folder / "Caddyfile"])
@@ -245,7 +251,9 @@ class Stand:
     def ask(self, method, path, body=None, user="anna", **fields):
         word = base64.b64encode(f"{user}:pw-{user}".encode()).decode()
         fields = {name.replace("_", "-"): value for name, value in fields.items()}
-        request = urllib.request.Request(self.url + path, body, {"Authorization": "Basic " + word, **fields}, method=method)
+        request = urllib.request.Request(
+            self.url + path, body, {"Authorization": "Basic " + word, **fields}, method=method
+        )
         for _ in range(20):
             try:
                 with urllib.request.urlopen(request, context=TLS) as answer:
@@ -257,7 +265,9 @@ class Stand:
         raise AssertionError(f"{method} {path}: 429 again and again")
 
     def json(self, method, path, body=None, user="anna"):
-        return json.loads(self.ask(method, path, body if isinstance(body, bytes) else body and json.dumps(body).encode(), user)[1])
+        return json.loads(
+            self.ask(method, path, body if isinstance(body, bytes) else body and json.dumps(body).encode(), user)[1]
+        )
 
     def deposited(self, form, accession, **about):
         """A deposit that a program makes of this form. Gives its number."""
@@ -270,12 +280,17 @@ class Stand:
         from selenium import webdriver
         from selenium.webdriver.chrome.service import Service
 
-        driver = webdriver.Chrome(service=Service(shutil.which("chromedriver")), options=self.chromium_options(width, height))
+        driver = webdriver.Chrome(
+            service=Service(shutil.which("chromedriver")), options=self.chromium_options(width, height)
+        )
         driver.execute_cdp_cmd(
-            "Emulation.setDeviceMetricsOverride", {"width": width, "height": height, "deviceScaleFactor": 1, "mobile": width < 600}
+            "Emulation.setDeviceMetricsOverride",
+            {"width": width, "height": height, "deviceScaleFactor": 1, "mobile": width < 600},
         )
         if dark:
-            driver.execute_cdp_cmd("Emulation.setEmulatedMedia", {"features": [{"name": "prefers-color-scheme", "value": "dark"}]})
+            driver.execute_cdp_cmd(
+                "Emulation.setEmulatedMedia", {"features": [{"name": "prefers-color-scheme", "value": "dark"}]}
+            )
         driver.set_script_timeout(120)
         page = Page(self, driver, user)
         # Chromium keeps the password for this origin. (An address that has one itself must serve the page, too.)
@@ -386,7 +401,9 @@ class Page:
 
     def button(self, name, within="main"):
         name = self.mark(name)
-        found = lambda: [it for it in self.all(within + " button") if name in (it.text, it.get_attribute("aria-label"))]  # noqa: E731
+        found = lambda: [  # noqa: E731
+            it for it in self.all(within + " button") if name in (it.text, it.get_attribute("aria-label"))
+        ]
         return self.wait(found)[0]
 
     def field(self, name, within="main"):
@@ -398,7 +415,9 @@ class Page:
         if control.get_attribute("type") == "date":  # (it is typed as the browser's language has it)
             self.run("arguments[0].value = arguments[1]", control, value)
         elif control.tag_name == "select":
-            self.run("arguments[0].value = arguments[1]; arguments[0].dispatchEvent(new Event('change'))", control, value)
+            self.run(
+                "arguments[0].value = arguments[1]; arguments[0].dispatchEvent(new Event('change'))", control, value
+            )
         else:
             control.clear()
             control.send_keys(value)
@@ -415,11 +434,18 @@ class Page:
 
     def drop(self, *paths):
         self.run("document.querySelector('#drop').scrollIntoView({block: 'center'})")
-        x, y = self.run("const b = document.querySelector('#drop').getBoundingClientRect(); return [b.left + 50, b.top + 20]")
+        x, y = self.run(
+            "const b = document.querySelector('#drop').getBoundingClientRect(); return [b.left + 50, b.top + 20]"
+        )
         for kind in ("dragEnter", "dragOver", "drop"):
             self.driver.execute_cdp_cmd(
                 "Input.dispatchDragEvent",
-                {"type": kind, "x": x, "y": y, "data": {"items": [], "files": [str(it) for it in paths], "dragOperationsMask": 1}},
+                {
+                    "type": kind,
+                    "x": x,
+                    "y": y,
+                    "data": {"items": [], "files": [str(it) for it in paths], "dragOperationsMask": 1},
+                },
             )
 
     def deposit(self, path, accession, class_="y10", collection="maps", closed="2024-02-29", how="folder", seconds=280):
@@ -434,17 +460,25 @@ class Page:
             return self.text("#seen")
         for box in self.all("#anyway"):
             box.click()
-        for name, value in (("Collection", collection), ("Class", class_), ("Accession", accession), ("Closed on", closed)):
+        for name, value in (
+            ("Collection", collection), ("Class", class_), ("Accession", accession), ("Closed on", closed)
+        ):
             self.put(name, value)
         self.one("#go").click()
         self.wait(
-            lambda: self.text("h1") == self.mark("Receipt") or self.all("#told .refusal, #seen .refusal ~ *, .wrong:not(:empty)"), seconds
+            lambda: self.text("h1") == self.mark("Receipt")
+            or self.all("#told .refusal, #seen .refusal ~ *, .wrong:not(:empty)"),
+            seconds,
         )
         return self.text()
 
     def download(self, name):
         there = self.stand.downloads / name
-        return self.wait(lambda: there.exists() and not list(self.stand.downloads.glob("*.crdownload")) and there.read_bytes())
+        return self.wait(
+            lambda: there.exists()
+            and not list(self.stand.downloads.glob("*.crdownload"))
+            and there.read_bytes()
+        )
 
     def line(self, speed):
         """A line that carries this number of bytes a second to the proxy; -1 is as many as it can."""
@@ -457,7 +491,9 @@ class Page:
     def shot(self, name, full=False):
         if "SHOTS" in os.environ:  # pictures are looked at, and are no part of the repository
             time.sleep(0.2)
-            picture = self.driver.execute_cdp_cmd("Page.captureScreenshot", {"format": "png", "captureBeyondViewport": full})
+            picture = self.driver.execute_cdp_cmd(
+                "Page.captureScreenshot", {"format": "png", "captureBeyondViewport": full}
+            )
             (pathlib.Path(os.environ["SHOTS"]) / f"{name}.png").write_bytes(base64.b64decode(picture["data"]))
 
     def printed(self, name):
@@ -469,12 +505,17 @@ class Page:
 
     def complaints(self):
         """What the console has, but for answers that aren't 2xx, which Chromium writes there."""
-        return [it["message"] for it in self.driver.get_log("browser") if "Failed to load resource" not in it["message"]]
+        return [
+            it["message"]
+            for it in self.driver.get_log("browser")
+            if "Failed to load resource" not in it["message"]
+        ]
 
     def note(self):
         """Notes which texts this page asked for by name."""
         kept = self.run(
-            "try { return [sessionStorage.asked ?? '[]', sessionStorage.lacking ?? '[]'] } catch { return ['[]', '[]'] }"
+            "try { return [sessionStorage.asked ?? '[]', sessionStorage.lacking ?? '[]'] } "
+            "catch { return ['[]', '[]'] }"
         )
         for all_, some in zip((asked, lacking), kept):
             all_.update(json.loads(some))

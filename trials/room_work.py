@@ -74,7 +74,10 @@ def box_of_300(stand):
     box = stand.folder / "work" / "Box 12"
     files = {name: f"odd {i}\n".encode() for i, name in enumerate(ODD)}
     draw = random.Random(12)
-    files.update((f"letters/{1950 + i // 60}/letter {i:03}.txt", draw.randbytes(1 + i * 37 % 300)) for i in range(300 - len(ODD)))
+    files.update(
+        (f"letters/{1950 + i // 60}/letter {i:03}.txt", draw.randbytes(1 + i * 37 % 300))
+        for i in range(300 - len(ODD))
+    )
     folder(stand, box.name, {**files, ".DS_Store": b"x", "letters/Thumbs.db": b"x"})
     (box / "empty").mkdir()
     (box / "link").symlink_to("/etc/hostname")
@@ -83,20 +86,29 @@ def box_of_300(stand):
 
 def names(page, stand):
     page.wait(lambda: page.text("h1") == "Deposits")
-    check(page.text("#day") == "2024-03-01" and page.text("#caller") == "anna", "the page says the office's day and who asks")
+    check(
+        page.text("#day") == "2024-03-01" and page.text("#caller") == "anna",
+        "the page says the office's day and who asks",
+    )
     page.awaits("No deposit is listed.")
     check(page.focused().tag_name == "h1", "the focus is on the heading")
     page.go("names", "Collections and classes")
     name = page.all("main form")[0].find_element("css selector", "input")
     name.send_keys("Maps!" + ENTER)
     page.awaits("Write 1 to 40 of")
-    check(page.focused().get_attribute("aria-invalid") == "true", "a bad name is said beside its field, which has the focus")
+    check(
+        page.focused().get_attribute("aria-invalid") == "true",
+        "a bad name is said beside its field, which has the focus",
+    )
     name.clear()
     name.send_keys("maps" + ENTER)
     check(page.says("The collection maps is defined.", "#told"), "a collection is defined")
     name.clear()
     name.send_keys(".." + ENTER)
-    check(page.says("A browser can't send this name."), "a name that a browser would take for a folder is refused in the page")
+    check(
+        page.says("A browser can't send this name."),
+        "a name that a browser would take for a folder is refused in the page",
+    )
 
 
 def define(page, class_, years=None):
@@ -113,14 +125,20 @@ def classes(page, stand):
     define(page, "y0", "201")
     check(page.says("whole number from 0 to 200"), "201 years are refused in the page")
     define(page, "y1", "1")
-    check(page.says("No due day", "dialog") and page.says("hides from you", "dialog"), "a class is defined after a question")
+    check(
+        page.says("No due day", "dialog") and page.says("hides from you", "dialog"),
+        "a class is defined after a question",
+    )
     page.one("dialog .danger").click()
     check(page.says("The class y1 keeps its deposits for 1 year.", "#told"), "a class is defined, with a singular")
     page.one("#forever").click()
     define(page, "good")
     page.wait(lambda: page.all("dialog[open]"))
     page.one("dialog .danger").click()
-    check(page.says("The class good keeps its deposits permanently.", "#told"), "a class that keeps permanently is defined")
+    check(
+        page.says("The class good keeps its deposits permanently.", "#told"),
+        "a class that keeps permanently is defined",
+    )
     stand.json("PUT", "/collections/tax")
     for class_, years in (("y0", 0), ("y10", 10)):
         stand.json("PUT", f"/classes/{class_}", {"years": years})
@@ -188,7 +206,10 @@ def plain_folder(page, stand):
         all(any(word in it for it in heard) for word in ("Asking the office whether", "The office checks the bag")),
         "it is said that the office is asked first, and that it checks the bag",
     )
-    check(stand.logged("POST", "/deposits?")[-2:] == [422, 201], "and by nginx's log it was: an empty body first, then the bag")
+    check(
+        stand.logged("POST", "/deposits?")[-2:] == [422, 201],
+        "and by nginx's log it was: an empty body first, then the bag",
+    )
     receipt_of_300(page, stand)
     return unpacked(stand, box)
 
@@ -229,7 +250,8 @@ def unpacked(stand, box):
     check(payload_below(back / "data") == wanted, f"depot unpack gives the folder, byte for byte: {len(wanted)} files")
     listed = dict(reversed(line.split("  ", 1)) for line in (back / "tagmanifest-sha256.txt").read_text().splitlines())
     check(
-        {name: hashlib.sha256((back / name).read_bytes()).hexdigest() for name in listed} == listed and len(listed) == 3,
+        {name: hashlib.sha256((back / name).read_bytes()).hexdigest() for name in listed} == listed
+        and len(listed) == 3,
         "the tag manifest lists the three other tag files, with their checksums",
     )
     info = (back / "bag-info.txt").read_text()
@@ -252,7 +274,10 @@ def one_record(page, stand, form):
 
 def files_shown(page, stand):
     small = folder(stand, "small", {"x.txt": b"x"})
-    check("Deposit 1 already has this accession." in page.deposit(small, "A-1", "y1"), "Taken is said, with a link to the deposit")
+    check(
+        "Deposit 1 already has this accession." in page.deposit(small, "A-1", "y1"),
+        "Taken is said, with a link to the deposit",
+    )
     page.shot("taken")
     page.go("deposits", "Deposits")
     page.awaits("1 deposit is listed.", "#count")
@@ -277,7 +302,10 @@ def odd_files(page, stand):
         before = set(os.listdir(stand.downloads))
         shown = "".join(f"[U+{ord(c):04X}]" if c in "\n\u202e" else c for c in "data/" + name)
         label = "Download " + shown
-        page.run("for (const b of document.querySelectorAll('#files button')) if (b.ariaLabel === arguments[0]) b.click()", label)
+        page.run(
+            "for (const b of document.querySelectorAll('#files button')) if (b.ariaLabel === arguments[0]) b.click()",
+            label,
+        )
         try:
             # (a name that begins or ends so is that of a download under way)
             new = page.wait(
@@ -335,17 +363,24 @@ def held(page, stand):
     check(page.says("Write 1 to 200 bytes"), "an empty matter is refused in the page")
     page.put("Matter", "\u00e9" * 101)
     page.button("Place a hold").click()
-    check(page.says("Write 1 to 200 bytes") and not stand.json("GET", "/deposits/1/holds")["holds"], "202 bytes of 101 letters too")
+    check(
+        page.says("Write 1 to 200 bytes") and not stand.json("GET", "/deposits/1/holds")["holds"],
+        "202 bytes of 101 letters too",
+    )
     page.run("arguments[0].value = arguments[1]", page.field("Matter"), MATTER)
     page.button("Place a hold").click()
     page.awaits("Hold 1 is placed.", "#told")
     check(page.says("held, by 1 hold", "#state"), "the deposit is shown as held")
-    check(stand.json("GET", "/deposits/1/holds")["holds"][0]["matter"] == MATTER, "and the office has the matter as it was written")
+    check(
+        stand.json("GET", "/deposits/1/holds")["holds"][0]["matter"] == MATTER,
+        "and the office has the matter as it was written",
+    )
     page.run("scrollTo(0, 0)")
     page.shot("deposit")
 
 
-# The page as it would be if it parsed its texts as HTML: by the way that the policy of content lets through, and by the old one.
+# The page as it would be if it parsed its texts as HTML: by the way that the policy of content lets through, and by the
+# old one.
 PARSING = """const parsed = text => { const box = document.createElement("div"); box.WAY; return [...box.childNodes] };
 for (const name of ["append", "prepend", "replaceChildren"]) {
   const real = Element.prototype[name];
@@ -360,8 +395,13 @@ def texts_alone(page):
     files, holds = page.text("#files"), page.text("#holds")
     odd = "<img src=x onerror=window.pwned=1>.txt", "<b>bold.txt", "quo\"te's.txt", "line[U+000A]break.txt"
     yield all(it in files for it in odd), "markup, quotes and line ends in names are text"
-    yield "<script>window.pwned=1</script> \"Case\" [U+202E]7[U+202C]" in holds, "a matter with markup and marks is shown as text"
-    found = page.run("return [...document.querySelectorAll('.others *, main :is(img, script, b)')].map(e => e.outerHTML)")
+    yield (
+        "<script>window.pwned=1</script> \"Case\" [U+202E]7[U+202C]" in holds,
+        "a matter with markup and marks is shown as text",
+    )
+    found = page.run(
+        "return [...document.querySelectorAll('.others *, main :is(img, script, b)')].map(e => e.outerHTML)"
+    )
     yield not found, f"no name and no matter became an element {found[:2]}"
     yield page.run("return window.pwned === undefined"), "nothing that stands in them ran"
 
@@ -375,7 +415,11 @@ def parsed(page, stand):
     whole = there.read_text()
     try:
         for way, policy, fewest in (("setHTML(text)", True, 3), ("innerHTML = text", False, 4)):
-            stand.nginx(lambda text: text if policy else text.replace("add_header Content-Security-Policy $room_policy always;", ""))
+            stand.nginx(
+                lambda text: text
+                if policy
+                else text.replace("add_header Content-Security-Policy $room_policy always;", "")
+            )
             there.write_text(PARSING.replace("WAY", way) + whole)
             other = stand.chromium()
             other.go("deposit/1", "Deposit 1")
@@ -395,7 +439,10 @@ def held_disposal(page, stand):
     page.destroy()
     shown = page.text("dialog")
     check(
-        "Destroy deposit 1?" in shown and "300 files of the payload" in shown and "It is held." in shown and "2024-02-28" in shown,
+        "Destroy deposit 1?" in shown
+        and "300 files of the payload" in shown
+        and "It is held." in shown
+        and "2024-02-28" in shown,
         "a disposal shows the record and the files first, and that it is held",
     )
     check(page.focused().get_attribute("id") == "dialog-title", "its heading has the focus")
@@ -459,7 +506,8 @@ def placed_holds(page, stand):
     hold("class", "y1", "Case 11")
     check(page.says("Hold 3 is placed.", "#told"), "a class is held")
     check(
-        [(it["on"], it["hold"]) for it in stand.json("GET", "/deposits/1/holds")["holds"]] == [("collection", 2), ("class", 3)],
+        [(it["on"], it["hold"]) for it in stand.json("GET", "/deposits/1/holds")["holds"]]
+        == [("collection", 2), ("class", 3)],
         "and the office has both",
     )
     stand.ask("DELETE", "/holds/2")
@@ -481,7 +529,8 @@ def refused_bags(page, stand):
         page.put(name, value)
     page.one("#go").click()
     check(
-        page.says("Choose another folder, or “Send it all the same”.", "#told") and page.focused().get_attribute("id") == "anyway",
+        page.says("Choose another folder, or “Send it all the same”.", "#told")
+        and page.focused().get_attribute("id") == "anyway",
         "and it isn't sent",
     )
     for name, files, words in (
@@ -524,17 +573,25 @@ def bags_and_forms(page, stand, form):
         "a form that is cut short is refused in the page",
     )
     (work / "other.bagset").write_bytes(b"PK\3\4" + bytes(100))
-    check("This is no transfer form" in page.deposit(work / "other.bagset", "A-4", how="form"), "and a file that is no form")
+    check(
+        "This is no transfer form" in page.deposit(work / "other.bagset", "A-4", how="form"),
+        "and a file that is no form",
+    )
 
 
 def progress(page, stand):
     """As many files, and as many bytes, as a deposit may have; with what is said meanwhile."""
     many = folder(stand, "many", {str(i): b"" for i in range(1997)})
-    check("It has 2,001 files with those that describe the bag" in page.deposit(many, "A-4"), "1,997 files are too many")
+    check(
+        "It has 2,001 files with those that describe the bag" in page.deposit(many, "A-4"),
+        "1,997 files are too many",
+    )
     (many / "1996").unlink()
     page.run(
-        """const main = document.querySelector('main'); window.heard = new Set(); window.hearing = new MutationObserver(() => {
-          for (const it of main.textContent.match(/(Reading|Computing checksums|Sending|Sent)[:.]/g) ?? []) heard.add(it) });
+        """const main = document.querySelector('main'); window.heard = new Set();
+        window.hearing = new MutationObserver(() => {
+          for (const it of main.textContent.match(/(Reading|Computing checksums|Sending|Sent)[:.]/g) ?? [])
+            heard.add(it) });
         hearing.observe(main, {subtree: true, childList: true, characterData: true})"""
     )
     check("The office has checked" in page.deposit(many, "A-4", closed="2024-03-01"), "1,996 are not")
@@ -564,7 +621,8 @@ def refused_folders(page, stand):
     (clash / "data").write_bytes(b"1")
     (clash / "bagit.txt").write_bytes(DECLARED)
     check(
-        "One name is both a file and a folder: data" in page.deposit(clash, "A-6"), "a bag with a file data is refused in the page"
+        "One name is both a file and a folder: data" in page.deposit(clash, "A-6"),
+        "a bag with a file data is refused in the page",
     )
     latin = folder(stand, "latin", {"x": b"1"})
     with open(os.path.join(os.fsencode(latin), b"caf\xe9"), "wb"):
@@ -717,13 +775,17 @@ def denied(page, stand):
 def due_today(page, stand):
     page.go("due", "Due today")
     check(page.says("On 2024-03-01, 1 deposit may be destroyed.", "#count"), "the due list of the first day")
-    check("no list of what was destroyed" in page.text(), "what the routes don't tell of destroyed deposits the page says")
+    check(
+        "no list of what was destroyed" in page.text(),
+        "what the routes don't tell of destroyed deposits the page says",
+    )
     stand.json("PUT", "/classes/y10", {"years": 0})
     stand.office.serve("2024-03-04")
     page.go("due", "Due today")
     page.awaits("On 2024-03-04,", "#count")
     check(
-        page.text("#day") == "2024-03-04" and len(page.all("main tbody tr")) == len(stand.json("GET", "/due")["deposits"]),
+        page.text("#day") == "2024-03-04"
+        and len(page.all("main tbody tr")) == len(stand.json("GET", "/due")["deposits"]),
         "the page sees the new day: " + page.text("#count"),
     )
     check(
@@ -743,7 +805,12 @@ def disposal(page, stand):
     check(
         all(
             it in certificate
-            for it in ("Destroyed on\n2024-03-04", "Confirmed by\nanna", "Accession\nA-1", hashlib.sha256(b"odd 1\n").hexdigest())
+            for it in (
+                "Destroyed on\n2024-03-04",
+                "Confirmed by\nanna",
+                "Accession\nA-1",
+                hashlib.sha256(b"odd 1\n").hexdigest(),
+            )
         ),
         "destroyed: the certificate has the day, the caller and each file's SHA-256",
     )
@@ -755,7 +822,8 @@ def disposal(page, stand):
     check("Accession: A-1" in saved and saved.count("\n") > 300 and "[U+202E]gpj.exe" in saved, "it is saved as a text")
     page.go("deposit/1", "Deposit 1")
     check(
-        "This deposit was destroyed on 2024-03-04." in page.text() and stand.json("GET", "/deposits/1")["error"] == "Gone",
+        "This deposit was destroyed on 2024-03-04." in page.text()
+        and stand.json("GET", "/deposits/1")["error"] == "Gone",
         "afterwards the page and the office say that it is gone, with the day",
     )
 

@@ -26,8 +26,10 @@ store=$room/office.db
 commands=(policy ask replay 'replay --policy' serve)
 refusals=0
 questions=0
-first='{"accession":"A-1","bytes":3,"class":"y0","closed":"2024-02-29","collection":"maps","deposit":1,"deposited":"2024-03-01","due":"2024-02-29","files":1}'
-second='{"accession":"A-2","bytes":3,"class":"y10","closed":"2024-02-29","collection":"tax","deposit":2,"deposited":"2024-03-01","due":"2034-02-28","files":1}'
+first='{"accession":"A-1","bytes":3,"class":"y0","closed":"2024-02-29","collection":"maps","deposit":1,'
+first+='"deposited":"2024-03-01","due":"2024-02-29","files":1}'
+second='{"accession":"A-2","bytes":3,"class":"y10","closed":"2024-02-29","collection":"tax","deposit":2,'
+second+='"deposited":"2024-03-01","due":"2034-02-28","files":1}'
 listed=${first/y0/drawn}
 on_class='{"hold":1,"matter":"Case 7","on":"class","placed":"2024-03-01"}'
 on_collection='{"hold":2,"matter":"Case 8","on":"collection","placed":"2024-03-01"}'
@@ -38,7 +40,8 @@ long=$(printf 'x%.0s' {1..9000})
 asks() {
     local caller=$1 status=$2 body=$3 target=$4 said
     shift 4
-    said=$(curl -sS --max-time 60 -H "Depot-Caller: $caller" -w '\n%{http_code} %header{allow}' "$@" "$address$target" 2>&1) || true
+    said=$(curl -sS --max-time 60 -H "Depot-Caller: $caller" -w '\n%{http_code} %header{allow}' "$@" \
+        "$address$target" 2>&1) || true
     compare "$target by $caller" "$body"$'\n'"$status" "${said% }"
 }
 
@@ -248,14 +251,16 @@ ends_well() {
 # What is wanted of a command, on its outputs and as its status, and its arguments. It gets the record of a request, or
 # `input`.
 prints() {
-    local out=$1 err=$2 wanted=$3 status=0
+    local out=$1 err=$2 wanted=$3 status=0 came
     shift 3
     questions=$((questions + 1))
     timeout 60 "$program" "$@" <"${input:-$room/record}" >"$room/out" 2>"$room/err" || status=$?
     printf %s "$out" >"$room/wanted-out"
     printf %s "$err" >"$room/wanted-err"
-    if ! cmp -s "$room/out" "$room/wanted-out" || ! cmp -s "$room/err" "$room/wanted-err" || [ "$status" -ne "$wanted" ]; then
-        fail "$*: '$out', '$err' and $wanted are wanted, and this came: '$(cat "$room/out")', '$(cat "$room/err")' and $status"
+    if ! cmp -s "$room/out" "$room/wanted-out" || ! cmp -s "$room/err" "$room/wanted-err" ||
+        [ "$status" -ne "$wanted" ]; then
+        came="'$(cat "$room/out")', '$(cat "$room/err")' and $status"
+        fail "$*: '$out', '$err' and $wanted are wanted, and this came: $came"
     fi
 }
 
@@ -274,13 +279,15 @@ no_policy() {
 
 # The sentence of a malformed rule, with the key at fault.
 no_rule() {
-    echo "rule $1 of the policy is not well formed: it is effect, role, action, collection and class, each with a value that" \
-        "it may have, and under version 2 it may have first and last, days of which first is not after last (Y5): the key $2"
+    echo "rule $1 of the policy is not well formed: it is effect, role, action, collection and class, each with a" \
+        "value that it may have, and under version 2 it may have first and last, days of which first is not after" \
+        "last (Y5): the key $2"
 }
 
 # What `explain` says of the policy on days, and of malformed policies and days.
 days_and_faults() {
-    local missing='the option --day DAY is missing: the policy has version 2, in which rules may count on certain days alone'
+    local missing='the option --day DAY is missing: the policy has version 2, in which rules may count on'
+    missing+=' certain days alone'
     local no_day='DAY is a date such as 2024-03-01, from 1900-01-01 to 9799-12-31' asked
     local tax='rule 1 of the policy denies it: role archivist, action dispose, collection tax, any class'
     local drawn='rule 4 of the policy denies it: role archivist, action release, any collection, class drawn'
@@ -437,7 +444,7 @@ SCRIPT
 # Serves a store with the least number of descriptors by which it can be opened and the port taken, so that no
 # connection can be accepted. That stops the command, once a connection comes or before.
 starved() {
-    local number status=0 lines
+    local number status=0 lines came
     for number in {4..16}; do
         rm -f "$room/listening"
         (
@@ -455,7 +462,8 @@ starved() {
     mapfile -t lines <"$room/err"
     reason='depot: cannot accept a connection: Too many open files (os error 24)'
     if [ "$status ${#lines[@]} ${lines[0]-}" != '3 2 device' ] || [ "${lines[1]}" != "$reason" ]; then
-        fail "with $number descriptors 'device', '$reason' and 3 are wanted, and this came: '$(cat "$room/err")' and $status"
+        came="'$(cat "$room/err")' and $status"
+        fail "with $number descriptors 'device', '$reason' and 3 are wanted, and this came: $came"
     fi
     echo "$number descriptors: no connection is accepted, and serve stops with 3, device and: ${lines[1]#depot: }"
 }
@@ -536,4 +544,6 @@ asks anna 200 '{"deposits":[]}' /deposits
 ends_well
 
 python3 "$top/trials/serve_client.py" "$program" "$room" "$dated" "$kills"
-echo "serve: $cases requests by curl and refusals, $questions commands on policies and days, $refusals refused commands on databases with a log and stores that are open elsewhere, all kinds of peers and $kills kills: as docs/ says"
+echo "serve: $cases requests by curl and refusals, $questions commands on policies and days, $refusals refused" \
+    "commands on databases with a log and stores that are open elsewhere, all kinds of peers and $kills kills: as" \
+    "docs/ says"

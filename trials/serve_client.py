@@ -253,7 +253,9 @@ def staying():
                 peer.sendall(text + b"x" * more)
                 found, waited = heard_to_end(peer)
                 wants(f"{text} and {more} bytes", found, status, body)
-                check(waited < 0.5, f"{text}: the end is wanted within 0.5 seconds of the answer, and came after {waited}")
+                check(
+                    waited < 0.5, f"{text}: the end is wanted within 0.5 seconds of the answer, and came after {waited}"
+                )
                 began = time.monotonic()
                 asks(office, "GET", "/due", 200, NOTHING_DUE)
                 check_time(f"the next one after {text}", began, 0, 2)
@@ -292,7 +294,10 @@ def never_reading():
         check(got < len(form), f"a peer that read nothing got {got} bytes after all")
     asks(office, "GET", "/deposits/1/bag", 200, form)
     office.kill()
-    print("a peer that resets in its answer, and one that reads nothing of it: its connection ends, and the next is served")
+    print(
+        "a peer that resets in its answer, and one that reads nothing of it: its connection ends, and the next is "
+        "served"
+    )
 
 
 # The classes of the deposits of an office that is killed.
@@ -529,8 +534,8 @@ def main():
     never_reading()
     killed()
     print(
-        f"serve_client: {Office.peers} connections, with cut and dribbled requests, another address, answers before all "
-        f"has come, peers that go, reset, stay, stop or don't read, and {KILLS} kills: as docs/HTTP.md says"
+        f"serve_client: {Office.peers} connections, with cut and dribbled requests, another address, answers before "
+        f"all has come, peers that go, reset, stay, stop or don't read, and {KILLS} kills: as docs/HTTP.md says"
     )
 
 

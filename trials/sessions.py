@@ -27,7 +27,8 @@ LAST = datetime.date(2024, 3, 1)
 CLASSES = {"y0": 0, "y1": 1, "y10": 10, "kept.forever": None, "never-used": 3}
 COLLECTIONS = ["maps", "tax", "a.b_c-9", "-", "empty"]
 MATTERS = [
-    "Case 7", "O'Neil \"versus\" the Treasury", "Prüfung – Größe 5; €", "'; DROP TABLE hold_4; --", "%s|\\n, \U0001f4dc", " ",
+    "Case 7", "O'Neil \"versus\" the Treasury", "Prüfung – Größe 5; €", "'; DROP TABLE hold_4; --",
+    "%s|\\n, \U0001f4dc", " ",
 ]
 QUERIES = ["collection=maps", "class=y0", "collection=tax&class=y10", "collection=none", "class=kept.forever", "a=b"]
 # What is asked of a deposit.

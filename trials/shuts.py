@@ -43,7 +43,9 @@ class Shuts(http.server.BaseHTTPRequestHandler):
         if refusal:
             text = b'{"error":"%s"}\n' % refusal[1].encode()
             again = [("Retry-After", refusal[2])] if refusal[2] else []
-            self.answer(refusal[0], [("Content-Type", "application/json"), ("Content-Length", str(len(text))), *again], text)
+            self.answer(
+                refusal[0], [("Content-Type", "application/json"), ("Content-Length", str(len(text))), *again], text
+            )
             return
         office = http.client.HTTPConnection("127.0.0.1", OFFICE, timeout=60)
         fields = {name: value for name, value in self.headers.items() if name in ("Depot-Caller", "Content-Length")}

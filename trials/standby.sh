@@ -46,11 +46,13 @@ ssh-keygen -q -t ed25519 -N '' -f host
 ssh-keygen -q -t ed25519 -N '' -f key
 chmod 700 .
 sed 's/^/[192.0.2.2]:2022 /' host.pub >known
-printf '%s\n' "HostKey $room/host" "AuthorizedKeysFile $room/key.pub" 'ListenAddress 192.0.2.2:2022' 'StrictModes no' 'UsePAM no' 'PidFile none' \
+printf '%s\n' "HostKey $room/host" "AuthorizedKeysFile $room/key.pub" 'ListenAddress 192.0.2.2:2022' \
+    'StrictModes no' 'UsePAM no' 'PidFile none' \
     "SetEnv DEPOT=$program" >sshd.conf
 # (sshd wants a folder of its own under /run)
 # shellcheck disable=SC2016
-ip netns exec "$two" sh -c 'mount -t tmpfs none /run && mkdir /run/sshd && exec "$(PATH=$PATH:/usr/sbin command -v sshd)" -D -e -f sshd.conf' >sshd.said 2>&1 &
+ip netns exec "$two" sh -c 'mount -t tmpfs none /run && mkdir /run/sshd &&
+    exec "$(PATH=$PATH:/usr/sbin command -v sshd)" -D -e -f sshd.conf' >sshd.said 2>&1 &
 export RSYNC_RSH="ssh -F none -i $room/key -p 2022 -o UserKnownHostsFile=$room/known -o BatchMode=yes"
 export FOLD=$units/fold
 for each in {1..50}; do
@@ -126,7 +128,8 @@ for round in $(seq "$rounds"); do
     known=$(sed -n "s/^$newest //p" begun)
     if [ -z "$known" ]; then
         # It is the one that was cut short, since it is newer than the others.
-        [[ $newest > $(tail -n 1 begun | cut -d ' ' -f 1) ]] || fail "the newest copy is '$newest', and these were made: $(paste -sd, begun)"
+        [[ $newest > $(tail -n 1 begun | cut -d ' ' -f 1) ]] ||
+            fail "the newest copy is '$newest', and these were made: $(paste -sd, begun)"
         known=$before
         taken=$((taken + 1))
     fi
@@ -171,5 +174,6 @@ while read -r each before; do
 done <begun
 [ $((refused + lacking)) -gt 0 ] ||
     fail "control: each of $(wc -l <begun) of $tries copies without a standstill had all that was answered"
-echo "standby: $rounds times the second machine had what was answered ($changes changes; $copies copies, $longest ms still at most;" \
-    "$taken times the copy that was cut short had come whole); without a standstill, of $tries copies $refused were refused, $lacking lacked changes"
+echo "standby: $rounds times the second machine had what was answered ($changes changes; $copies copies, $longest ms" \
+    "still at most; $taken times the copy that was cut short had come whole); without a standstill, of $tries copies" \
+    "$refused were refused, $lacking lacked changes"

@@ -213,8 +213,9 @@ stops() {
     end_clients
     judge "$proxy" >counts 2>wrong
     eval "$(cat counts)"
+    middle="nothing is to be refused in the middle, lost, missing or uncertain"
     [ "$((refused + lost + unreachable + other + missing + uncertain))" -eq 0 ] ||
-        fail "$rounds stops: nothing is to be refused in the middle, lost, missing or uncertain, and this came: $(cat counts wrong)"
+        fail "$rounds stops: $middle, and this came: $(cat counts wrong)"
     if [ "$through" -lt "$rounds" ] || [ "$shut" -lt "$rounds" ] || [ "$answered" -lt "$rounds" ]; then
         fail "$rounds stops: too little happened for that to mean something: $(cat counts)"
     fi

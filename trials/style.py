@@ -3,14 +3,17 @@
 
 - `shellcheck` over every shell script, and `pyflakes` over every Python file;
 - `endings`: sources end their lines with LF alone, have no blank at the end of a line and no tab, and end with one LF;
-- `columns`: a line of a document has at most 120 columns, unless it is of a table or of a block of code, or is one word;
+- `columns`: a line of a document has at most 120 columns, unless it is of a table or of a block of code, or is one
+  word; and so has each line of a shell script or a Python file;
 - `words`: README.md, docs/*.md and crates/*/README.md have at most 31,000 words together;
-- `links`: what a document links to is there, and each file that it names in backquotes, with a `/` or as NAME.md; so are an
-  anchor, and a section in quotes that follows the name of its document;
+- `links`: what a document links to is there, and each file that it names in backquotes, with a `/` or as NAME.md; so
+  are an anchor, and a section in quotes that follows the name of its document;
 - `hosts`: no tracked file has a path of somebody's machine, or the host of a registry;
-- `trials`: trials.txt has each trial of this folder once, with what its script needs, and every other file is a part of one;
+- `trials`: trials.txt has each trial of this folder once, with what its script needs, and every other file is a part of
+  one;
 - `made`: what scripts make of the sources is as they make it: docs/PROMISES.md by promises.py, and docs/depot.1 and
-  docs/depot.bash by manual.py, by the program of DEPOT or the repository's own; where there is neither, the last line says so.
+  docs/depot.bash by manual.py, by the program of DEPOT or the repository's own; where there is neither, the last line
+  says so.
 
 Arguments: the checks; all of them if left out.
 """
@@ -28,7 +31,15 @@ TOP = pathlib.Path(__file__).resolve().parent.parent
 TRIALS = TOP / "trials"
 COLUMNS, WORDS = 120, 31_000
 # The documents, as people read them.
-DOCUMENTS = ("README.md", "CONTRIBUTING.md", "CHANGELOG.md", "docs/*.md", "crates/*/README.md", "bench/README.md", "trials/README.md")
+DOCUMENTS = (
+    "README.md",
+    "CONTRIBUTING.md",
+    "CHANGELOG.md",
+    "docs/*.md",
+    "crates/*/README.md",
+    "bench/README.md",
+    "trials/README.md",
+)
 COUNTED = ("README.md", "docs/*.md", "crates/*/README.md")
 SOURCES = {".rt", ".antt", ".sh", ".py", ".md", ".js", ".html", ".css"}
 # A name in backquotes with one of these endings, or below a folder of the top, is that of a file.
@@ -38,7 +49,8 @@ ASSUMED = {"util-linux", "coreutils", "procps", "dbus", "python3", "dpkg"}
 # (in two parts, so that this file has none)
 HOSTS = re.compile("|".join((
     r"(?<![\w.$}])/(?:" + r"work|opt|home|Users)/[\w.-]",
-    r"\b(?:" + r"crates\.io|pypi\.|npmjs\.|rubygems\.|golang\.org|docker\.io|ghcr\.io|quay\.io|deb\.debian\.|archive\.ubuntu\." + ")",
+    r"\b(?:" + r"crates\.io|pypi\.|npmjs\.|rubygems\.|golang\.org|docker\.io|ghcr\.io|quay\.io|deb\.debian\.|"
+    r"archive\.ubuntu\." + ")",
 )))
 
 wrong = []
@@ -75,7 +87,9 @@ def is_shell(name):
     if pathlib.PurePath(name).suffix in SOURCES | {".edit"}:
         return False
     head = text_of(name).split("\n")[:6]
-    return bool(head and re.match(r"#!.*\b(?:ba|da)?sh\b", head[0])) or any(line.startswith("# shellcheck shell=") for line in head)
+    return bool(head and re.match(r"#!.*\b(?:ba|da)?sh\b", head[0])) or any(
+        line.startswith("# shellcheck shell=") for line in head
+    )
 
 
 def ran(words, files):
@@ -144,7 +158,12 @@ def check_columns():
             is_table = line.startswith("|") or " | " in line
             if len(line) > COLUMNS and not is_code and not is_table and " " in line.strip():
                 say(name, number, f"{len(line)} columns")
-    return f"{len(names)} documents"
+    scripts = [name for name in FILES if name.endswith(".py") or is_shell(name)]
+    for name in scripts:
+        for number, line in enumerate(text_of(name).split("\n"), 1):
+            if len(line) > COLUMNS:
+                say(name, number, f"{len(line)} columns")
+    return f"{len(names)} documents and {len(scripts)} scripts"
 
 
 def check_words():
@@ -156,7 +175,11 @@ def check_words():
 
 def anchors_of(name):
     """The headings of a document, and the anchors that they make."""
-    titles = [re.sub(r"^#+ +", "", line) for _, line, is_code in lines_of(name) if not is_code and re.match(r"#+ ", line)]
+    titles = [
+        re.sub(r"^#+ +", "", line)
+        for _, line, is_code in lines_of(name)
+        if not is_code and re.match(r"#+ ", line)
+    ]
     plain = [title.replace("`", "") for title in titles]
     anchors, seen = set(), collections.Counter()
     for title in plain:
@@ -167,7 +190,8 @@ def anchors_of(name):
 
 
 def found(document, name):
-    """The files that a name in a document may mean: from the top or the document's folder, or in `docs/`, `crates/` or a crate."""
+    """The files that a name in a document may mean: from the top or the document's folder, or in `docs/`, `crates/` or
+    a crate."""
     name = re.sub(r"(?<![\w.])[A-Z]+(?=/)|(?<=/)[A-Z]+(?=$|\.(?!md))", "*", name.rstrip("/"))
     bases = [TOP, (TOP / document).parent, TOP / "docs", TOP / "crates"]
     for base in bases:
@@ -239,7 +263,13 @@ def check_hosts():
 
 def asked_by(text, parts):
     """What a script says that it needs, and its parts: packages, and the words of trials.txt."""
-    words = {"needs_program": "program", "needs_office_file": "office_file", "needs_kit": "kit", "needs_root": "root", "needs_mounts": "mounts"}
+    words = {
+        "needs_program": "program",
+        "needs_office_file": "office_file",
+        "needs_kit": "kit",
+        "needs_root": "root",
+        "needs_mounts": "mounts",
+    }
     asked = {meaning for call, meaning in words.items() if re.search(rf"^ *{call}\b", text, re.M)}
     for line in re.findall(r"^ *needs (\S.*)$", text, re.M):
         asked |= {word.rpartition("=")[2] for word in line.split()}
@@ -252,7 +282,9 @@ def asked_by(text, parts):
 
 
 def check_trials():
-    scripts = {path.name: path.read_text(encoding="utf-8") for path in TRIALS.iterdir() if path.suffix in (".sh", ".py")}
+    scripts = {
+        path.name: path.read_text(encoding="utf-8") for path in TRIALS.iterdir() if path.suffix in (".sh", ".py")
+    }
     scripts["run"] = (TRIALS / "run").read_text(encoding="utf-8")
     page = (TRIALS / "README.md").read_text(encoding="utf-8")
     table = {}
@@ -263,7 +295,11 @@ def check_trials():
         if len(cells) != 3 or not cells[2]:
             say("trials/trials.txt", number, "the line isn't NAME | NEEDS | SHOWS")
         elif cells[0] in table or cells[0] not in scripts:
-            say("trials/trials.txt", number, f"{cells[0]} is there twice" if cells[0] in table else f"there is no {cells[0]}")
+            say(
+                "trials/trials.txt",
+                number,
+                f"{cells[0]} is there twice" if cells[0] in table else f"there is no {cells[0]}",
+            )
         else:
             table[cells[0]] = set(cells[1].split())
             if not os.access(TRIALS / cells[0], os.X_OK):
@@ -327,7 +363,11 @@ def main():
         total += len(wrong)
     for note in notes:
         print(note)
-    print(f"style: {total} places don't keep the rules" if total else f"style: {len(chosen)} checks, and every rule is kept")
+    print(
+        f"style: {total} places don't keep the rules"
+        if total
+        else f"style: {len(chosen)} checks, and every rule is kept"
+    )
     sys.exit(1 if total else 0)
 
 

@@ -126,8 +126,8 @@ answers "$room/others/office.db"
 # A mount that can only be read.
 made mounted
 if where_it_is_read true 2>"$room/err"; then
-    refused "an office is made on a mount that is only read" "$room/mounted/new.db" 'Read-only file system (os error 30)' \
-        on_a_mount policy "$room/mounted/new.db" "$policy"
+    refused "an office is made on a mount that is only read" "$room/mounted/new.db" \
+        'Read-only file system (os error 30)' on_a_mount policy "$room/mounted/new.db" "$policy"
     refused "an office is asked there" "$room/mounted/office.db" 'Read-only file system (os error 30)' \
         on_a_mount ask "$room/mounted/office.db" "$day"
     mounts=

@@ -58,4 +58,5 @@ if "$program" last "$file" 1 >/dev/null 2>&1; then
     fail "a file without one of its contents was opened"
 fi
 cmp "$file" "$room/before"
-echo "tables: older versions are upgraded to that schema; sqlite3 finds the $(wc -l <"$top/trials/rows.txt") rows that were written and the $(wc -l <"$top/trials/schema.sql") texts of the schema, and its own tests pass"
+echo "tables: older versions are upgraded to that schema; sqlite3 finds the $(wc -l <"$top/trials/rows.txt") rows" \
+    "that were written and the $(wc -l <"$top/trials/schema.sql") texts of the schema, and its own tests pass"

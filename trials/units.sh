@@ -40,7 +40,8 @@ verified=0
 for unit in "$root"/etc/systemd/system/*.service "$root"/etc/systemd/system/*.timer; do
     # Each is a template, here that of the office `office`.
     unit=$(basename "$unit")
-    said=$(MANPATH=$root/usr/local/share/man: systemd-analyze verify --man=yes --recursive-errors=no --root="$root" "${unit/@/@office}" 2>&1) || true
+    said=$(MANPATH=$root/usr/local/share/man: systemd-analyze verify --man=yes --recursive-errors=no \
+        --root="$root" "${unit/@/@office}" 2>&1) || true
     matches "$unit" '' "$said"
     [[ $unit == *@.* ]] || fail "$unit isn't a template"
     verified=$((verified + 1))
@@ -54,7 +55,8 @@ done
 rm "$root"/etc/systemd/system/*.d/sandbox.conf
 for unit in "$root"/etc/systemd/system/*.service; do
     unit=$(basename "$unit")
-    if systemd-analyze security --no-pager --offline=true --threshold=20 --root="$root" "${unit/@/@office}" >"$room/security" 2>&1; then
+    if systemd-analyze security --no-pager --offline=true --threshold=20 --root="$root" "${unit/@/@office}" \
+        >"$room/security" 2>&1; then
         fail "control: $unit is confined without its sandbox"
     fi
     cases=$((cases + 1))
@@ -146,7 +148,8 @@ END
 chmod 755 "$room/program"
 export DEPOT=$room/program
 echo store >office.db
-for words in '' office.db 'office 8080' '.db 8080' 'office.db x' 'office.db 123456' 'office.db 8080 more' 'office.db -1'; do
+for words in '' office.db 'office 8080' '.db 8080' 'office.db x' 'office.db 123456' 'office.db 8080 more' \
+    'office.db -1'; do
     # shellcheck disable=SC2086 # these are words
     DAY=2024-03-01 refuses serve $words
 done
@@ -197,7 +200,8 @@ none 2024-02-29 served
 2025-01-01 2024-12-31 earlier
 2024-03-01 2124-03-01 later
 END
-for malformed in '' x 2024-02-30 2023-02-29 2024-2-3 '2024-03-01 ' '0000-01-01' "$(printf '2024-03-01\n2024-03-01')" '1 Jan 2024'; do
+for malformed in '' x 2024-02-30 2023-02-29 2024-2-3 '2024-03-01 ' '0000-01-01' \
+    "$(printf '2024-03-01\n2024-03-01')" '1 Jan 2024'; do
     doesnt_serve "$malformed" 2024-03-02 "and the day last served isn't known: office.day is malformed"
 done
 echo 2024-03-02 >office.confirm
@@ -300,7 +304,9 @@ calls backup office.db ../backup
 first=../first/$(basename "$said")
 matches "a backup" "0 ../backup/20[0-9][0-9]-[0-9][0-9]-[0-9][0-9]-[0-9][0-9][0-9][0-9][0-9][0-9].db" \
     "$status $said$told"
-matches "its name is the moment in UTC" yes "$(find "$said" -newermt "$(basename "${said%.db}" | sed 's/-\(..\)\(..\)\(..\)$/ \1:\2:\3 UTC/') -1 second" | grep -q . && echo yes)"
+matches "its name is the moment in UTC" yes \
+    "$(find "$said" -newermt \
+        "$(basename "${said%.db}" | sed 's/-\(..\)\(..\)\(..\)$/ \1:\2:\3 UTC/') -1 second" | grep -q . && echo yes)"
 cp -r ../backup ../first
 matches "its deposits" 3 "$(deposits_of "$first")"
 matches "its day" 2024-03-01 "$(cat "${first%.db}.day")"
@@ -374,8 +380,8 @@ cp "$copy" ../raw.db
 cp office.db-wal ../raw.db-wal
 echo garbage >../garbage.db
 ln -s office.db link.db
-for words in '' "$copy" "$copy office" "$copy office.db more" "none.db office.db" "$copy none/office.db" "office.db office.db" \
-    "../raw.db office.db" "../garbage.db office.db" ". office.db" "$copy .db" "$copy link.db"; do
+for words in '' "$copy" "$copy office" "$copy office.db more" "none.db office.db" "$copy none/office.db" \
+    "office.db office.db" "../raw.db office.db" "../garbage.db office.db" ". office.db" "$copy .db" "$copy link.db"; do
     # shellcheck disable=SC2086 # these are words
     refuses restore $words
 done
@@ -461,7 +467,8 @@ if [ "$(id -u)" -eq 0 ]; then
     chmod 600 "$open/copy.db"
     status=0
     "$open/restore" "$open/copy.db" "$open/office/office.db" >"$room/said" 2>&1 || status=$?
-    matches "a copy that he can't read" "1 restore: nobody, whose folder '$open/office' is, can't read '$open/copy.db'" \
+    matches "a copy that he can't read" \
+        "1 restore: nobody, whose folder '$open/office' is, can't read '$open/copy.db'" \
         "$status $(cat "$room/said")"
     chmod 644 "$open/copy.db"
     "$open/restore" "$open/copy.db" "$open/linked/office.db" >"$room/said" 2>&1 || fail "$(cat "$room/said")"

@@ -28,7 +28,8 @@ ln -s "$top/examples" examples
 cp "$program" depot
 python3 -c 'import sys; sys.path.insert(0, sys.argv[1]); import upgrade; upgrade.make("office.db", 4, 200, 60, 20)' \
     "$top/trials"
-kept=$(python3 -c 'import sqlite3; print(sqlite3.connect("office.db").execute("SELECT count(*) FROM deposit WHERE gone IS NULL").fetchone()[0])')
+kept=$(python3 -c 'import sqlite3
+print(sqlite3.connect("office.db").execute("SELECT count(*) FROM deposit WHERE gone IS NULL").fetchone()[0])')
 compare "an older program's office" 4 "$(version)"
 mkdir backup
 cp office.db backup/2024-03-02.db

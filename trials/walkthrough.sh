@@ -65,7 +65,8 @@ for number, (command, wanted) in enumerate(commands):
 lines.append("over")
 
 shell = subprocess.Popen(
-    ["bash"], stdin=subprocess.PIPE, stdout=subprocess.PIPE, stderr=subprocess.STDOUT, cwd=room, text=True, start_new_session=True
+    ["bash"], stdin=subprocess.PIPE, stdout=subprocess.PIPE, stderr=subprocess.STDOUT, cwd=room, text=True,
+    start_new_session=True,
 )
 try:
     found, _ = shell.communicate("\n".join(lines) + "\n", timeout=PATIENCE)

@@ -12,10 +12,12 @@ import sys
 from pathlib import Path
 
 top = Path(sys.argv[1])
-PLACES = {"{manifest}": "NAME", "{path}": "PATH", "{line}": "LINE", "{offset}": "OFFSET", "{number}": "N", "{cause}": "CAUSE", "{caller}": "CALLER",
-          "{meaning}": "MEANING", "{role}": "ROLE", "{action}": "ACTION", "{scope}": "SCOPE"}
-BEGINNINGS = ("this ", "the caller CALLER ", "the option --day DAY ", "rule N of the policy denies ", "no rule of the policy ", "the folder has no ",
-              "something has ", "the bag has PATH, ", "in this path ", "%0A or %0D is ", "%25 is ", "it begins with ", "it is not ", "it has ")
+PLACES = {"{manifest}": "NAME", "{path}": "PATH", "{line}": "LINE", "{offset}": "OFFSET", "{number}": "N",
+          "{cause}": "CAUSE", "{caller}": "CALLER", "{meaning}": "MEANING", "{role}": "ROLE", "{action}": "ACTION",
+          "{scope}": "SCOPE"}
+BEGINNINGS = ("this ", "the caller CALLER ", "the option --day DAY ", "rule N of the policy denies ",
+              "no rule of the policy ", "the folder has no ", "something has ", "the bag has PATH, ", "in this path ",
+              "%0A or %0D is ", "%25 is ", "it begins with ", "it is not ", "it has ")
 CODE = re.compile(r"\((?:[A-Z]+\d* )?([A-Z]+\d*)\)$")
 
 
@@ -26,7 +28,8 @@ def is_sentence(text):
 
 coded = set()
 for file in sorted((top / "crates/fault_words/src").glob("*.rt")):
-    code = "\n".join(line for line in file.read_text(encoding="utf-8").splitlines() if not line.lstrip().startswith("//"))
+    lines = file.read_text(encoding="utf-8").splitlines()
+    code = "\n".join(line for line in lines if not line.lstrip().startswith("//"))
     for text in re.findall(r'"((?:[^"\\]|\\.)*)"', code):
         for place, name in PLACES.items():
             text = text.replace(place, name)
