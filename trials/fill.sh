@@ -335,6 +335,7 @@ done
 # An office that is closed for a stop, for a while, again and again, and for too long; a proxy for which it is too much;
 # a failure.
 shut() {
+    rm -f shut
     python3 "$top/trials/shuts.py" "$own_port" . "$1" >shut 2>told &
     shutting=$!
     await_port "$shutting" shut

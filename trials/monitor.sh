@@ -92,7 +92,7 @@ peer() {
     python3 -u -c '
 import socket, sys, time
 desk = socket.create_server(("127.0.0.1", 0))
-print("listening", desk.getsockname()[1])
+print(f"listening {desk.getsockname()[1]}")
 for text in sys.argv[1:]:
     client, _ = desk.accept()
     client.recv(65536)
