@@ -10,10 +10,10 @@ use Rattle.office_core.specs.declared.answer.Answer.{Answer}
 use Rattle.office_core.specs.declared.answer.Answer.TheVariants as answers
 use Rattle.office_core.specs.declared.refusal.Refusal.{Refusal}
 use Rattle.office_core.specs.declared.refusal.Refusal.TheVariants as refusals
-use Rattle.desk_routes.specs.Routes.{method_text, methods_of}
+use Rattle.desk_routes.specs.Table.{method_text, methods_of}
 use Rattle.desk_routes.specs.declared.method.Method.{Method}
-use Rattle.desk_routes.specs.declared.pattern.Pattern.{Pattern}
-use Rattle.desk_routes.specs.declared.pattern.Pattern.TheVariants as patterns
+use Rattle.desk_routes.specs.declared.place.Pattern.{Pattern}
+use Rattle.desk_routes.specs.declared.place.Pattern.TheVariants as patterns
 use Rattle.desk_routes.specs.declared.refusal.DeskRefusal.{DeskRefusal}
 use Rattle.desk_routes.specs.declared.refusal.DeskRefusal.TheVariants as desks
 use Rattle.desk_answers.specs.Statuses.{code_of}

@@ -1,7 +1,7 @@
 -- What is said of a refusal of the desk: its status, its body, and the methods that the target takes where the method was wrong. Which refusal has which status is Depot's own rule.
 use Rattle.std.specs.Prelude.{ℕ, List, [], ◌∷◌, ◌++◌, codes}
 use Rattle.serde_json.specs.Data.{Data}
-use Rattle.desk_routes.specs.Routes.{method_text, methods_of}
+use Rattle.desk_routes.specs.Table.{method_text, methods_of}
 use Rattle.desk_routes.specs.declared.method.Method.{Method}
 use Rattle.desk_routes.specs.declared.refusal.DeskRefusal.{DeskRefusal}
 use Rattle.desk_routes.specs.declared.refusal.DeskRefusal.TheVariants.{TooLarge, Truncated, BadHead, Chunked, BadLength, TwoCallers, NoRoute, Method as WrongMethod, BadQuery, BadBody}

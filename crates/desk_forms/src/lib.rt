@@ -7,7 +7,7 @@ mod path;
 mod query;
 
 pub use body::{BodyFault, HoldBody, check_no_body, read_hold, read_years};
-pub use path::decode_path;
+pub use path::{OwnedPath, decode_path};
 pub use query::{
     DepositQuery, Listing, QueryFault, check_no_query, read_deposit_query, read_listing,
 };

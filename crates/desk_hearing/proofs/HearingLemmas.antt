@@ -9,27 +9,27 @@ use Rattle.desk_heads.specs.declared.place.HeadPlace.TheVariants as places
 use Rattle.desk_heads.proofs.EndLemmas.{head_at_more, found_within}
 use Rattle.desk_heads.specs.Heads.{HeadContents}
 use Rattle.desk_heads.specs.declared.refusal.HeadRefusal.{HeadRefusal}
-use Rattle.desk_routes.specs.Table.{RouteValue}
 use Rattle.desk_routes.specs.declared.refusal.DeskRefusal.{DeskRefusal}
 use Rattle.desk_routes.specs.declared.refusal.DeskRefusal.TheVariants.{TooLarge, Truncated}
-use Rattle.desk_hearing.specs.Asking.{RouteQuestion}
+use Rattle.desk_routes.specs.declared.route.Route.{Route}
 use Rattle.desk_hearing.specs.Hearing.{Hearing, HearsBody, HearsRest, HearsQuery, route_asked, HearsRoute, HearsHead, HearsFront, HearsAt, Hears}
+use Rattle.desk_hearing.specs.declared.question.Question.{Question}
 
 -- ---- a longer input is heard alike
 
-rest_longer : (caller : Option (List ℕ)) (question : RouteQuestion) (count : ℕ) (rest more : List ℕ) (hearing : Hearing) → hearing ≢ Err Truncated
+rest_longer : (caller : Option (List ℕ)) (question : Question) (count : ℕ) (rest more : List ℕ) (hearing : Hearing) → hearing ≢ Err Truncated
     → HearsRest caller question count rest hearing → HearsRest caller question count (rest ++ more) hearing
 rest_longer caller question count rest more hearing uncut (inl h) =
     let fits : count ≤ length (rest ++ more) = simp length-append (omega arith) in
     inl (fits, subst (λ body. HearsBody caller question body hearing) (sym (take-append-le count rest more h.0)) h.1)
 rest_longer caller question count rest more hearing uncut (inr h) = absurd (uncut h.1)
 
-query_longer : (contents : HeadContents) (route : RouteValue) (rest more : List ℕ) (hearing : Hearing) → hearing ≢ Err Truncated
+query_longer : (contents : HeadContents) (route : Route) (rest more : List ℕ) (hearing : Hearing) → hearing ≢ Err Truncated
     → HearsQuery contents route rest hearing → HearsQuery contents route (rest ++ more) hearing
 query_longer contents route rest more hearing uncut (inl h) = inl (h.0, h.1, rest_longer contents.caller h.0 contents.body_length rest more hearing uncut h.2)
 query_longer contents route rest more hearing uncut (inr h) = inr h
 
-route_longer : (contents : HeadContents) (found : Result RouteValue DeskRefusal) (rest more : List ℕ) (hearing : Hearing) → hearing ≢ Err Truncated
+route_longer : (contents : HeadContents) (found : Result Route DeskRefusal) (rest more : List ℕ) (hearing : Hearing) → hearing ≢ Err Truncated
     → HearsRoute contents found rest hearing → HearsRoute contents found (rest ++ more) hearing
 route_longer contents (Ok route) rest more hearing uncut h = query_longer contents route rest more hearing uncut h
 route_longer contents (Err refusal) rest more hearing uncut h = h
@@ -83,16 +83,16 @@ unfolding Hears
 hears_here b n hearing found h = subst (λ p. HearsAt p b hearing) (sym found) h
 
 -- how the front is heard, whatever follows it, as its body is
-abbrev pub Announces : List ℕ → Option (List ℕ) → RouteQuestion → ℕ → Type 0
+abbrev pub Announces : List ℕ → Option (List ℕ) → Question → ℕ → Type 0
 Announces front caller question count = (rest : List ℕ) (hearing : Hearing) → HearsRest caller question count rest hearing → HearsFront front rest hearing
 
-pub hears_cut : (b more all : List ℕ) (n count : ℕ) (caller : Option (List ℕ)) (question : RouteQuestion) → all ≡ b ++ more → head_at b ≡ places.Found n → n ≤ length b
+pub hears_cut : (b more all : List ℕ) (n count : ℕ) (caller : Option (List ℕ)) (question : Question) → all ≡ b ++ more → head_at b ≡ places.Found n → n ≤ length b
     → Announces (take n b) caller question count → length all < n + count → Hears all (Err Truncated)
 hears_cut b more all n count caller question e found within announces short =
     let cut : length (drop n (b ++ more)) < count = (let l = length-drop n (b ++ more) in let a = ap length e in let w = length-append b more in omega arith) in
     subst (λ l. Hears l (Err Truncated)) (sym e) (hears_front b more n (Err Truncated) found within (announces (drop n (b ++ more)) (Err Truncated) (inr (cut, refl))))
 
-pub hears_body : (b more all : List ℕ) (n count : ℕ) (caller : Option (List ℕ)) (question : RouteQuestion) (hearing : Hearing) → all ≡ b ++ more → head_at b ≡ places.Found n → n ≤ length b
+pub hears_body : (b more all : List ℕ) (n count : ℕ) (caller : Option (List ℕ)) (question : Question) (hearing : Hearing) → all ≡ b ++ more → head_at b ≡ places.Found n → n ≤ length b
     → Announces (take n b) caller question count → n + count ≤ length all → HearsBody caller question (take count (drop n all)) hearing → Hears all hearing
 hears_body b more all n count caller question hearing e found within announces long body =
     let fits : count ≤ length (drop n (b ++ more)) = (let l = length-drop n (b ++ more) in let a = ap length e in let w = length-append b more in omega arith) in

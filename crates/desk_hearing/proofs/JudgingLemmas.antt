@@ -1,6 +1,6 @@
 -- What the steps of the code answer, as what is heard.
 use Rattle.std.proofs.Common.{◌≡◌, ◌≢◌, ℕ, inl, inr, List, [], Option, Some, None, Ok, Err, refl, sym, ap, ◌∙◌, subst}
-use Rattle.std.specs.Prelude.{Result, MatchResult, ok_or, option_and_then}
+use Rattle.std.specs.Prelude.{Result, ok_or, option_and_then}
 use Rattle.desk_forms.specs.Queries.{query_pairs, AsksListing, DescribesDeposit}
 use Rattle.desk_forms.specs.Bodies.{SaysYears, SaysHold}
 use Rattle.desk_forms.specs.declared.body.BodyFault.{BodyFault}
@@ -13,75 +13,80 @@ use Rattle.desk_forms.specs.declared.query.QueryFault.TheVariants as queries
 use Rattle.desk_heads.specs.Heads.{HeadContents, Judges}
 use Rattle.desk_heads.specs.declared.refusal.HeadRefusal.{HeadRefusal}
 use Rattle.desk_heads.specs.declared.refusal.HeadRefusal.TheVariants as heads
-use Rattle.desk_routes.specs.Places.{PlaceValue, pattern_of}
+use Rattle.desk_routes.specs.Places.{pattern_of}
 use Rattle.desk_routes.specs.PathReading.{place_named}
-use Rattle.desk_routes.specs.Table.{RouteValue, route_of, route_of_place}
-use Rattle.desk_routes.specs.Table as routes
+use Rattle.desk_routes.specs.Table.{method_of, route_at, route_of, route_of_place}
 use Rattle.desk_routes.specs.Targets.{path_part, query_part}
+use Rattle.desk_routes.specs.declared.place.Place.{Place}
 use Rattle.desk_routes.specs.declared.refusal.DeskRefusal.{DeskRefusal}
 use Rattle.desk_routes.specs.declared.refusal.DeskRefusal.TheVariants.{Truncated, NoRoute, Method, BadQuery}
-use Rattle.desk_hearing.specs.Asked.{Asked}
-use Rattle.desk_hearing.specs.Asking.{of_class, of_hold, of_all, HasNoPair, QueryAsks, BodyAsks}
-use Rattle.desk_hearing.specs.Asking as asking
+use Rattle.desk_routes.specs.declared.route.Route.{Route}
+use Rattle.desk_routes.specs.declared.route.Route.TheVariants as routes
+use Rattle.desk_hearing.specs.Asking.{QueryAsks}
 use Rattle.desk_hearing.specs.Faults.{fault_of_query, fault_of_body}
 use Rattle.desk_hearing.specs.Hearing.{refusal_of_head, HearsRest, route_asked, HearsRoute, HearsFront}
-use Rattle.desk_hearing.specs.View.{question_seen, AnswersQuery, AnswersBody, AnswersFront}
+use Rattle.desk_hearing.specs.Steps.{AllowsQuery, IsRefusedQuery, AnswersQuery, AnswersBody, AnswersFront}
+use Rattle.desk_hearing.specs.declared.ask.Ask.{Ask}
 use Rattle.desk_hearing.specs.declared.fault.JudgingFault.{JudgingFault}
 use Rattle.desk_hearing.specs.declared.fault.JudgingFault.TheVariants as faults
 use Rattle.desk_hearing.specs.declared.judging.Announced.{Announced}
 use Rattle.desk_hearing.specs.declared.question.Question.{Question}
+use Rattle.desk_hearing.specs.declared.question.Question.TheVariants as questions
 
 -- ---- queries
 
-pub answers_without : (route : RouteValue) (query : List ℕ) (asked : asking.RouteQuestion) (question : Question) (result : Result Question JudgingFault)
-    → MatchResult result (λ same. (same ≡ question) × HasNoPair query) (λ fault. (fault ≡ faults.Refused BadQuery) × (HasNoPair query → ⊥))
-    → question_seen question ≡ asked → (HasNoPair query → QueryAsks route query asked) → ((other : asking.RouteQuestion) → QueryAsks route query other → HasNoPair query)
-    → AnswersQuery route query result
-answers_without route query asked question (Ok same) h e asks only = subst (λ q. QueryAsks route query q) (sym (ap question_seen h.0 ∙ e)) (asks h.1)
-answers_without route query asked question (Err fault) h e asks only =
-    subst (λ f. AnswersQuery route query (Err f)) (sym h.0) (refl, λ other x. h.1 (only other x))
+-- a query that asks something is one that its route may have
+allowed : (route : Route) (query : List ℕ) (question : Question) → QueryAsks route query question → AllowsQuery route query
+allowed routes.Deposit query question h = tt
+allowed routes.List query question h = tt
+allowed route query question h = h.0
+
+pub keys_refused : (route : Route) (query : List ℕ) (fault : QueryFault) → IsRefusedQuery route query → fault ≡ queries.BadQuery
+    → AnswersQuery route query (Err (fault_of_query fault))
+keys_refused route query queries.BadQuery none e = (refl, λ question x. none (allowed route query question x))
+keys_refused route query queries.Memory none e = tt
 
 pub listing_refused : (query : List ℕ) (fault : QueryFault) → (fault ≡ queries.BadQuery → (listing : Listing) → AsksListing (query_pairs query) listing → ⊥)
-    → AnswersQuery routes.list_deposits query (Err (fault_of_query fault))
+    → AnswersQuery routes.List query (Err (fault_of_query fault))
 listing_refused query queries.BadQuery h = (refl, λ question x. h refl x.0 x.1)
 listing_refused query queries.Memory h = tt
 
 pub deposit_refused : (query : List ℕ) (fault : QueryFault) → (fault ≡ queries.BadQuery → (deposit : DepositQuery) → DescribesDeposit (query_pairs query) deposit → ⊥)
-    → AnswersQuery routes.deposit_bag query (Err (fault_of_query fault))
+    → AnswersQuery routes.Deposit query (Err (fault_of_query fault))
 deposit_refused query queries.BadQuery h = (refl, λ question x. h refl x.0 x.1)
 deposit_refused query queries.Memory h = tt
 
 -- ---- bodies
 
 pub years_refused : (name body : List ℕ) (fault : BodyFault) → (fault ≡ bodies.BadBody → (years : Option ℕ) → SaysYears body years → ⊥)
-    → AnswersBody (of_class name) body (Err (fault_of_body fault))
-years_refused name body bodies.BadBody h = (refl, λ asked x. h refl x.0 x.1)
+    → AnswersBody (questions.Class name) body (Err (fault_of_body fault))
+years_refused name body bodies.BadBody h = (refl, λ ask x. h refl x.0 x.1)
 years_refused name body bodies.Memory h = tt
 
 pub hold_refused : (body : List ℕ) (fault : BodyFault) → (fault ≡ bodies.BadBody → (hold : HoldBody) → SaysHold body hold → ⊥)
-    → AnswersBody of_hold body (Err (fault_of_body fault))
-hold_refused body bodies.BadBody h = (refl, λ asked x. h refl x.0 x.1)
+    → AnswersBody questions.Hold body (Err (fault_of_body fault))
+hold_refused body bodies.BadBody h = (refl, λ ask x. h refl x.0 x.1)
 hold_refused body bodies.Memory h = tt
 
-pub body_refused : (known : Asked) (body : List ℕ) (fault : BodyFault) → (body ≡ [] → ⊥) → fault ≡ bodies.BadBody
-    → AnswersBody (of_all known) body (Err (fault_of_body fault))
-body_refused known body bodies.BadBody some e = (refl, λ asked x. some x.0)
+pub body_refused : (known : Ask) (body : List ℕ) (fault : BodyFault) → (body ≡ [] → ⊥) → fault ≡ bodies.BadBody
+    → AnswersBody (questions.Whole known) body (Err (fault_of_body fault))
+body_refused known body bodies.BadBody some e = (refl, λ ask x. some x.0)
 body_refused known body bodies.Memory some e = tt
 
 -- ---- fronts
 
-pub asked_route : (contents : HeadContents) (path : List ℕ) (found : Result RouteValue DeskRefusal) → path ≡ path_part contents.target
+pub asked_route : (contents : HeadContents) (path : List ℕ) (found : Result Route DeskRefusal) → path ≡ path_part contents.target
     → route_of contents.method path ≡ found → route_asked contents ≡ found
 unfolding route_asked
 asked_route contents path found e f = ap (route_of contents.method) (sym e) ∙ f
 
-no_cut_route : (found : Option RouteValue) (refusal other : DeskRefusal) → other ≢ Truncated → ok_or found other ≡ Err refusal → refusal ≢ Truncated
+no_cut_route : (found : Option Route) (refusal other : DeskRefusal) → other ≢ Truncated → ok_or found other ≡ Err refusal → refusal ≢ Truncated
 no_cut_route (Some route) refusal other uncut e = absurd (cc)
 no_cut_route None refusal other uncut e = λ t. uncut (cc)
 
-no_cut_place : (method : List ℕ) (place : Option PlaceValue) (refusal : DeskRefusal) → route_of_place method place ≡ Err refusal → refusal ≢ Truncated
+no_cut_place : (method : List ℕ) (place : Option Place) (refusal : DeskRefusal) → route_of_place method place ≡ Err refusal → refusal ≢ Truncated
 no_cut_place method None refusal e = λ t. let wrong : NoRoute ≡ Truncated = cc in cc
-no_cut_place method (Some place) refusal e = no_cut_route (option_and_then (λ m. routes.route_at m place) (routes.method_of method)) refusal (Method (pattern_of place)) (λ t. cc) e
+no_cut_place method (Some place) refusal e = no_cut_route (option_and_then (λ m. route_at m place) (method_of method)) refusal (Method (pattern_of place)) (λ t. cc) e
 
 pub route_uncut : (method path : List ℕ) (refusal : DeskRefusal) → route_of method path ≡ Err refusal → refusal ≢ Truncated
 route_uncut method path refusal e = no_cut_place method (place_named path) refusal e
@@ -93,7 +98,7 @@ head_uncut heads.BadLength = λ e. cc
 head_uncut heads.TooLarge = λ e. cc
 head_uncut heads.TwoCallers = λ e. cc
 
-pub query_uncut : (route : RouteValue) (query : List ℕ) (fault : JudgingFault) → AnswersQuery route query (Err fault) → fault ≢ faults.Refused Truncated
+pub query_uncut : (route : Route) (query : List ℕ) (fault : JudgingFault) → AnswersQuery route query (Err fault) → fault ≢ faults.Refused Truncated
 query_uncut route query (faults.Refused refusal) h = λ e. let bad = h.0 in let wrong : BadQuery ≡ Truncated = cc in cc
 query_uncut route query faults.Memory h = λ e. cc
 
@@ -104,18 +109,18 @@ pub route_refused : (front rest : List ℕ) (contents : HeadContents) (refusal :
     → HearsFront front rest (Err refusal)
 route_refused front rest contents refusal judged e = (Ok contents, judged, subst (λ found. HearsRoute contents found rest (Err refusal)) (sym e) refl)
 
-pub query_refused : (front query : List ℕ) (contents : HeadContents) (route : RouteValue) (fault : JudgingFault) → Judges front (Ok contents) → route_asked contents ≡ Ok route
+pub query_refused : (front query : List ℕ) (contents : HeadContents) (route : Route) (fault : JudgingFault) → Judges front (Ok contents) → route_asked contents ≡ Ok route
     → query ≡ query_part contents.target → AnswersQuery route query (Err fault) → AnswersFront front (Err fault)
 query_refused front query contents route (faults.Refused refusal) judged e q h = λ rest.
-    let none = subst (λ text. (question : asking.RouteQuestion) → QueryAsks route text question → ⊥) q h.1 in
+    let none = subst (λ text. (question : Question) → QueryAsks route text question → ⊥) q h.1 in
     (Ok contents, judged, subst (λ found. HearsRoute contents found rest (Err refusal)) (sym e) (inr (none, ap Err h.0)))
 query_refused front query contents route faults.Memory judged e q h = tt
 
-pub front_announced : (front query : List ℕ) (contents : HeadContents) (route : RouteValue) (announced : Announced) → Judges front (Ok contents) → route_asked contents ≡ Ok route
-    → query ≡ query_part contents.target → QueryAsks route query (question_seen announced.question) → announced.caller ≡ contents.caller → announced.body_length ≡ contents.body_length
+pub front_announced : (front query : List ℕ) (contents : HeadContents) (route : Route) (announced : Announced) → Judges front (Ok contents) → route_asked contents ≡ Ok route
+    → query ≡ query_part contents.target → QueryAsks route query announced.question → announced.caller ≡ contents.caller → announced.body_length ≡ contents.body_length
     → AnswersFront front (Ok announced)
 front_announced front query contents route announced judged e q asks caller count = λ rest hearing h.
-    let asked = subst (λ text. QueryAsks route text (question_seen announced.question)) q asks in
-    let by_caller = subst (λ name. HearsRest name (question_seen announced.question) announced.body_length rest hearing) caller h in
-    let by_count = subst (λ n. HearsRest contents.caller (question_seen announced.question) n rest hearing) count by_caller in
-    (Ok contents, judged, subst (λ found. HearsRoute contents found rest hearing) (sym e) (inl (question_seen announced.question, asked, by_count)))
+    let asked = subst (λ text. QueryAsks route text announced.question) q asks in
+    let by_caller = subst (λ name. HearsRest name announced.question announced.body_length rest hearing) caller h in
+    let by_count = subst (λ n. HearsRest contents.caller announced.question n rest hearing) count by_caller in
+    (Ok contents, judged, subst (λ found. HearsRoute contents found rest hearing) (sym e) (inl (announced.question, asked, by_count)))

@@ -9,56 +9,45 @@ use Rattle.desk_heads.specs.declared.refusal.HeadRefusal.{HeadRefusal}
 use Rattle.desk_heads.proofs.StepLemmas.{one_judgement}
 use Rattle.desk_forms.specs.Queries.{query_pairs}
 use Rattle.desk_forms.specs.declared.query.Listing.{Listing}
-use Rattle.desk_forms.specs.declared.query.DepositQuery.{DepositQuery}
 use Rattle.desk_forms.proofs.SayingLemmas.{one_listing, one_deposit_query, one_years, one_hold}
-use Rattle.desk_routes.specs.Table.{RouteValue}
-use Rattle.desk_routes.specs.Table as routes
 use Rattle.desk_routes.specs.Targets.{query_part}
 use Rattle.desk_routes.specs.declared.refusal.DeskRefusal.{DeskRefusal}
-use Rattle.desk_hearing.specs.Asked.{Asked, define_class, list_deposits, caller_text}
-use Rattle.desk_hearing.specs.Asking.{RouteQuestion, of_class, of_deposit, of_hold, of_all, QueryAsks, BodyAsks, hold_asked}
+use Rattle.desk_routes.specs.declared.route.Route.{Route}
+use Rattle.desk_routes.specs.declared.route.Route.TheVariants as routes
+use Rattle.desk_hearing.specs.Asking.{QueryAsks, BodyAsks, hold_asked, heard_from}
 use Rattle.desk_hearing.specs.Hearing.{Hearing, HearsBody, HearsRest, HearsQuery, route_asked, HearsRoute, HearsHead, HearsFront, HearsAt, Hears}
+use Rattle.desk_hearing.specs.declared.ask.Ask.{Ask}
+use Rattle.desk_hearing.specs.declared.ask.Ask.TheVariants as asks
+use Rattle.desk_hearing.specs.declared.question.Question.{Question}
+use Rattle.desk_hearing.specs.declared.question.Question.TheVariants as questions
 
-one_asked : (question : RouteQuestion) (body : List ℕ) (a b : Asked) → BodyAsks question body a → BodyAsks question body b → a ≡ b
-one_asked (of_class name) body a b h k = h.2 ∙ ap (λ years. define_class name years) (one_years body h.0 k.0 h.1 k.1) ∙ sym k.2
-one_asked (of_deposit collection class accession closed) body a b h k = h ∙ sym k
-one_asked of_hold body a b h k = h.2 ∙ ap hold_asked (one_hold body h.0 k.0 h.1 k.1) ∙ sym k.2
-one_asked (of_all known) body a b h k = h.1 ∙ sym k.1
+one_ask : (question : Question) (body : List ℕ) (a b : Ask) → BodyAsks question body a → BodyAsks question body b → a ≡ b
+one_ask (questions.Class name) body a b h k = h.2 ∙ ap (λ years. asks.DefineClass name years) (one_years body h.0 k.0 h.1 k.1) ∙ sym k.2
+one_ask (questions.Deposit query) body a b h k = h ∙ sym k
+one_ask questions.Hold body a b h k = h.2 ∙ ap hold_asked (one_hold body h.0 k.0 h.1 k.1) ∙ sym k.2
+one_ask (questions.Whole known) body a b h k = h.1 ∙ sym k.1
 
-abbrev deposit_question : DepositQuery → RouteQuestion
-deposit_question deposit = of_deposit deposit.collection deposit.class deposit.accession deposit.closed
+abbrev list_question : Listing → Question
+list_question listing = questions.Whole (asks.List listing.collection listing.class)
 
-abbrev list_question : Listing → RouteQuestion
-list_question listing = of_all (list_deposits listing.collection listing.class)
+one_question : (route : Route) (query : List ℕ) (a b : Question) → QueryAsks route query a → QueryAsks route query b → a ≡ b
+one_question routes.Deposit query a b h k = h.2 ∙ ap questions.Deposit (one_deposit_query (query_pairs query) h.0 k.0 h.1 k.1) ∙ sym k.2
+one_question routes.List query a b h k = h.2 ∙ ap list_question (one_listing (query_pairs query) h.0 k.0 h.1 k.1) ∙ sym k.2
+one_question route query a b h k = h.1 ∙ sym k.1
 
-one_question : (route : RouteValue) (query : List ℕ) (a b : RouteQuestion) → QueryAsks route query a → QueryAsks route query b → a ≡ b
-one_question (routes.define_class name) query a b h k = h.1 ∙ sym k.1
-one_question (routes.define_collection name) query a b h k = h.1 ∙ sym k.1
-one_question routes.deposit_bag query a b h k = h.2 ∙ ap deposit_question (one_deposit_query (query_pairs query) h.0 k.0 h.1 k.1) ∙ sym k.2
-one_question routes.list_deposits query a b h k = h.2 ∙ ap list_question (one_listing (query_pairs query) h.0 k.0 h.1 k.1) ∙ sym k.2
-one_question (routes.record_of number) query a b h k = h.1 ∙ sym k.1
-one_question (routes.dispose number) query a b h k = h.1 ∙ sym k.1
-one_question (routes.holds_of number) query a b h k = h.1 ∙ sym k.1
-one_question (routes.download_bag number) query a b h k = h.1 ∙ sym k.1
-one_question (routes.download_file number path) query a b h k = h.1 ∙ sym k.1
-one_question (routes.audit_of number) query a b h k = h.1 ∙ sym k.1
-one_question routes.place_hold query a b h k = h.1 ∙ sym k.1
-one_question (routes.release number) query a b h k = h.1 ∙ sym k.1
-one_question routes.due_list query a b h k = h.1 ∙ sym k.1
-
-one_body : (caller : Option (List ℕ)) (question : RouteQuestion) (body : List ℕ) (a b : Hearing) → HearsBody caller question body a → HearsBody caller question body b → a ≡ b
-one_body caller question body a b (inl h) (inl k) = h.2 ∙ ap (λ asked. Ok (record { caller = caller_text caller; asked = asked })) (one_asked question body h.0 k.0 h.1 k.1) ∙ sym k.2
+one_body : (caller : Option (List ℕ)) (question : Question) (body : List ℕ) (a b : Hearing) → HearsBody caller question body a → HearsBody caller question body b → a ≡ b
+one_body caller question body a b (inl h) (inl k) = h.2 ∙ ap (λ ask. Ok (heard_from caller ask body)) (one_ask question body h.0 k.0 h.1 k.1) ∙ sym k.2
 one_body caller question body a b (inl h) (inr k) = absurd (k.0 h.0 h.1)
 one_body caller question body a b (inr h) (inl k) = absurd (h.0 k.0 k.1)
 one_body caller question body a b (inr h) (inr k) = h.1 ∙ sym k.1
 
-one_rest : (caller : Option (List ℕ)) (question : RouteQuestion) (count : ℕ) (rest : List ℕ) (a b : Hearing) → HearsRest caller question count rest a → HearsRest caller question count rest b → a ≡ b
+one_rest : (caller : Option (List ℕ)) (question : Question) (count : ℕ) (rest : List ℕ) (a b : Hearing) → HearsRest caller question count rest a → HearsRest caller question count rest b → a ≡ b
 one_rest caller question count rest a b (inl h) (inl k) = one_body caller question (take count rest) a b h.1 k.1
 one_rest caller question count rest a b (inl h) (inr k) = absurd (let fits = h.0 in let short = k.0 in omega arith)
 one_rest caller question count rest a b (inr h) (inl k) = absurd (let fits = k.0 in let short = h.0 in omega arith)
 one_rest caller question count rest a b (inr h) (inr k) = h.1 ∙ sym k.1
 
-one_query : (contents : HeadContents) (route : RouteValue) (rest : List ℕ) (a b : Hearing) → HearsQuery contents route rest a → HearsQuery contents route rest b → a ≡ b
+one_query : (contents : HeadContents) (route : Route) (rest : List ℕ) (a b : Hearing) → HearsQuery contents route rest a → HearsQuery contents route rest b → a ≡ b
 one_query contents route rest a b (inl h) (inl k) =
     let same = one_question route (query_part contents.target) k.0 h.0 k.1 h.1 in
     one_rest contents.caller h.0 contents.body_length rest a b h.2 (subst (λ question. HearsRest contents.caller question contents.body_length rest b) same k.2)
@@ -66,7 +55,7 @@ one_query contents route rest a b (inl h) (inr k) = absurd (k.0 h.0 h.1)
 one_query contents route rest a b (inr h) (inl k) = absurd (h.0 k.0 k.1)
 one_query contents route rest a b (inr h) (inr k) = h.1 ∙ sym k.1
 
-one_route : (contents : HeadContents) (found : Result RouteValue DeskRefusal) (rest : List ℕ) (a b : Hearing) → HearsRoute contents found rest a → HearsRoute contents found rest b → a ≡ b
+one_route : (contents : HeadContents) (found : Result Route DeskRefusal) (rest : List ℕ) (a b : Hearing) → HearsRoute contents found rest a → HearsRoute contents found rest b → a ≡ b
 one_route contents (Ok route) rest a b h k = one_query contents route rest a b h k
 one_route contents (Err refusal) rest a b h k = h ∙ sym k
 

@@ -14,18 +14,18 @@ use Rattle.desk_heads.specs.declared.reading.HeadBytes.{HeadBytes}
 use Rattle.desk_heads.specs.declared.place.HeadPlace.TheVariants as places
 use Rattle.desk_routes.specs.declared.refusal.DeskRefusal.{DeskRefusal}
 use Rattle.desk_routes.specs.declared.refusal.DeskRefusal.TheVariants.{TooLarge, Truncated, BadHead, Chunked, BadLength, TwoCallers, NoRoute, Method, BadQuery, BadBody}
-use Rattle.desk_hearing.specs.Asked.{HeardValue, asked_with, caller_text}
-use Rattle.desk_hearing.specs.Asking.{RouteQuestion}
+use Rattle.desk_hearing.specs.Asking.{HeardValue, heard_from}
 use Rattle.desk_hearing.specs.Faults.{fault_of_head, fault_of_fill, fault_of_judging}
 use Rattle.desk_hearing.specs.Hearing.{Hears}
 use Rattle.desk_hearing.specs.Reading.{HeardOf, HeardOfAll}
-use Rattle.desk_hearing.specs.View.{AnswersFront, AnswersBody}
+use Rattle.desk_hearing.specs.Steps.{AnswersFront, AnswersBody}
 use Rattle.desk_hearing.specs.declared.ask.Ask.{Ask}
 use Rattle.desk_hearing.specs.declared.fault.HeardFault.{HeardFault}
 use Rattle.desk_hearing.specs.declared.fault.HeardFault.TheVariants.{Refused, Read, Memory}
 use Rattle.desk_hearing.specs.declared.fault.JudgingFault.{JudgingFault}
 use Rattle.desk_hearing.specs.declared.fault.JudgingFault.TheVariants as judging
 use Rattle.desk_hearing.specs.declared.judging.Announced.{Announced}
+use Rattle.desk_hearing.specs.declared.question.Question.{Question}
 use Rattle.desk_hearing.proofs.HearingLemmas.{hears_large, hears_short, hears_here, hears_cut, hears_body, heard_of_all, heard_at_end, Announces}
 
 -- failures of the steps, at the types of their answers
@@ -62,7 +62,7 @@ consumed : (old middle new : Option (List ℕ)) (given more all : List ℕ) → 
 consumed old middle new given more all c e d = subst (Consumes old new) (sym e) (Consumes-trans old middle new given more c d)
 
 -- what is known once the head is judged and the reader was asked for the body
-pub record Filled (old new : Option (List ℕ)) (all : List ℕ) (n count : ℕ) (caller : Option (List ℕ)) (question : RouteQuestion) : Type 0 where
+pub record Filled (old new : Option (List ℕ)) (all : List ℕ) (n count : ℕ) (caller : Option (List ℕ)) (question : Question) : Type 0 where
   pub given : List ℕ
   pub more : List ℕ
   pub whole : all ≡ given ++ more
@@ -71,7 +71,7 @@ pub record Filled (old new : Option (List ℕ)) (all : List ℕ) (n count : ℕ)
   pub within : n ≤ length given
   pub announces : Announces (take n given) caller question count
 
-pub filled : (old middle new : Option (List ℕ)) (bytes given more all : List ℕ) (n count : ℕ) (caller : Option (List ℕ)) (question : RouteQuestion)
+pub filled : (old middle new : Option (List ℕ)) (bytes given more all : List ℕ) (n count : ℕ) (caller : Option (List ℕ)) (question : Question)
     → Consumes old middle given → bytes ≡ given → head_at given ≡ places.Found n → n ≤ length bytes → Announces (take n bytes) caller question count
     → all ≡ bytes ++ more → Consumes middle new more → Filled old new all n count caller question
 filled old middle new bytes given more all n count caller question c e found within announces whole d = record {
@@ -84,34 +84,33 @@ filled old middle new bytes given more all n count caller question c e found wit
   announces = subst (λ l. Announces (take n l) caller question count) e announces;
 }
 
-pub cut_given : (old new : Option (List ℕ)) (all : List ℕ) (n count : ℕ) (caller : Option (List ℕ)) (question : RouteQuestion) → Filled old new all n count caller question → length all < n + count
+pub cut_given : (old new : Option (List ℕ)) (all : List ℕ) (n count : ℕ) (caller : Option (List ℕ)) (question : Question) → Filled old new all n count caller question → length all < n + count
     → (given : List ℕ) × Consumes old new given × Hears given (Err Truncated)
 cut_given old new all n count caller question f short = (all, f.consumed, hears_cut f.given f.more all n count caller question f.whole f.found f.within f.announces short)
 
-pub fill_given : (fault : FillFault) (old new : Option (List ℕ)) (all : List ℕ) (n count : ℕ) (caller : Option (List ℕ)) (question : RouteQuestion)
+pub fill_given : (fault : FillFault) (old new : Option (List ℕ)) (all : List ℕ) (n count : ℕ) (caller : Option (List ℕ)) (question : Question)
     → (fault ≢ fills.Memory → Filled old new all n count caller question) → length all < n + count → GivenTo old new (Err (fault_of_fill fault))
 fill_given fills.Truncated old new all n count caller question h short = λ remembered. cut_given old new all n count caller question (h (λ e. cc)) short
 fill_given fills.Read old new all n count caller question h short = λ remembered. cut_given old new all n count caller question (h (λ e. cc)) short
 fill_given fills.Memory old new all n count caller question h short = λ remembered. absurd (remembered refl)
 
-pub ask_given : (fault : JudgingFault) (old new : Option (List ℕ)) (all body : List ℕ) (n count : ℕ) (caller : Option (List ℕ)) (question : RouteQuestion) → Filled old new all n count caller question
+pub ask_given : (fault : JudgingFault) (old new : Option (List ℕ)) (all body : List ℕ) (n count : ℕ) (caller : Option (List ℕ)) (question : Question) → Filled old new all n count caller question
     → n + count ≤ length all → body ≡ take count (drop n all) → AnswersBody question body (Err fault) → GivenTo old new (Err (fault_of_judging fault))
 ask_given (judging.Refused refusal) old new all body n count caller question f long e h = λ remembered.
     let refused = subst (λ l. AnswersBody question l (Err (judging.Refused refusal))) e h in
     (all, f.consumed, hears_body f.given f.more all n count caller question (Err refusal) f.whole f.found f.within f.announces long (inr (refused.1, ap Err refused.0)))
 ask_given judging.Memory old new all body n count caller question f long e h = λ remembered. absurd (remembered refl)
 
-pub heard_given : (old new : Option (List ℕ)) (all body kept : List ℕ) (n count : ℕ) (caller : Option (List ℕ)) (question : RouteQuestion) (ask : Ask) → Filled old new all n count caller question
+pub heard_given : (old new : Option (List ℕ)) (all body kept : List ℕ) (n count : ℕ) (caller : Option (List ℕ)) (question : Question) (ask : Ask) → Filled old new all n count caller question
     → n + count ≤ length all → body ≡ take count (drop n all) → kept ≡ take (n + count) all → AnswersBody question body (Ok ask)
-    → GivenTo old new (Ok (record { caller = caller_text caller; asked = asked_with ask (drop n kept) }))
+    → GivenTo old new (Ok (heard_from caller ask (drop n kept)))
 heard_given old new all body kept n count caller question ask f long e k h = λ remembered.
-    let part : drop n kept ≡ body = ap (drop n) k ∙ drop-take n count all ∙ sym e in
-    let asks = subst (λ l. AnswersBody question l (Ok ask)) e h in
-    let same : asked_with ask (take count (drop n all)) ≡ asked_with ask (drop n kept) = ap (asked_with ask) (sym (part ∙ e)) in (
+    let same : drop n kept ≡ take count (drop n all) = ap (drop n) k ∙ drop-take n count all in
+    let asks = subst (λ l. AnswersBody question l (Ok ask)) e h in (
       all,
       f.consumed,
       hears_body f.given f.more all n count caller question _ f.whole f.found f.within f.announces long
-          (inl (asked_with ask (take count (drop n all)), asks, ap (λ asked. Ok (record { caller = caller_text caller; asked = asked })) (sym same))),
+          (inl (ask, asks, ap (λ l. Ok (heard_from caller ask l)) same)),
     )
 
 -- ---- of all that the reader has
@@ -159,7 +158,7 @@ fill_end fills.Truncated new h e = h refl
 fill_end fills.Read new h e = absurd (cc)
 fill_end fills.Memory new h e = absurd (cc)
 
-pub ask_uncut : (fault : JudgingFault) (question : RouteQuestion) (body : List ℕ) → AnswersBody question body (Err fault) → unheard (fault_of_judging fault) ≢ unheard (Refused Truncated)
+pub ask_uncut : (fault : JudgingFault) (question : Question) (body : List ℕ) → AnswersBody question body (Err fault) → unheard (fault_of_judging fault) ≢ unheard (Refused Truncated)
 ask_uncut (judging.Refused refusal) question body h = λ e. let bad = h.0 in let wrong : BadBody ≡ Truncated = cc in cc
 ask_uncut judging.Memory question body h = λ e. cc
 

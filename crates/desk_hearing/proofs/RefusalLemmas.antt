@@ -11,18 +11,19 @@ use Rattle.desk_heads.specs.Heads.{HeadContents, Judges}
 use Rattle.desk_heads.specs.declared.refusal.HeadRefusal.{HeadRefusal}
 use Rattle.desk_heads.specs.declared.refusal.HeadRefusal.TheVariants as heads
 use Rattle.desk_heads.proofs.StepLemmas.{refused_first, first_refused}
-use Rattle.desk_routes.specs.Places.{PlaceValue, pattern_of}
+use Rattle.desk_routes.specs.Places.{pattern_of}
 use Rattle.desk_routes.specs.PathReading.{place_named}
-use Rattle.desk_routes.specs.Table.{RouteValue, route_of, route_of_place}
-use Rattle.desk_routes.specs.Table as routes
+use Rattle.desk_routes.specs.Table.{method_of, route_at, route_of, route_of_place}
 use Rattle.desk_routes.specs.Targets.{path_part}
-use Rattle.desk_routes.specs.declared.pattern.Pattern.{Pattern}
+use Rattle.desk_routes.specs.declared.place.Pattern.{Pattern}
+use Rattle.desk_routes.specs.declared.place.Place.{Place}
 use Rattle.desk_routes.specs.declared.refusal.DeskRefusal.{DeskRefusal}
 use Rattle.desk_routes.specs.declared.refusal.DeskRefusal.TheVariants.{TooLarge, Truncated, BadHead, Chunked, BadLength, TwoCallers, NoRoute, Method, BadQuery, BadBody}
+use Rattle.desk_routes.specs.declared.route.Route.{Route}
 use Rattle.desk_routes.proofs.TableLemmas.{asked-found, nothing-named, named-nothing, method-refused, refused-method}
-use Rattle.desk_hearing.specs.Asking.{RouteQuestion}
 use Rattle.desk_hearing.specs.Hearing.{Hearing, refusal_of_head, HearsBody, HearsRest, HearsQuery, route_asked, HearsRoute, HearsHead, HearsFront, HearsAt, Hears}
 use Rattle.desk_hearing.specs.Refused.{BeginsWithHead, TakesHead, TakesRoute, TakesQuery, RefusesHead, IsRefused}
+use Rattle.desk_hearing.specs.declared.question.Question.{Question}
 use Rattle.desk_hearing.proofs.HearingLemmas.{hears_large, hears_short}
 use Rattle.desk_hearing.proofs.JudgingLemmas.{asked_route, head_refused, route_refused}
 use Rattle.desk_hearing.proofs.RequestLemmas.{route_asks}
@@ -40,15 +41,15 @@ head_is_refused input heads.TooLarge h = inr h
 head_is_refused input heads.TwoCallers h = h
 
 -- no route is refused for another reason than these
-or_fault : (found : Option RouteValue) (refusal other : DeskRefusal) → ok_or found other ≡ Err refusal → refusal ≡ other
+or_fault : (found : Option Route) (refusal other : DeskRefusal) → ok_or found other ≡ Err refusal → refusal ≡ other
 or_fault (Some route) refusal other e = absurd (cc)
 or_fault None refusal other e = cc
 
-place_fault : (method : List ℕ) (place : Option PlaceValue) (refusal : DeskRefusal) → route_of_place method place ≡ Err refusal
+place_fault : (method : List ℕ) (place : Option Place) (refusal : DeskRefusal) → route_of_place method place ≡ Err refusal
     → (refusal ≡ NoRoute) ⊎ ((pattern : Pattern) × (refusal ≡ Method pattern))
 place_fault method None refusal e = inl (cc)
 place_fault method (Some place) refusal e =
-    inr (pattern_of place, or_fault (option_and_then (λ m. routes.route_at m place) (routes.method_of method)) refusal (Method (pattern_of place)) e)
+    inr (pattern_of place, or_fault (option_and_then (λ m. route_at m place) (method_of method)) refusal (Method (pattern_of place)) e)
 
 route_fault : (input : List ℕ) (contents : HeadContents) (rest : List ℕ) (refusal : DeskRefusal) → TakesHead input contents rest
     → route_of contents.method (path_part contents.target) ≡ Err refusal → IsRefused input refusal
@@ -57,7 +58,7 @@ route_fault input contents rest refusal took e = elim (place_fault contents.meth
   | inr some ↦ refused_as input refusal (Method some.0) some.1 (contents, rest, took, method-refused contents.method (path_part contents.target) some.0 (e ∙ ap Err some.1))
 ]
 
-refused_body : (input : List ℕ) (contents : HeadContents) (question : RouteQuestion) (rest : List ℕ) (refusal : DeskRefusal) → TakesQuery input contents question rest
+refused_body : (input : List ℕ) (contents : HeadContents) (question : Question) (rest : List ℕ) (refusal : DeskRefusal) → TakesQuery input contents question rest
     → contents.body_length ≤ length rest → HearsBody contents.caller question (take contents.body_length rest) (Err refusal) → IsRefused input refusal
 refused_body input contents question rest refusal asks fits (inl h) = absurd (let e = h.2 in cc)
 refused_body input contents question rest refusal asks fits (inr h) =
@@ -75,25 +76,25 @@ refused_body input contents question rest refusal asks fits (inr h) =
       h.0,
     )
 
-refused_rest : (input : List ℕ) (contents : HeadContents) (question : RouteQuestion) (rest : List ℕ) (refusal : DeskRefusal) → TakesQuery input contents question rest
+refused_rest : (input : List ℕ) (contents : HeadContents) (question : Question) (rest : List ℕ) (refusal : DeskRefusal) → TakesQuery input contents question rest
     → HearsRest contents.caller question contents.body_length rest (Err refusal) → IsRefused input refusal
 refused_rest input contents question rest refusal asks (inl h) = refused_body input contents question rest refusal asks h.0 h.1
 refused_rest input contents question rest refusal asks (inr h) =
     let e = h.1 in refused_as input refusal Truncated (cc) (inr (contents, question, rest, asks, h.0))
 
-refused_query : (input : List ℕ) (contents : HeadContents) (route : RouteValue) (rest : List ℕ) (refusal : DeskRefusal) → TakesRoute input contents route rest
+refused_query : (input : List ℕ) (contents : HeadContents) (route : Route) (rest : List ℕ) (refusal : DeskRefusal) → TakesRoute input contents route rest
     → HearsQuery contents route rest (Err refusal) → IsRefused input refusal
 refused_query input contents route rest refusal found (inl h) =
     refused_rest input contents h.0 rest refusal (record { route = route; found = found; query = h.1 }) h.2
 refused_query input contents route rest refusal found (inr h) =
     let e = h.1 in refused_as input refusal BadQuery (cc) (contents, route, rest, found, h.0)
 
-asked_is : (contents : HeadContents) (found : Result RouteValue DeskRefusal) → route_asked contents ≡ found → route_of contents.method (path_part contents.target) ≡ found
+asked_is : (contents : HeadContents) (found : Result Route DeskRefusal) → route_asked contents ≡ found → route_of contents.method (path_part contents.target) ≡ found
 unfolding route_asked
 asked_is contents found e = e
 
 refused_route : (input : List ℕ) (contents : HeadContents) (rest : List ℕ) (refusal : DeskRefusal) → TakesHead input contents rest
-    → (found : Result RouteValue DeskRefusal) → route_asked contents ≡ found → HearsRoute contents found rest (Err refusal) → IsRefused input refusal
+    → (found : Result Route DeskRefusal) → route_asked contents ≡ found → HearsRoute contents found rest (Err refusal) → IsRefused input refusal
 refused_route input contents rest refusal took (Ok route) e h =
     refused_query input contents route rest refusal (record { head = took; asks = route_asks contents route e }) h
 refused_route input contents rest refusal took (Err fault) e h =
@@ -144,7 +145,7 @@ hears_no_route input contents rest refusal took e =
     hears_parts input took.head rest _ took.begins (route_refused took.head rest contents refusal took.says (asked_route contents _ _ refl e))
 
 -- an input on a route is heard as its query is
-hears_query : (input : List ℕ) (contents : HeadContents) (route : RouteValue) (rest : List ℕ) (hearing : Hearing) → TakesRoute input contents route rest
+hears_query : (input : List ℕ) (contents : HeadContents) (route : Route) (rest : List ℕ) (hearing : Hearing) → TakesRoute input contents route rest
     → HearsQuery contents route rest hearing → Hears input hearing
 hears_query input contents route rest hearing found h =
     let took = found.head in
@@ -152,11 +153,11 @@ hears_query input contents route rest hearing found h =
     hears_parts input took.head rest hearing took.begins (Ok contents, took.says, subst (λ r. HearsRoute contents r rest hearing) (sym asked) h)
 
 -- an input that asks a question is heard as what follows its head is
-hears_rest : (input : List ℕ) (contents : HeadContents) (question : RouteQuestion) (rest : List ℕ) (hearing : Hearing) → TakesQuery input contents question rest
+hears_rest : (input : List ℕ) (contents : HeadContents) (question : Question) (rest : List ℕ) (hearing : Hearing) → TakesQuery input contents question rest
     → HearsRest contents.caller question contents.body_length rest hearing → Hears input hearing
 hears_rest input contents question rest hearing asks h = hears_query input contents asks.route rest hearing asks.found (inl (question, asks.query, h))
 
-whole_body : (caller : Option (List ℕ)) (question : RouteQuestion) (body behind : List ℕ) (count : ℕ) (hearing : Hearing) → length body ≡ count
+whole_body : (caller : Option (List ℕ)) (question : Question) (body behind : List ℕ) (count : ℕ) (hearing : Hearing) → length body ≡ count
     → HearsBody caller question body hearing → HearsRest caller question count (body ++ behind) hearing
 whole_body caller question body behind count hearing e h =
     let fits : count ≤ length (body ++ behind) = (let l = length-append body behind in omega arith) in

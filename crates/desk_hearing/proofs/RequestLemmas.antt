@@ -9,38 +9,40 @@ use Rattle.desk_heads.specs.declared.place.HeadPlace.TheVariants as places
 use Rattle.desk_heads.proofs.EndLaws.{found_first, first_found}
 use Rattle.desk_heads.specs.Heads.{HeadContents, Judges}
 use Rattle.desk_heads.specs.declared.refusal.HeadRefusal.{HeadRefusal}
-use Rattle.desk_routes.specs.Table.{RouteValue, AsksFor}
+use Rattle.desk_routes.specs.Table.{AsksFor}
 use Rattle.desk_routes.specs.Targets.{path_part, query_part}
 use Rattle.desk_routes.specs.declared.refusal.DeskRefusal.{DeskRefusal}
+use Rattle.desk_routes.specs.declared.route.Route.{Route}
 use Rattle.desk_routes.proofs.TableLemmas.{asked-found, found-asked}
-use Rattle.desk_hearing.specs.Asked.{HeardValue, caller_text}
-use Rattle.desk_hearing.specs.Asking.{RouteQuestion, QueryAsks, BodyAsks}
+use Rattle.desk_hearing.specs.Asking.{HeardValue, bag_in, caller_text, heard_from, QueryAsks, BodyAsks}
 use Rattle.desk_hearing.specs.Hearing.{HearsBody, HearsRest, HearsQuery, route_asked, HearsRoute, HearsHead, HearsFront, HearsAt, Hears}
 use Rattle.desk_hearing.specs.Requests.{SpellsRequest}
+use Rattle.desk_hearing.specs.declared.question.Question.{Question}
 use Rattle.desk_hearing.proofs.JudgingLemmas.{asked_route}
 
 -- ---- what is heard is a request
 
-heard_body : (caller : Option (List ℕ)) (question : RouteQuestion) (body : List ℕ) (heard : HeardValue) → HearsBody caller question body (Ok heard)
-    → BodyAsks question body heard.asked × (heard.caller ≡ caller_text caller)
+heard_body : (caller : Option (List ℕ)) (question : Question) (body : List ℕ) (heard : HeardValue) → HearsBody caller question body (Ok heard)
+    → BodyAsks question body heard.ask × (heard.bag ≡ bag_in heard.ask body) × (heard.caller ≡ caller_text caller)
 heard_body caller question body heard (inl h) =
     let e = h.2 in
-    let same : heard ≡ record { caller = caller_text caller; asked = h.0 } = cc in
-    (subst (BodyAsks question body) (sym (ap (λ v. v.asked) same)) h.1, ap (λ v. v.caller) same)
+    let same : heard ≡ heard_from caller h.0 body = cc in
+    let ask = ap (λ v. v.ask) same in
+    (subst (BodyAsks question body) (sym ask) h.1, ap (λ v. v.bag) same ∙ ap (λ a. bag_in a body) (sym ask), ap (λ v. v.caller) same)
 heard_body caller question body heard (inr h) = absurd (let e = h.1 in cc)
 
-heard_rest : (caller : Option (List ℕ)) (question : RouteQuestion) (count : ℕ) (rest : List ℕ) (heard : HeardValue) → HearsRest caller question count rest (Ok heard)
+heard_rest : (caller : Option (List ℕ)) (question : Question) (count : ℕ) (rest : List ℕ) (heard : HeardValue) → HearsRest caller question count rest (Ok heard)
     → (count ≤ length rest) × HearsBody caller question (take count rest) (Ok heard)
 heard_rest caller question count rest heard (inl h) = h
 heard_rest caller question count rest heard (inr h) = absurd (let e = h.1 in cc)
 
-heard_query : (contents : HeadContents) (route : RouteValue) (rest : List ℕ) (heard : HeardValue) → HearsQuery contents route rest (Ok heard)
-    → (question : RouteQuestion) × QueryAsks route (query_part contents.target) question × HearsRest contents.caller question contents.body_length rest (Ok heard)
+heard_query : (contents : HeadContents) (route : Route) (rest : List ℕ) (heard : HeardValue) → HearsQuery contents route rest (Ok heard)
+    → (question : Question) × QueryAsks route (query_part contents.target) question × HearsRest contents.caller question contents.body_length rest (Ok heard)
 heard_query contents route rest heard (inl h) = h
 heard_query contents route rest heard (inr h) = absurd (let e = h.1 in cc)
 
-heard_route : (contents : HeadContents) (found : Result RouteValue DeskRefusal) (rest : List ℕ) (heard : HeardValue) → HearsRoute contents found rest (Ok heard)
-    → (route : RouteValue) × (found ≡ Ok route) × HearsQuery contents route rest (Ok heard)
+heard_route : (contents : HeadContents) (found : Result Route DeskRefusal) (rest : List ℕ) (heard : HeardValue) → HearsRoute contents found rest (Ok heard)
+    → (route : Route) × (found ≡ Ok route) × HearsQuery contents route rest (Ok heard)
 heard_route contents (Ok route) rest heard h = (route, refl, h)
 heard_route contents (Err refusal) rest heard h = absurd (cc)
 
@@ -55,7 +57,7 @@ heard_at (places.Found n) input heard h = (n, refl, h)
 heard_at places.TooLarge input heard h = absurd (cc)
 heard_at places.Short input heard h = absurd (cc)
 
-pub route_asks : (contents : HeadContents) (route : RouteValue) → route_asked contents ≡ Ok route → AsksFor contents.method (path_part contents.target) route
+pub route_asks : (contents : HeadContents) (route : Route) → route_asked contents ≡ Ok route → AsksFor contents.method (path_part contents.target) route
 unfolding route_asked
 route_asks contents route e = found-asked contents.method (path_part contents.target) route e
 
@@ -81,23 +83,24 @@ heard_spells input heard h =
       head = subst (IsHeadEnd input) (sym (length-take-le n input is.within)) is;
       contents = contents;
       says = subst (Judges (take n input)) head.1 front.1;
-      caller = said.1;
+      caller = said.2;
       route = route.0;
       asks = route_asks contents route.0 route.1;
       question = query.0;
       query = query.1;
       body_length = length-take-le contents.body_length rest body.0;
       asked = said.0;
+      bag = said.1;
     }
 
 -- ---- a request is heard
 
-spelled_body : (caller : Option (List ℕ)) (question : RouteQuestion) (body behind : List ℕ) (count : ℕ) (heard : HeardValue) → length body ≡ count → BodyAsks question body heard.asked → heard.caller ≡ caller_text caller
+spelled_body : (caller : Option (List ℕ)) (question : Question) (body behind : List ℕ) (count : ℕ) (heard : HeardValue) → length body ≡ count → BodyAsks question body heard.ask → heard.bag ≡ bag_in heard.ask body → heard.caller ≡ caller_text caller
     → HearsRest caller question count (body ++ behind) (Ok heard)
-spelled_body caller question body behind count heard e asked same =
+spelled_body caller question body behind count heard e asked bag same =
     let fits : count ≤ length (body ++ behind) = (let l = length-append body behind in omega arith) in
     let part : body ≡ take count (body ++ behind) = sym (take-append_seam body behind) ∙ ap (λ n. take n (body ++ behind)) e in
-    inl (fits, subst (λ l. HearsBody caller question l (Ok heard)) part (inl (heard.asked, asked, ap (λ name. Ok (record { caller = name; asked = heard.asked })) same)))
+    inl (fits, subst (λ l. HearsBody caller question l (Ok heard)) part (inl (heard.ask, asked, ap (λ name. Ok (record { caller = name; ask = heard.ask; bag = heard.bag })) same ∙ ap (λ b. Ok (record { caller = caller_text caller; ask = heard.ask; bag = b })) bag)))
 
 pub spelled_hears : (input : List ℕ) (heard : HeardValue) → SpellsRequest input heard → Hears input (Ok heard)
 unfolding Hears
@@ -106,7 +109,7 @@ spelled_hears input heard s =
     let found = first_found input n s.head in
     let front : s.front ≡ take n input = sym (take-append_seam s.front (s.body ++ s.behind)) ∙ ap (take n) (sym s.parts) in
     let rest : s.body ++ s.behind ≡ drop n input = sym (drop-append_seam s.front (s.body ++ s.behind)) ∙ ap (drop n) (sym s.parts) in
-    let body = spelled_body s.contents.caller s.question s.body s.behind s.contents.body_length heard s.body_length s.asked s.caller in
+    let body = spelled_body s.contents.caller s.question s.body s.behind s.contents.body_length heard s.body_length s.asked s.bag s.caller in
     let route = asked_route s.contents (path_part s.contents.target) (Ok s.route) refl (asked-found s.contents.method (path_part s.contents.target) s.route s.asks) in
     let here : HearsFront s.front (s.body ++ s.behind) (Ok heard) =
     (Ok s.contents, s.says, subst (λ r. HearsRoute s.contents r (s.body ++ s.behind) (Ok heard)) (sym route) (inl (s.question, s.query, body))) in

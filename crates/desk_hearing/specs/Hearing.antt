@@ -6,12 +6,14 @@ use Rattle.desk_heads.specs.declared.place.HeadPlace.TheVariants as places
 use Rattle.desk_heads.specs.Heads.{HeadContents, Judges}
 use Rattle.desk_heads.specs.declared.refusal.HeadRefusal.{HeadRefusal}
 use Rattle.desk_heads.specs.declared.refusal.HeadRefusal.TheVariants as heads
-use Rattle.desk_routes.specs.Table.{RouteValue, route_of}
+use Rattle.desk_routes.specs.Table.{route_of}
 use Rattle.desk_routes.specs.Targets.{path_part, query_part}
 use Rattle.desk_routes.specs.declared.refusal.DeskRefusal.{DeskRefusal}
 use Rattle.desk_routes.specs.declared.refusal.DeskRefusal.TheVariants.{TooLarge, Truncated, BadHead, Chunked, BadLength, TwoCallers, BadQuery, BadBody}
-use Rattle.desk_hearing.specs.Asked.{Asked, HeardValue, caller_text}
-use Rattle.desk_hearing.specs.Asking.{RouteQuestion, QueryAsks, BodyAsks}
+use Rattle.desk_routes.specs.declared.route.Route.{Route}
+use Rattle.desk_hearing.specs.Asking.{HeardValue, heard_from, QueryAsks, BodyAsks}
+use Rattle.desk_hearing.specs.declared.ask.Ask.{Ask}
+use Rattle.desk_hearing.specs.declared.question.Question.{Question}
 
 -- who asks what, or why that is refused
 abbrev pub Hearing : Type 0
@@ -26,29 +28,29 @@ refusal_of_head heads.TooLarge = TooLarge
 refusal_of_head heads.TwoCallers = TwoCallers
 
 -- the body: it asks something, or is refused
-abbrev pub HearsBody : Option (List ℕ) → RouteQuestion → List ℕ → Hearing → Type 0
+abbrev pub HearsBody : Option (List ℕ) → Question → List ℕ → Hearing → Type 0
 HearsBody caller question body hearing =
-    ((asked : Asked) × BodyAsks question body asked × (hearing ≡ Ok (record { caller = caller_text caller; asked = asked })))
-    ⊎ (((asked : Asked) → BodyAsks question body asked → ⊥) × (hearing ≡ Err BadBody))
+    ((ask : Ask) × BodyAsks question body ask × (hearing ≡ Ok (heard_from caller ask body)))
+    ⊎ (((ask : Ask) → BodyAsks question body ask → ⊥) × (hearing ≡ Err BadBody))
 
 -- the end of the body: it has come, or the input ends before; bytes after the body are ignored
-abbrev pub HearsRest : Option (List ℕ) → RouteQuestion → ℕ → List ℕ → Hearing → Type 0
+abbrev pub HearsRest : Option (List ℕ) → Question → ℕ → List ℕ → Hearing → Type 0
 HearsRest caller question count rest hearing =
     ((count ≤ length rest) × HearsBody caller question (take count rest) hearing)
     ⊎ ((length rest < count) × (hearing ≡ Err Truncated))
 
 -- the query: it is as the route says, or is refused
-abbrev pub HearsQuery : HeadContents → RouteValue → List ℕ → Hearing → Type 0
+abbrev pub HearsQuery : HeadContents → Route → List ℕ → Hearing → Type 0
 HearsQuery contents route rest hearing =
-    ((question : RouteQuestion) × QueryAsks route (query_part contents.target) question × HearsRest contents.caller question contents.body_length rest hearing)
-    ⊎ (((question : RouteQuestion) → QueryAsks route (query_part contents.target) question → ⊥) × (hearing ≡ Err BadQuery))
+    ((question : Question) × QueryAsks route (query_part contents.target) question × HearsRest contents.caller question contents.body_length rest hearing)
+    ⊎ (((question : Question) → QueryAsks route (query_part contents.target) question → ⊥) × (hearing ≡ Err BadQuery))
 
 -- the route that a head asks for, or why there is none
-unfoldable pub route_asked : HeadContents → Result RouteValue DeskRefusal
+unfoldable pub route_asked : HeadContents → Result Route DeskRefusal
 route_asked contents = route_of contents.method (path_part contents.target)
 
 -- the route: there is one of this method and path, or it is refused
-abbrev pub HearsRoute : HeadContents → Result RouteValue DeskRefusal → List ℕ → Hearing → Type 0
+abbrev pub HearsRoute : HeadContents → Result Route DeskRefusal → List ℕ → Hearing → Type 0
 HearsRoute contents (Ok route) rest hearing = HearsQuery contents route rest hearing
 HearsRoute contents (Err refusal) rest hearing = hearing ≡ Err refusal
 

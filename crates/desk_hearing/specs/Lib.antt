@@ -1,8 +1,7 @@
-pub mod Asked
 pub mod Asking
 pub mod Hearing
 pub mod Faults
-pub mod View
+pub mod Steps
 pub mod Reading
 pub mod Requests
 pub mod Refused

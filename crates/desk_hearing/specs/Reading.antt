@@ -1,7 +1,7 @@
 -- What a reader of a request answers. What is heard of the bytes stands in `Hearing`; the answers are Depot's own.
 use Rattle.std.specs.Prelude.{ℕ, List, Result, Ok, Err, ⊤}
 use Rattle.desk_routes.specs.declared.refusal.DeskRefusal.TheVariants.{Truncated}
-use Rattle.desk_hearing.specs.Asked.{HeardValue}
+use Rattle.desk_hearing.specs.Asking.{HeardValue}
 use Rattle.desk_hearing.specs.Hearing.{Hears}
 use Rattle.desk_hearing.specs.declared.fault.HeardFault.{HeardFault}
 use Rattle.desk_hearing.specs.declared.fault.HeardFault.TheVariants.{Refused, Read, Memory}

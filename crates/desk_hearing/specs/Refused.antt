@@ -6,14 +6,17 @@ use Rattle.desk_heads.specs.Heads.{HeadContents, Judges}
 use Rattle.desk_heads.specs.Steps.{StandsFirst}
 use Rattle.desk_heads.specs.declared.refusal.HeadRefusal.{HeadRefusal}
 use Rattle.desk_heads.specs.declared.refusal.HeadRefusal.TheVariants as heads
-use Rattle.desk_routes.specs.Places.{PlaceValue, SpellsPlace}
-use Rattle.desk_routes.specs.Table.{RouteValue, AsksFor, IsOtherMethod}
+use Rattle.desk_routes.specs.Places.{SpellsPlace}
+use Rattle.desk_routes.specs.Table.{AsksFor, IsOtherMethod}
 use Rattle.desk_routes.specs.Targets.{path_part, query_part}
-use Rattle.desk_routes.specs.declared.pattern.Pattern.{Pattern}
+use Rattle.desk_routes.specs.declared.place.Pattern.{Pattern}
+use Rattle.desk_routes.specs.declared.place.Place.{Place}
 use Rattle.desk_routes.specs.declared.refusal.DeskRefusal.{DeskRefusal}
 use Rattle.desk_routes.specs.declared.refusal.DeskRefusal.TheVariants.{TooLarge, Truncated, BadHead, Chunked, BadLength, TwoCallers, NoRoute, Method, BadQuery, BadBody}
-use Rattle.desk_hearing.specs.Asked.{Asked}
-use Rattle.desk_hearing.specs.Asking.{RouteQuestion, QueryAsks, BodyAsks}
+use Rattle.desk_routes.specs.declared.route.Route.{Route}
+use Rattle.desk_hearing.specs.Asking.{QueryAsks, BodyAsks}
+use Rattle.desk_hearing.specs.declared.ask.Ask.{Ask}
+use Rattle.desk_hearing.specs.declared.question.Question.{Question}
 
 -- ---- the steps that pass, each with those before it
 
@@ -29,18 +32,18 @@ pub record TakesHead (input : List ℕ) (contents : HeadContents) (rest : List �
   pub says : Judges head (Ok contents)
 
 -- its method and its path ask for this route
-pub record TakesRoute (input : List ℕ) (contents : HeadContents) (route : RouteValue) (rest : List ℕ) : Type 0 where
+pub record TakesRoute (input : List ℕ) (contents : HeadContents) (route : Route) (rest : List ℕ) : Type 0 where
   pub head : TakesHead input contents rest
   pub asks : AsksFor contents.method (path_part contents.target) route
 
 -- its query is as the route says, and asks this
-pub record TakesQuery (input : List ℕ) (contents : HeadContents) (question : RouteQuestion) (rest : List ℕ) : Type 0 where
-  pub route : RouteValue
+pub record TakesQuery (input : List ℕ) (contents : HeadContents) (question : Question) (rest : List ℕ) : Type 0 where
+  pub route : Route
   pub found : TakesRoute input contents route rest
   pub query : QueryAsks route (query_part contents.target) question
 
 -- its body has come
-pub record HasBody (input : List ℕ) (question : RouteQuestion) (body : List ℕ) : Type 0 where
+pub record HasBody (input : List ℕ) (question : Question) (body : List ℕ) : Type 0 where
   pub contents : HeadContents
   pub behind : List ℕ
   pub asks : TakesQuery input contents question (body ++ behind)
@@ -63,7 +66,7 @@ RefusesHead input refusal = (head rest : List ℕ) × BeginsWithHead input head 
 -- its path names nothing
 abbrev pub NamesNothing : List ℕ → Type 0
 NamesNothing input =
-    (contents : HeadContents) × (rest : List ℕ) × TakesHead input contents rest × ((place : PlaceValue) → SpellsPlace (path_part contents.target) place → ⊥)
+    (contents : HeadContents) × (rest : List ℕ) × TakesHead input contents rest × ((place : Place) → SpellsPlace (path_part contents.target) place → ⊥)
 
 -- its path names a place of this pattern, which doesn't take the method
 abbrev pub RefusesMethod : List ℕ → Pattern → Type 0
@@ -73,17 +76,17 @@ RefusesMethod input pattern =
 -- its query isn't as the route says
 abbrev pub RefusesQuery : List ℕ → Type 0
 RefusesQuery input =
-    (contents : HeadContents) × (route : RouteValue) × (rest : List ℕ) × TakesRoute input contents route rest
-    × ((question : RouteQuestion) → QueryAsks route (query_part contents.target) question → ⊥)
+    (contents : HeadContents) × (route : Route) × (rest : List ℕ) × TakesRoute input contents route rest
+    × ((question : Question) → QueryAsks route (query_part contents.target) question → ⊥)
 
 -- its body hasn't come
 abbrev pub EndsInBody : List ℕ → Type 0
 EndsInBody input =
-    (contents : HeadContents) × (question : RouteQuestion) × (rest : List ℕ) × TakesQuery input contents question rest × (length rest < contents.body_length)
+    (contents : HeadContents) × (question : Question) × (rest : List ℕ) × TakesQuery input contents question rest × (length rest < contents.body_length)
 
 -- its body isn't as the route says
 abbrev pub RefusesBody : List ℕ → Type 0
-RefusesBody input = (question : RouteQuestion) × (body : List ℕ) × HasBody input question body × ((asked : Asked) → BodyAsks question body asked → ⊥)
+RefusesBody input = (question : Question) × (body : List ℕ) × HasBody input question body × ((ask : Ask) → BodyAsks question body ask → ⊥)
 
 -- ---- each refusal
 

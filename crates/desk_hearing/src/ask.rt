@@ -1,6 +1,10 @@
 //! What a request asks, but for the bytes of its body.
 
-use office_core::{Day, OwnedAccession, OwnedMatter, OwnedName, Years};
+ghost use Rattle.std.specs.Prelude.{◌≡◌};
+ghost use Rattle.desk_hearing.specs.Asking.{ask_and_bag, bag_in};
+
+use desk_forms::OwnedPath;
+use office_core::{Day, Name, OwnedAccession, OwnedMatter, OwnedName, Request, Years};
 
 /// What a request asks of the office, but for the bytes of its body, which are the bag of a
 /// deposit. Deposits and holds are asked for by their numbers.
@@ -35,8 +39,7 @@ pub(crate) enum Ask {
     },
     DownloadFile {
         deposit: u32,
-        /// The path, decoded.
-        path: Vec<u8>,
+        path: OwnedPath,
     },
     Audit {
         deposit: u32,
@@ -60,4 +63,67 @@ pub(crate) enum Ask {
         deposit: u32,
     },
     DueList,
+}
+
+fn lend_optional(name: &Option<OwnedName>) -> Option<Name<'_>>
+    ensures { result ≡ name.now }
+{
+    match name {
+        Some(name) => Some(name.lend()),
+        None => None,
+    }
+}
+
+impl Ask {
+    /// The request that asks this, with these bytes as its body.
+    pub(crate) fn lend<'a>(&'a self, body: &'a [u8]) -> Request<'a>
+        ensures { ask_and_bag result ≡ (self.now, bag_in self.now body.now) }
+    {
+        match self {
+            Ask::DefineClass { name, years } => Request::DefineClass {
+                name: name.lend(),
+                years: *years,
+            },
+            Ask::DefineCollection { name } => Request::DefineCollection { name: name.lend() },
+            Ask::Deposit {
+                collection,
+                class,
+                accession,
+                closed,
+            } => Request::Deposit {
+                collection: collection.lend(),
+                class: class.lend(),
+                accession: accession.lend(),
+                closed: *closed,
+                bag: body,
+            },
+            Ask::List { collection, class } => Request::List {
+                collection: lend_optional(collection),
+                class: lend_optional(class),
+            },
+            Ask::DownloadFile { deposit, path } => Request::DownloadFile {
+                deposit: *deposit,
+                path: path.as_bytes(),
+            },
+            Ask::HoldDeposit { deposit, matter } => Request::HoldDeposit {
+                deposit: *deposit,
+                matter: matter.lend(),
+            },
+            Ask::HoldCollection { collection, matter } => Request::HoldCollection {
+                collection: collection.lend(),
+                matter: matter.lend(),
+            },
+            Ask::HoldClass { class, matter } => Request::HoldClass {
+                class: class.lend(),
+                matter: matter.lend(),
+            },
+            Ask::Record { deposit } => Request::Record { deposit: *deposit },
+            Ask::Holds { deposit } => Request::Holds { deposit: *deposit },
+            Ask::DownloadBag { deposit } => Request::DownloadBag { deposit: *deposit },
+            Ask::Audit { deposit } => Request::Audit { deposit: *deposit },
+            Ask::Release { hold } => Request::Release { hold: *hold },
+            Ask::Dispose { deposit } => Request::Dispose { deposit: *deposit },
+            Ask::DueList => Request::DueList,
+        }
+    }
 }

@@ -2,7 +2,7 @@
 
 ghost use Rattle.std.specs.Prelude.{◌≡◌, ◌≢◌, ◌≤◌, IfOk};
 ghost use Rattle.desk_heads.specs.Bounds.{max_body};
-ghost use Rattle.desk_hearing.specs.View.{AnswersFront};
+ghost use Rattle.desk_hearing.specs.Steps.{AnswersFront};
 
 use crate::fault::JudgingFault;
 use crate::question::{Question, question_of};

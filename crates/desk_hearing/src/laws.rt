@@ -3,7 +3,7 @@
 ghost use Rattle.std.specs.Prelude.{◌≡◌, ◌≢◌, ◌↔◌, ◌++◌, List, ℕ, Ok, Err};
 ghost use Rattle.desk_routes.specs.declared.refusal.DeskRefusal.{DeskRefusal};
 ghost use Rattle.desk_routes.specs.declared.refusal.DeskRefusal.TheVariants.{Truncated};
-ghost use Rattle.desk_hearing.specs.Asked.{HeardValue};
+ghost use Rattle.desk_hearing.specs.Asking.{HeardValue};
 ghost use Rattle.desk_hearing.specs.Hearing.{Hearing, Hears};
 ghost use Rattle.desk_hearing.specs.Refused.{IsRefused};
 ghost use Rattle.desk_hearing.specs.Requests.{SpellsRequest};

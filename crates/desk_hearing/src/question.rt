@@ -1,15 +1,13 @@
 //! What a route asks with its query and its body.
 
-ghost use Rattle.std.specs.Prelude.{◌≡◌, MatchResult, [], Err, Ok};
-ghost use Rattle.desk_routes.specs.Views.{route_view};
-ghost use Rattle.desk_hearing.specs.Asking.{HasNoPair};
-ghost use Rattle.desk_hearing.specs.View.{question_seen, AnswersQuery, AnswersBody, IsRefusedQuery, IsRefusedBody};
+ghost use Rattle.std.specs.Prelude.{◌≡◌, ◌↔◌, Err, IfErr, IsOk};
+ghost use Rattle.desk_hearing.specs.Steps.{AllowsQuery, AnswersQuery, AnswersBody, IsRefusedQuery, IsRefusedBody};
 
 use crate::ask::Ask;
 use crate::fault::JudgingFault;
 use desk_forms::{
-    DepositQuery, HoldBody, check_no_body, check_no_query, decode_path, read_deposit_query,
-    read_hold, read_listing, read_years,
+    DepositQuery, HoldBody, QueryFault, check_no_body, check_no_query, decode_path,
+    read_deposit_query, read_hold, read_listing, read_years,
 };
 use desk_routes::{DeskRefusal, Route};
 use office_core::OwnedName;
@@ -28,14 +26,15 @@ pub(crate) enum Question {
     Whole(Ask),
 }
 
-/// The question, where its route has a query without pairs.
-fn without_query(query: &[u8], question: Question) -> Result<Question, JudgingFault>
-    ensures { MatchResult result (λ same. (same ≡ question) × HasNoPair query.now)
-        (λ fault. (fault ≡ JudgingFault.Refused DeskRefusal.BadQuery)
-        × (HasNoPair query.now → ⊥)) }
+/// Refuses a pair on a route without keys.
+fn check_keys(route: &Route<'_>, query: &[u8]) -> Result<(), QueryFault>
+    ensures taken { IsOk result ↔ AllowsQuery route.now query.now }
+    ensures fault { IfErr result (λ fault. fault ≡ QueryFault.BadQuery) }
 {
-    check_no_query(query)?;
-    Ok(question)
+    match route {
+        Route::Deposit | Route::List => Ok(()),
+        _ => check_no_query(query),
+    }
 }
 
 /// What the route asks with this query. A pair on a route without keys is refused before anything is
@@ -45,17 +44,14 @@ pub(crate) fn question_of(
     route: Route<'_>,
     query: &[u8],
 ) -> Result<Question, JudgingFault>
-    ensures asked { AnswersQuery (route_view route.entry) query.now result }
-    ensures unread { IsRefusedQuery (route_view route.entry) query.now
+    ensures asked { AnswersQuery route.entry query.now result }
+    ensures unread { IsRefusedQuery route.entry query.now
         → result ≡ Err (JudgingFault.Refused DeskRefusal.BadQuery) }
 {
+    check_keys(&route, query)?;
     match route {
-        Route::DefineClass(name) => {
-            check_no_query(query)?;
-            Ok(Question::Class(name.to_owned(alloc)?))
-        }
+        Route::DefineClass(name) => Ok(Question::Class(name.to_owned(alloc)?)),
         Route::DefineCollection(name) => {
-            check_no_query(query)?;
             let name = name.to_owned(alloc)?;
             Ok(Question::Whole(Ask::DefineCollection { name }))
         }
@@ -67,28 +63,25 @@ pub(crate) fn question_of(
                 class: listing.class,
             }))
         }
-        Route::Record(deposit) => without_query(query, Question::Whole(Ask::Record { deposit })),
-        Route::Dispose(deposit) => without_query(query, Question::Whole(Ask::Dispose { deposit })),
-        Route::Holds(deposit) => without_query(query, Question::Whole(Ask::Holds { deposit })),
-        Route::DownloadBag(deposit) => {
-            without_query(query, Question::Whole(Ask::DownloadBag { deposit }))
-        }
+        Route::Record(deposit) => Ok(Question::Whole(Ask::Record { deposit })),
+        Route::Dispose(deposit) => Ok(Question::Whole(Ask::Dispose { deposit })),
+        Route::Holds(deposit) => Ok(Question::Whole(Ask::Holds { deposit })),
+        Route::DownloadBag(deposit) => Ok(Question::Whole(Ask::DownloadBag { deposit })),
         Route::DownloadFile { deposit, path } => {
-            check_no_query(query)?;
-            let path = decode_path(alloc, path)?;
+            let path = decode_path(alloc, path.as_str())?;
             Ok(Question::Whole(Ask::DownloadFile { deposit, path }))
         }
-        Route::Audit(deposit) => without_query(query, Question::Whole(Ask::Audit { deposit })),
-        Route::PlaceHold => without_query(query, Question::Hold),
-        Route::Release(hold) => without_query(query, Question::Whole(Ask::Release { hold })),
-        Route::DueList => without_query(query, Question::Whole(Ask::DueList)),
+        Route::Audit(deposit) => Ok(Question::Whole(Ask::Audit { deposit })),
+        Route::PlaceHold => Ok(Question::Hold),
+        Route::Release(hold) => Ok(Question::Whole(Ask::Release { hold })),
+        Route::DueList => Ok(Question::Whole(Ask::DueList)),
     }
 }
 
 /// What the body says of a hold.
 fn hold_of(alloc: Global, body: &[u8]) -> Result<Ask, JudgingFault>
-    ensures asked { AnswersBody (question_seen Question.Hold) body.now result }
-    ensures unread { IsRefusedBody (question_seen Question.Hold) body.now
+    ensures asked { AnswersBody Question.Hold body.now result }
+    ensures unread { IsRefusedBody Question.Hold body.now
         → result ≡ Err (JudgingFault.Refused DeskRefusal.BadBody) }
 {
     match read_hold(alloc, body)? {
@@ -104,8 +97,8 @@ fn hold_of(alloc: Global, body: &[u8]) -> Result<Ask, JudgingFault>
 /// What the question asks with this body. A body that is no text where JSON is asked for, or is there
 /// where none is, is refused before anything is allocated.
 pub(crate) fn ask_of(alloc: Global, question: Question, body: &[u8]) -> Result<Ask, JudgingFault>
-    ensures asked { AnswersBody (question_seen question) body.now result }
-    ensures unread { IsRefusedBody (question_seen question) body.now
+    ensures asked { AnswersBody question body.now result }
+    ensures unread { IsRefusedBody question body.now
         → result ≡ Err (JudgingFault.Refused DeskRefusal.BadBody) }
 {
     match question {

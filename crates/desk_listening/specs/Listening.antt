@@ -8,7 +8,7 @@ use Rattle.office_core.specs.declared.answer.Answer.{Answer}
 use Rattle.office_history.specs.Runs.{Item}
 use Rattle.office_engine.specs.Keeping.{Runs}
 use Rattle.desk_routes.specs.declared.refusal.DeskRefusal.{DeskRefusal}
-use Rattle.desk_hearing.specs.Asked.{HeardValue}
+use Rattle.desk_hearing.specs.Asking.{HeardValue}
 use Rattle.desk_hearing.specs.Hearing.{Hears}
 use Rattle.desk_log.specs.Notes.{note_of}
 use Rattle.desk_log.specs.declared.note.OfficeNote.{OfficeNote}

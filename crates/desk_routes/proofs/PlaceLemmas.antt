@@ -8,11 +8,10 @@ use Rattle.matchit.specs.Router.{RouteOf}
 use Rattle.matchit.specs.Rows.{RowsOf}
 use Rattle.matchit.specs.Seek.{first, segment}
 use Rattle.matchit.specs.Level.{IsText}
-use Rattle.desk_routes.specs.declared.pattern.Pattern.{Pattern}
+use Rattle.desk_routes.specs.declared.place.Pattern.{Pattern}
+use Rattle.desk_routes.specs.declared.place.Place.{Place}
 use Rattle.desk_routes.specs.PathReading.{Parts, parts_of, place_by_parts, place_named, class, collection, deposit, holds_of_deposit, bag, audit, hold, file, deposits, holds, due}
-use Rattle.desk_routes.specs.Rows.{row_of, the_rows}
-use Rattle.desk_routes.specs.Places.{PlaceValue}
-use Rattle.desk_routes.specs.Views.{Texts, place_by_texts}
+use Rattle.desk_routes.specs.Rows.{row_of, the_rows, Texts, place_by_texts}
 use Rattle.desk_routes.proofs.PartSpelling.{IsPart, SpellsParts}
 use Rattle.desk_routes.proofs.RouteLemmas.{bytes, router-says}
 use Rattle.desk_routes.proofs.SpellingLemmas.{spelled}
@@ -107,16 +106,7 @@ texts-utf8 holds path h u = tt
 
 by-texts : (parts : Parts) → place_by_texts (row_of parts).value (texts_of parts) ≡ place_by_parts parts
 by-texts (class name) = refl
-by-texts (collection name) = refl
-by-texts (audit number) = refl
-by-texts (bag number) = refl
-by-texts (file number path) = refl
-by-texts (holds_of_deposit number) = refl
-by-texts (deposit number) = refl
-by-texts deposits = refl
-by-texts due = refl
-by-texts (hold number) = refl
-by-texts holds = refl
+by-texts parts = refl
 
 -- ---- what is found
 
@@ -127,7 +117,7 @@ nothing-found path held text hold_them e = by (parts_of path) (sym (router-says 
     by None q = refl
     by (Some parts) q = absurd (let z = q in cc)
 
-pub place-found : (path seen : List ℕ) (held : RowsOf (RouteOf Pattern)) (row : RouteOf Pattern) (result : Option PlaceValue) → IsText path → IsUtf8 path → held ≡ the_rows → first held path ≡ Some row → seen ≡ path
+pub place-found : (path seen : List ℕ) (held : RowsOf (RouteOf Pattern)) (row : RouteOf Pattern) (result : Option Place) → IsText path → IsUtf8 path → held ≡ the_rows → first held path ≡ Some row → seen ≡ path
     → (AllText (walk row.pattern row.text seen row.names 0 0) → result ≡ place_by_texts row.value (walk row.pattern row.text seen row.names 0 0)) → result ≡ place_named path
 place-found path seen held row result text u hold_them e same gives = by (parts_of path) refl (sym (router-says path text) ∙ ap (λ r. first r path) (sym hold_them) ∙ e)
   where

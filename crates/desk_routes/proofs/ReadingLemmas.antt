@@ -6,9 +6,10 @@ use Rattle.std.proofs.lemmas.Bool.{and_parts}
 use Rattle.std.proofs.lemmas.Bool.Decides.{nat_tests}
 use Rattle.office_core.specs.Bounds.{max_name}
 use Rattle.office_core.specs.Names.{is_name, is_name_byte, IsName}
-use Rattle.desk_routes.specs.PathReading.{Parts, with_byte, cut, by_part, no_more, last_part, under_deposit, under_deposits, parts_of, name_of, number_of, place_by_parts, place_named, class, collection, deposit, holds_of_deposit, bag, audit, hold, file, deposits, holds, due}
-use Rattle.desk_routes.specs.Places as places
-use Rattle.desk_routes.specs.Places.{PlaceValue, path_of, IsPlace, IsShortNumber, SpellsPlace}
+use Rattle.desk_routes.specs.PathReading.{Parts, with_byte, cut, by_part, no_more, last_part, under_deposit, under_deposits, parts_of, name_of, number_of, file_path_of, place_by_parts, place_named, class, collection, deposit, holds_of_deposit, bag, audit, hold, file, deposits, holds, due}
+use Rattle.desk_routes.specs.declared.place.Place.{Place}
+use Rattle.desk_routes.specs.declared.place.Place.TheVariants as places
+use Rattle.desk_routes.specs.Places.{path_of, IsPlace, IsShortNumber, SpellsPlace}
 use Rattle.desk_routes.proofs.PartSpelling.{path_by_parts, has_slash, IsPart, AreParts, SpellsParts}
 use Rattle.desk_routes.proofs.SpellingLemmas.{spelled}
 use Rattle.desk_routes.proofs.NumberLemmas.{number-written, number-read, number-part}
@@ -89,39 +90,42 @@ name-part name h =
 
 -- ---- places
 
-named : (f : List ℕ → PlaceValue) (name : List ℕ) → IsName name → option_map f (name_of name) ≡ Some (f name)
+named : (f : List ℕ → Place) (name : List ℕ) → IsName name → option_map f (name_of name) ≡ Some (f name)
 named f name h = rw h refl
 
-numbered : (f : ℕ → PlaceValue) (number : ℕ) → IsShortNumber number → option_map f (number_of (decimal number)) ≡ Some (f number)
+numbered : (f : ℕ → Place) (number : ℕ) → IsShortNumber number → option_map f (number_of (decimal number)) ≡ Some (f number)
 numbered f number h = rw (number-read number h) refl
 
-read_by : (parts : Parts) (place : PlaceValue) → AreParts parts → place_by_parts parts ≡ Some place → place_named (path_by_parts parts) ≡ Some place
+whole_path : (path : List ℕ) → 0 < length path → file_path_of path ≡ Some path
+whole_path path some = let is : nat_le 1 (length path) ≡ true = grind (arith, nat_tests) in rw is refl
+
+read_by : (parts : Parts) (place : Place) → AreParts parts → place_by_parts parts ≡ Some place → place_named (path_by_parts parts) ≡ Some place
 read_by parts place h e = ap (option_and_then place_by_parts) (parts-read parts h) ∙ e
 
-pub place-read : (place : PlaceValue) → IsPlace place → place_named (path_of place) ≡ Some place
-place-read (places.class name) h = read_by (class name) (places.class name) (name-part name h) (named places.class name h)
-place-read (places.collection name) h = read_by (collection name) (places.collection name) (name-part name h) (named places.collection name h)
-place-read places.deposits h = refl
-place-read (places.deposit n) h = read_by (deposit (decimal n)) (places.deposit n) (number-part n h) (numbered places.deposit n h)
-place-read (places.holds_of_deposit n) h = read_by (holds_of_deposit (decimal n)) (places.holds_of_deposit n) (number-part n h) (numbered places.holds_of_deposit n h)
-place-read (places.bag n) h = read_by (bag (decimal n)) (places.bag n) (number-part n h) (numbered places.bag n h)
-place-read (places.file n path) h = read_by (file (decimal n) path) (places.file n path) (number-part n h.0, h.1) (rw (number-read n h.0) refl)
-place-read (places.audit n) h = read_by (audit (decimal n)) (places.audit n) (number-part n h) (numbered places.audit n h)
-place-read places.holds h = refl
-place-read (places.hold n) h = read_by (hold (decimal n)) (places.hold n) (number-part n h) (numbered places.hold n h)
-place-read places.due h = refl
+pub place-read : (place : Place) → IsPlace place → place_named (path_of place) ≡ Some place
+place-read (places.Class name) h = read_by (class name) (places.Class name) (name-part name h) (named places.Class name h)
+place-read (places.Collection name) h = read_by (collection name) (places.Collection name) (name-part name h) (named places.Collection name h)
+place-read places.Deposits h = refl
+place-read (places.Deposit n) h = read_by (deposit (decimal n)) (places.Deposit n) (number-part n h) (numbered places.Deposit n h)
+place-read (places.HoldsOfDeposit n) h = read_by (holds_of_deposit (decimal n)) (places.HoldsOfDeposit n) (number-part n h) (numbered places.HoldsOfDeposit n h)
+place-read (places.Bag n) h = read_by (bag (decimal n)) (places.Bag n) (number-part n h) (numbered places.Bag n h)
+place-read (places.File n path) h = read_by (file (decimal n) path) (places.File n path) (number-part n h.0, h.1) (rw (number-read n h.0, whole_path path h.1) refl)
+place-read (places.Audit n) h = read_by (audit (decimal n)) (places.Audit n) (number-part n h) (numbered places.Audit n h)
+place-read places.Holds h = refl
+place-read (places.Hold n) h = read_by (hold (decimal n)) (places.Hold n) (number-part n h) (numbered places.Hold n h)
+place-read places.Due h = refl
 
-pub spelling-read : (path : List ℕ) (place : PlaceValue) → SpellsPlace path place → place_named path ≡ Some place
+pub spelling-read : (path : List ℕ) (place : Place) → SpellsPlace path place → place_named path ≡ Some place
 spelling-read path place h = ap place_named h.0 ∙ place-read place h.1
 
-by_name : (f : List ℕ → PlaceValue) (name : List ℕ) (place : PlaceValue) → option_map f (name_of name) ≡ Some place → (f name ≡ place) × IsName name
+by_name : (f : List ℕ → Place) (name : List ℕ) (place : Place) → option_map f (name_of name) ≡ Some place → (f name ≡ place) × IsName name
 by_name f name place e = by (is_name name) refl e
   where
     by : (v : Bool) → is_name name ≡ v → option_map f (cond v (Some name) None) ≡ Some place → (f name ≡ place) × IsName name
     by true is q = (let z = q in cc, is)
     by false is q = absurd (let z = q in cc)
 
-by_number : (f : ℕ → PlaceValue) (text : List ℕ) (place : PlaceValue) → option_map f (number_of text) ≡ Some place → (n : ℕ) × (f n ≡ place) × (text ≡ decimal n) × IsShortNumber n
+by_number : (f : ℕ → Place) (text : List ℕ) (place : Place) → option_map f (number_of text) ≡ Some place → (n : ℕ) × (f n ≡ place) × (text ≡ decimal n) × IsShortNumber n
 by_number f text place e = by (number_of text) refl e
   where
     by : (o : Option ℕ) → number_of text ≡ o → option_map f o ≡ Some place → (n : ℕ) × (f n ≡ place) × (text ≡ decimal n) × IsShortNumber n
@@ -129,25 +133,28 @@ by_number f text place e = by (number_of text) refl e
     by (Some n) is q = let w = number-written text n is in (n, let z = q in cc, w.0, w.1)
 
 -- a path whose parts are a name and numbers spells their place
-part_place : (path : List ℕ) (parts : Parts) (place : PlaceValue) → SpellsParts path parts → place_by_parts parts ≡ Some place → SpellsPlace path place
-part_place path (class name) place h e = let r = by_name places.class name place e in subst (SpellsPlace path) r.0 (h.0, r.1)
-part_place path (collection name) place h e = let r = by_name places.collection name place e in subst (SpellsPlace path) r.0 (h.0, r.1)
-part_place path deposits place h e = let same : places.deposits ≡ place = cc in subst (SpellsPlace path) same (h.0, tt)
-part_place path (deposit text) place h e = let r = by_number places.deposit text place e in subst (SpellsPlace path) r.1 (h.0 ∙ ap (λ t. codes "/deposits/" ++ t) r.2, r.3)
-part_place path (holds_of_deposit text) place h e = let r = by_number places.holds_of_deposit text place e in subst (SpellsPlace path) r.1 (h.0 ∙ ap (λ t. codes "/deposits/" ++ (t ++ codes "/holds")) r.2, r.3)
-part_place path (bag text) place h e = let r = by_number places.bag text place e in subst (SpellsPlace path) r.1 (h.0 ∙ ap (λ t. codes "/deposits/" ++ (t ++ codes "/bag")) r.2, r.3)
-part_place path (file text rest) place h e = let r = by_number (λ n. places.file n rest) text place e in subst (SpellsPlace path) r.1 (h.0 ∙ ap (λ t. codes "/deposits/" ++ (t ++ (codes "/files/" ++ rest))) r.2, (r.3, h.1.1))
-part_place path (audit text) place h e = let r = by_number places.audit text place e in subst (SpellsPlace path) r.1 (h.0 ∙ ap (λ t. codes "/deposits/" ++ (t ++ codes "/audit")) r.2, r.3)
-part_place path holds place h e = let same : places.holds ≡ place = cc in subst (SpellsPlace path) same (h.0, tt)
-part_place path (hold text) place h e = let r = by_number places.hold text place e in subst (SpellsPlace path) r.1 (h.0 ∙ ap (λ t. codes "/holds/" ++ t) r.2, r.3)
-part_place path due place h e = let same : places.due ≡ place = cc in subst (SpellsPlace path) same (h.0, tt)
+part_place : (path : List ℕ) (parts : Parts) (place : Place) → SpellsParts path parts → place_by_parts parts ≡ Some place → SpellsPlace path place
+part_place path (class name) place h e = let r = by_name places.Class name place e in subst (SpellsPlace path) r.0 (h.0, r.1)
+part_place path (collection name) place h e = let r = by_name places.Collection name place e in subst (SpellsPlace path) r.0 (h.0, r.1)
+part_place path deposits place h e = let same : places.Deposits ≡ place = cc in subst (SpellsPlace path) same (h.0, tt)
+part_place path (deposit text) place h e = let r = by_number places.Deposit text place e in subst (SpellsPlace path) r.1 (h.0 ∙ ap (λ t. codes "/deposits/" ++ t) r.2, r.3)
+part_place path (holds_of_deposit text) place h e = let r = by_number places.HoldsOfDeposit text place e in subst (SpellsPlace path) r.1 (h.0 ∙ ap (λ t. codes "/deposits/" ++ (t ++ codes "/holds")) r.2, r.3)
+part_place path (bag text) place h e = let r = by_number places.Bag text place e in subst (SpellsPlace path) r.1 (h.0 ∙ ap (λ t. codes "/deposits/" ++ (t ++ codes "/bag")) r.2, r.3)
+part_place path (file text rest) place h e =
+    let whole = subst (λ found. option_and_then (λ n. option_map (places.File n) found) (number_of text) ≡ Some place) (whole_path rest h.1.1) e in
+    let r = by_number (λ n. places.File n rest) text place whole in
+    subst (SpellsPlace path) r.1 (h.0 ∙ ap (λ t. codes "/deposits/" ++ (t ++ (codes "/files/" ++ rest))) r.2, (r.3, h.1.1))
+part_place path (audit text) place h e = let r = by_number places.Audit text place e in subst (SpellsPlace path) r.1 (h.0 ∙ ap (λ t. codes "/deposits/" ++ (t ++ codes "/audit")) r.2, r.3)
+part_place path holds place h e = let same : places.Holds ≡ place = cc in subst (SpellsPlace path) same (h.0, tt)
+part_place path (hold text) place h e = let r = by_number places.Hold text place e in subst (SpellsPlace path) r.1 (h.0 ∙ ap (λ t. codes "/holds/" ++ t) r.2, r.3)
+part_place path due place h e = let same : places.Due ≡ place = cc in subst (SpellsPlace path) same (h.0, tt)
 
-pub reading-spelled : (path : List ℕ) (place : PlaceValue) → place_named path ≡ Some place → SpellsPlace path place
+pub reading-spelled : (path : List ℕ) (place : Place) → place_named path ≡ Some place → SpellsPlace path place
 reading-spelled path place e = by (parts_of path) refl e
   where
     by : (o : Option Parts) → parts_of path ≡ o → option_and_then place_by_parts o ≡ Some place → SpellsPlace path place
     by None is q = absurd (let z = q in cc)
     by (Some parts) is q = part_place path parts place (spelled path parts is) q
 
-pub one-spelled : (path : List ℕ) (a b : PlaceValue) → SpellsPlace path a → SpellsPlace path b → a ≡ b
+pub one-spelled : (path : List ℕ) (a b : Place) → SpellsPlace path a → SpellsPlace path b → a ≡ b
 one-spelled path a b x y = let e : Some a ≡ Some b = sym (spelling-read path a x) ∙ spelling-read path b y in cc

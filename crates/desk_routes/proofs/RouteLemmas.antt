@@ -8,7 +8,7 @@ use Rattle.matchit.specs.Router.{RouteOf, map_key, rename}
 use Rattle.matchit.specs.Seek.{first}
 use Rattle.matchit.specs.Level.{IsText}
 use Rattle.matchit.proofs.RenameLemmas.{first-rename}
-use Rattle.desk_routes.specs.declared.pattern.Pattern.{Pattern}
+use Rattle.desk_routes.specs.declared.place.Pattern.{Pattern}
 use Rattle.desk_routes.specs.PathReading.{Parts, nothing_more, last_part, all_of, under_deposit, under_deposits, parts_of, class, collection, deposit, holds_of_deposit, bag, audit, hold, file, deposits, holds, due}
 use Rattle.desk_routes.specs.Rows.{row_of, the_rows}
 use Rattle.desk_routes.proofs.PathLemmas.{param-says, rows-after, row-after, end-says, all-says, last-says}
@@ -35,16 +35,7 @@ at_number n = get_or numbered n (row_of due)
 
 row_is : (parts : Parts) → at_number (key parts) ≡ row_of parts
 row_is (class name) = refl
-row_is (collection name) = refl
-row_is (audit number) = refl
-row_is (bag number) = refl
-row_is (file number path) = refl
-row_is (holds_of_deposit number) = refl
-row_is (deposit number) = refl
-row_is deposits = refl
-row_is due = refl
-row_is (hold number) = refl
-row_is holds = refl
+row_is parts = refl
 
 -- the rows, by beginnings
 abbrev pub one : ℕ → Rows

@@ -6,56 +6,48 @@ use Rattle.std.specs.Cmp.Lexicographic.{slice_cmp, bytes_decides}
 use Rattle.std.specs.Ordering.{nat_cmp}
 use Rattle.desk_routes.specs.declared.method.Method.{Method}
 use Rattle.desk_routes.specs.declared.method.Method.TheVariants.{Delete, Get, Post, Put}
-use Rattle.desk_routes.specs.declared.pattern.Pattern.{Pattern}
-use Rattle.desk_routes.specs.declared.pattern.Pattern.TheVariants as patterns
+use Rattle.desk_routes.specs.declared.place.Pattern.{Pattern}
+use Rattle.desk_routes.specs.declared.place.Pattern.TheVariants as patterns
+use Rattle.desk_routes.specs.declared.place.Place.{Place}
+use Rattle.desk_routes.specs.declared.place.Place.TheVariants as places
 use Rattle.desk_routes.specs.declared.refusal.DeskRefusal.{DeskRefusal}
 use Rattle.desk_routes.specs.declared.refusal.DeskRefusal.TheVariants as refusals
-use Rattle.desk_routes.specs.Routes.{method_text, methods_of}
-use Rattle.desk_routes.specs.Places.{PlaceValue, class, collection, deposits, deposit, holds_of_deposit, bag, file, audit, holds, hold, due, SpellsPlace, pattern_of}
+use Rattle.desk_routes.specs.declared.route.Route.{Route}
+use Rattle.desk_routes.specs.declared.route.Route.TheVariants as routes
+use Rattle.desk_routes.specs.Places.{SpellsPlace, pattern_of}
 use Rattle.desk_routes.specs.PathReading.{place_named}
-use Rattle.desk_routes.specs.Table.{RouteValue, define_class, define_collection, deposit_bag, list_deposits, record_of, dispose, holds_of, download_bag, download_file, audit_of, place_hold, release, due_list, row, AsksFor, IsOtherMethod, route_at, method_of, route_of_place, route_of}
+use Rattle.desk_routes.specs.Table.{method_text, row, methods_of, AsksFor, IsOtherMethod, route_at, method_of, route_of_place, route_of}
 use Rattle.desk_routes.proofs.ReadingLemmas.{spelling-read, reading-spelled}
 
 -- ---- rows
 
-pub row-found : (route : RouteValue) → route_at (row route).0 (row route).1 ≡ Some route
-row-found (define_class name) = refl
-row-found (define_collection name) = refl
-row-found deposit_bag = refl
-row-found list_deposits = refl
-row-found (record_of number) = refl
-row-found (dispose number) = refl
-row-found (holds_of number) = refl
-row-found (download_bag number) = refl
-row-found (download_file number path) = refl
-row-found (audit_of number) = refl
-row-found place_hold = refl
-row-found (release number) = refl
-row-found due_list = refl
+pub row-found : (route : Route) → route_at (row route).0 (row route).1 ≡ Some route
+row-found (routes.DefineClass name) = refl
+row-found route = refl
 
-abbrev pub IsRow : RouteValue → Method → PlaceValue → Type 0
+abbrev pub IsRow : Route → Method → Place → Type 0
 IsRow route method place = ((row route).0 ≡ method) × ((row route).1 ≡ place)
 
-same_row : (route found : RouteValue) → Some found ≡ Some route → IsRow route (row found).0 (row found).1
+same_row : (route found : Route) → Some found ≡ Some route → IsRow route (row found).0 (row found).1
 same_row route found e = let same : found ≡ route = cc in subst (λ r. IsRow r (row found).0 (row found).1) same (refl, refl)
 
-pub row-only : (method : Method) (place : PlaceValue) (route : RouteValue) → route_at method place ≡ Some route → IsRow route method place
-row-only Put (class name) route e = same_row route (define_class name) e
-row-only Put (collection name) route e = same_row route (define_collection name) e
-row-only Post deposits route e = same_row route deposit_bag e
-row-only Get deposits route e = same_row route list_deposits e
-row-only Get (deposit number) route e = same_row route (record_of number) e
-row-only Delete (deposit number) route e = same_row route (dispose number) e
-row-only Get (holds_of_deposit number) route e = same_row route (holds_of number) e
-row-only Get (bag number) route e = same_row route (download_bag number) e
-row-only Get (file number path) route e = same_row route (download_file number path) e
-row-only Get (audit number) route e = same_row route (audit_of number) e
-row-only Post holds route e = same_row route place_hold e
-row-only Delete (hold number) route e = same_row route (release number) e
-row-only Get due route e = same_row route due_list e
+pub row-only : (method : Method) (place : Place) (route : Route) → route_at method place ≡ Some route → IsRow route method place
+row-only Put (places.Class name) route e = same_row route (routes.DefineClass name) e
+row-only Put (places.Collection name) route e = same_row route (routes.DefineCollection name) e
+row-only Post places.Deposits route e = same_row route routes.Deposit e
+row-only Get places.Deposits route e = same_row route routes.List e
+row-only Get (places.Deposit number) route e = same_row route (routes.Record number) e
+row-only Delete (places.Deposit number) route e = same_row route (routes.Dispose number) e
+row-only Get (places.HoldsOfDeposit number) route e = same_row route (routes.Holds number) e
+row-only Get (places.Bag number) route e = same_row route (routes.DownloadBag number) e
+row-only Get (places.File number path) route e = same_row route (routes.DownloadFile number path) e
+row-only Get (places.Audit number) route e = same_row route (routes.Audit number) e
+row-only Post places.Holds route e = same_row route routes.PlaceHold e
+row-only Delete (places.Hold number) route e = same_row route (routes.Release number) e
+row-only Get places.Due route e = same_row route routes.DueList e
 row-only method place route e = absurd (let z = e in cc)
 
-pub row-at : (method : Method) (place : PlaceValue) (route : RouteValue) → IsRow route method place → route_at method place ≡ Some route
+pub row-at : (method : Method) (place : Place) (route : Route) → IsRow route method place → route_at method place ≡ Some route
 row-at method place route h = rw (← h.0, ← h.1) (row-found route)
 
 -- ---- allowed methods
@@ -69,58 +61,50 @@ two_of a b x (zero, low, is) = inl is
 two_of a b x (suc zero, low, is) = inr is
 two_of a b x (suc (suc k), low, is) = absurd (omega arith)
 
-abbrev pub HasRoute : PlaceValue → Method → Type 0
-HasRoute place method = (route : RouteValue) × (route_at method place ≡ Some route)
+abbrev pub HasRoute : Place → Method → Type 0
+HasRoute place method = (route : Route) × (route_at method place ≡ Some route)
 
-either : (a b x : Method) (place : PlaceValue) → HasRoute place a → HasRoute place b → Contains (a ∷ b ∷ []) x → HasRoute place x
+either : (a b x : Method) (place : Place) → HasRoute place a → HasRoute place b → Contains (a ∷ b ∷ []) x → HasRoute place x
 either a b x place p q c = by (two_of a b x c)
   where
     by : (a ≡ x) ⊎ (b ≡ x) → HasRoute place x
     by (inl e) = subst (HasRoute place) e p
     by (inr e) = subst (HasRoute place) e q
 
-pub allowed-route : (method : Method) (place : PlaceValue) → Contains (methods_of (pattern_of place)) method → HasRoute place method
-allowed-route method (class name) c = subst (HasRoute (class name)) (one_of Put method c) (define_class name, refl)
-allowed-route method (collection name) c = subst (HasRoute (collection name)) (one_of Put method c) (define_collection name, refl)
-allowed-route method deposits c = either Get Post method deposits (list_deposits, refl) (deposit_bag, refl) c
-allowed-route method (deposit number) c = either Delete Get method (deposit number) (dispose number, refl) (record_of number, refl) c
-allowed-route method (holds_of_deposit number) c = subst (HasRoute (holds_of_deposit number)) (one_of Get method c) (holds_of number, refl)
-allowed-route method (bag number) c = subst (HasRoute (bag number)) (one_of Get method c) (download_bag number, refl)
-allowed-route method (file number path) c = subst (HasRoute (file number path)) (one_of Get method c) (download_file number path, refl)
-allowed-route method (audit number) c = subst (HasRoute (audit number)) (one_of Get method c) (audit_of number, refl)
-allowed-route method holds c = subst (HasRoute holds) (one_of Post method c) (place_hold, refl)
-allowed-route method (hold number) c = subst (HasRoute (hold number)) (one_of Delete method c) (release number, refl)
-allowed-route method due c = subst (HasRoute due) (one_of Get method c) (due_list, refl)
+pub allowed-route : (method : Method) (place : Place) → Contains (methods_of (pattern_of place)) method → HasRoute place method
+allowed-route method (places.Class name) c = subst (HasRoute (places.Class name)) (one_of Put method c) (routes.DefineClass name, refl)
+allowed-route method (places.Collection name) c = subst (HasRoute (places.Collection name)) (one_of Put method c) (routes.DefineCollection name, refl)
+allowed-route method places.Deposits c = either Get Post method places.Deposits (routes.List, refl) (routes.Deposit, refl) c
+allowed-route method (places.Deposit number) c = either Delete Get method (places.Deposit number) (routes.Dispose number, refl) (routes.Record number, refl) c
+allowed-route method (places.HoldsOfDeposit number) c = subst (HasRoute (places.HoldsOfDeposit number)) (one_of Get method c) (routes.Holds number, refl)
+allowed-route method (places.Bag number) c = subst (HasRoute (places.Bag number)) (one_of Get method c) (routes.DownloadBag number, refl)
+allowed-route method (places.File number path) c = subst (HasRoute (places.File number path)) (one_of Get method c) (routes.DownloadFile number path, refl)
+allowed-route method (places.Audit number) c = subst (HasRoute (places.Audit number)) (one_of Get method c) (routes.Audit number, refl)
+allowed-route method places.Holds c = subst (HasRoute places.Holds) (one_of Post method c) (routes.PlaceHold, refl)
+allowed-route method (places.Hold number) c = subst (HasRoute (places.Hold number)) (one_of Delete method c) (routes.Release number, refl)
+allowed-route method places.Due c = subst (HasRoute places.Due) (one_of Get method c) (routes.DueList, refl)
 
-pub route-allowed : (method : Method) (place : PlaceValue) (route : RouteValue) → route_at method place ≡ Some route → Contains (methods_of (pattern_of place)) method
-route-allowed Put (class name) route e = (0, omega arith, refl)
-route-allowed Put (collection name) route e = (0, omega arith, refl)
-route-allowed Get deposits route e = (0, omega arith, refl)
-route-allowed Post deposits route e = (1, omega arith, refl)
-route-allowed Delete (deposit number) route e = (0, omega arith, refl)
-route-allowed Get (deposit number) route e = (1, omega arith, refl)
-route-allowed Get (holds_of_deposit number) route e = (0, omega arith, refl)
-route-allowed Get (bag number) route e = (0, omega arith, refl)
-route-allowed Get (file number path) route e = (0, omega arith, refl)
-route-allowed Get (audit number) route e = (0, omega arith, refl)
-route-allowed Post holds route e = (0, omega arith, refl)
-route-allowed Delete (hold number) route e = (0, omega arith, refl)
-route-allowed Get due route e = (0, omega arith, refl)
+pub route-allowed : (method : Method) (place : Place) (route : Route) → route_at method place ≡ Some route → Contains (methods_of (pattern_of place)) method
+route-allowed Put (places.Class name) route e = (0, omega arith, refl)
+route-allowed Put (places.Collection name) route e = (0, omega arith, refl)
+route-allowed Get places.Deposits route e = (0, omega arith, refl)
+route-allowed Post places.Deposits route e = (1, omega arith, refl)
+route-allowed Delete (places.Deposit number) route e = (0, omega arith, refl)
+route-allowed Get (places.Deposit number) route e = (1, omega arith, refl)
+route-allowed Get (places.HoldsOfDeposit number) route e = (0, omega arith, refl)
+route-allowed Get (places.Bag number) route e = (0, omega arith, refl)
+route-allowed Get (places.File number path) route e = (0, omega arith, refl)
+route-allowed Get (places.Audit number) route e = (0, omega arith, refl)
+route-allowed Post places.Holds route e = (0, omega arith, refl)
+route-allowed Delete (places.Hold number) route e = (0, omega arith, refl)
+route-allowed Get places.Due route e = (0, omega arith, refl)
 route-allowed method place route e = absurd (let z = e in cc)
 
 pub methods-sorted : (pattern : Pattern) → IsStrictlySortedBy (slice_cmp nat_cmp) (map method_text (methods_of pattern))
 unfolding IsStrictlySortedBy
-methods-sorted patterns.Class = (tt, tt)
-methods-sorted patterns.Collection = (tt, tt)
 methods-sorted patterns.Deposits = ((refl, tt), (tt, tt))
 methods-sorted patterns.Deposit = ((refl, tt), (tt, tt))
-methods-sorted patterns.HoldsOfDeposit = (tt, tt)
-methods-sorted patterns.Bag = (tt, tt)
-methods-sorted patterns.File = (tt, tt)
-methods-sorted patterns.Audit = (tt, tt)
-methods-sorted patterns.Holds = (tt, tt)
-methods-sorted patterns.Hold = (tt, tt)
-methods-sorted patterns.Due = (tt, tt)
+methods-sorted pattern = (tt, tt)
 
 -- ---- the words of the methods
 
@@ -149,53 +133,53 @@ method-written text method e = by (bytes_eq text (codes "DELETE")) (bytes_eq tex
 
 -- ---- what a method and a path ask for
 
-refused-gives : (found : Option RouteValue) (refusal : DeskRefusal) (route : RouteValue) → ok_or found refusal ≡ Ok route → found ≡ Some route
+refused-gives : (found : Option Route) (refusal : DeskRefusal) (route : Route) → ok_or found refusal ≡ Ok route → found ≡ Some route
 refused-gives None refusal route e = absurd (let z = e in cc)
 refused-gives (Some r) refusal route e = let z = e in cc
 
-pub asked-found : (method path : List ℕ) (route : RouteValue) → AsksFor method path route → route_of method path ≡ Ok route
+pub asked-found : (method path : List ℕ) (route : Route) → AsksFor method path route → route_of method path ≡ Ok route
 asked-found method path route h =
     let place = spelling-read path (row route).1 h.1 in
     let word : method_of method ≡ Some (row route).0 = ap method_of h.0 ∙ method-read (row route).0 in
     rw place (rw word (rw (row-found route) refl))
 
-pub found-asked : (method path : List ℕ) (route : RouteValue) → route_of method path ≡ Ok route → AsksFor method path route
+pub found-asked : (method path : List ℕ) (route : Route) → route_of method path ≡ Ok route → AsksFor method path route
 found-asked method path route e = by (place_named path) refl e
   where
-    by_word : (place : PlaceValue) (word : Option Method) → place_named path ≡ Some place → method_of method ≡ word
+    by_word : (place : Place) (word : Option Method) → place_named path ≡ Some place → method_of method ≡ word
         → ok_or (option_and_then (λ m. route_at m place) word) (refusals.Method (pattern_of place)) ≡ Ok route → AsksFor method path route
     by_word place None is w q = absurd (let z = q in cc)
     by_word place (Some m) is w q =
         let r = row-only m place route (refused-gives (route_at m place) _ route q) in
         (method-written method m w ∙ ap method_text (sym r.0), subst (SpellsPlace path) (sym r.1) (reading-spelled path place is))
 
-    by : (o : Option PlaceValue) → place_named path ≡ o → route_of_place method o ≡ Ok route → AsksFor method path route
+    by : (o : Option Place) → place_named path ≡ o → route_of_place method o ≡ Ok route → AsksFor method path route
     by None is q = absurd (let z = q in cc)
     by (Some place) is q = by_word place (method_of method) is refl q
 
-no_route : (found : Option RouteValue) (pattern : Pattern) → ok_or found (refusals.Method pattern) ≡ Err refusals.NoRoute → ⊥
+no_route : (found : Option Route) (pattern : Pattern) → ok_or found (refusals.Method pattern) ≡ Err refusals.NoRoute → ⊥
 no_route None pattern e = let z = e in cc
 no_route (Some r) pattern e = let z = e in cc
 
-pub nothing-named : (method path : List ℕ) → route_of method path ≡ Err refusals.NoRoute → (place : PlaceValue) → SpellsPlace path place → ⊥
+pub nothing-named : (method path : List ℕ) → route_of method path ≡ Err refusals.NoRoute → (place : Place) → SpellsPlace path place → ⊥
 nothing-named method path e place h =
     no_route (option_and_then (λ m. route_at m place) (method_of method)) (pattern_of place) (sym (ap (route_of_place method) (spelling-read path place h)) ∙ e)
 
-pub named-nothing : (method path : List ℕ) → ((place : PlaceValue) → SpellsPlace path place → ⊥) → route_of method path ≡ Err refusals.NoRoute
+pub named-nothing : (method path : List ℕ) → ((place : Place) → SpellsPlace path place → ⊥) → route_of method path ≡ Err refusals.NoRoute
 named-nothing method path h = by (place_named path) refl
   where
-    by : (o : Option PlaceValue) → place_named path ≡ o → route_of_place method o ≡ Err refusals.NoRoute
+    by : (o : Option Place) → place_named path ≡ o → route_of_place method o ≡ Err refusals.NoRoute
     by None is = refl
     by (Some place) is = absurd (h place (reading-spelled path place is))
 
-refused-none : (found : Option RouteValue) (was pattern : Pattern) → ok_or found (refusals.Method was) ≡ Err (refusals.Method pattern) → (found ≡ None) × (was ≡ pattern)
+refused-none : (found : Option Route) (was pattern : Pattern) → ok_or found (refusals.Method was) ≡ Err (refusals.Method pattern) → (found ≡ None) × (was ≡ pattern)
 refused-none None was pattern e = (refl, let z = e in cc)
 refused-none (Some r) was pattern e = absurd (let z = e in cc)
 
 pub method-refused : (method path : List ℕ) (pattern : Pattern) → route_of method path ≡ Err (refusals.Method pattern) → IsOtherMethod method path pattern
 method-refused method path pattern e = by (place_named path) refl e
   where
-    by : (o : Option PlaceValue) → place_named path ≡ o → route_of_place method o ≡ Err (refusals.Method pattern) → IsOtherMethod method path pattern
+    by : (o : Option Place) → place_named path ≡ o → route_of_place method o ≡ Err (refusals.Method pattern) → IsOtherMethod method path pattern
     by None is q = absurd (let z = q in cc)
     by (Some place) is q =
         let r = refused-none (option_and_then (λ m. route_at m place) (method_of method)) (pattern_of place) pattern q in (
@@ -215,7 +199,7 @@ pub refused-method : (method path : List ℕ) (pattern : Pattern) → IsOtherMet
 refused-method method path pattern (place, spells, same, never) =
     ap (route_of_place method) (spelling-read path place spells) ∙ by_word (method_of method) refl
   where
-    by_route : (m : Method) (found : Option RouteValue) → method_of method ≡ Some m → route_at m place ≡ found → ok_or found (refusals.Method (pattern_of place)) ≡ Err (refusals.Method pattern)
+    by_route : (m : Method) (found : Option Route) → method_of method ≡ Some m → route_at m place ≡ found → ok_or found (refusals.Method (pattern_of place)) ≡ Err (refusals.Method pattern)
     by_route m None w is = ap (λ p. Err (refusals.Method p)) same
     by_route m (Some route) w is = absurd (never m (subst (λ p. Contains (methods_of p) m) same (route-allowed m place route is)) (method-written method m w))
 

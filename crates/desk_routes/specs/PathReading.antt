@@ -6,8 +6,8 @@ use Rattle.std.specs.List.{starts_with, list_all}
 use Rattle.std.specs.Char.{is_ascii_digit}
 use Rattle.std.specs.Str.Parse.{digits_value}
 use Rattle.office_core.specs.Names.{is_name}
-use Rattle.desk_routes.specs.Places.{PlaceValue}
-use Rattle.desk_routes.specs.Places as places
+use Rattle.desk_routes.specs.declared.place.Place.{Place}
+use Rattle.desk_routes.specs.declared.place.Place.TheVariants as places
 
 -- which pattern a path has, with the texts that stand for its name, its number and its path
 pub data Parts : Type 0 where
@@ -82,20 +82,24 @@ number_of text = if is_number text then Some (digits_value 10 text) else None
 abbrev pub name_of : List ℕ → Option (List ℕ)
 name_of text = if is_name text then Some text else None
 
--- the place of a path with these parts, where they are a name and numbers
-abbrev pub place_by_parts : Parts → Option PlaceValue
-place_by_parts (class name) = option_map places.class (name_of name)
-place_by_parts (collection name) = option_map places.collection (name_of name)
-place_by_parts deposits = Some places.deposits
-place_by_parts (deposit number) = option_map places.deposit (number_of number)
-place_by_parts (holds_of_deposit number) = option_map places.holds_of_deposit (number_of number)
-place_by_parts (bag number) = option_map places.bag (number_of number)
-place_by_parts (file number path) = option_and_then (λ n. Some (places.file n path)) (number_of number)
-place_by_parts (audit number) = option_map places.audit (number_of number)
-place_by_parts holds = Some places.holds
-place_by_parts (hold number) = option_map places.hold (number_of number)
-place_by_parts due = Some places.due
+-- a text that is not empty
+abbrev pub file_path_of : List ℕ → Option (List ℕ)
+file_path_of text = if nat_le 1 (length text) then Some text else None
+
+-- the place of a path with these parts, where they are a name, numbers and the path of a file
+abbrev pub place_by_parts : Parts → Option Place
+place_by_parts (class name) = option_map places.Class (name_of name)
+place_by_parts (collection name) = option_map places.Collection (name_of name)
+place_by_parts deposits = Some places.Deposits
+place_by_parts (deposit number) = option_map places.Deposit (number_of number)
+place_by_parts (holds_of_deposit number) = option_map places.HoldsOfDeposit (number_of number)
+place_by_parts (bag number) = option_map places.Bag (number_of number)
+place_by_parts (file number path) = option_and_then (λ n. option_map (places.File n) (file_path_of path)) (number_of number)
+place_by_parts (audit number) = option_map places.Audit (number_of number)
+place_by_parts holds = Some places.Holds
+place_by_parts (hold number) = option_map places.Hold (number_of number)
+place_by_parts due = Some places.Due
 
 -- what a path names, if anything
-abbrev pub place_named : List ℕ → Option PlaceValue
+abbrev pub place_named : List ℕ → Option Place
 place_named path = option_and_then place_by_parts (parts_of path)

@@ -1,11 +1,15 @@
--- The rows of the router that keeps the patterns: 256 stands for a part, and 257 for all that is left. The patterns are Depot's own, and their rows
--- are those of `matchit`.
-use Rattle.std.specs.Prelude.{ℕ, List, [], ◌∷◌, ◌++◌, codes}
+-- The rows of the router that keeps the patterns, and what its parameters say. In a row 256 stands for a part, and 257 for all that is left. The
+-- patterns are Depot's own, and their rows are those of `matchit`.
+use Rattle.std.specs.Prelude.{ℕ, List, [], ◌∷◌, ◌++◌, codes, Option, Some, option_map, option_and_then}
+use Rattle.matchit.specs.Params.{walk, named}
 use Rattle.matchit.specs.Router.{RouteOf}
 use Rattle.matchit.specs.Rows.{RowsOf}
-use Rattle.desk_routes.specs.declared.pattern.Pattern.{Pattern}
-use Rattle.desk_routes.specs.declared.pattern.Pattern.TheVariants as patterns
-use Rattle.desk_routes.specs.PathReading.{Parts, class, collection, deposit, holds_of_deposit, bag, audit, hold, file, deposits, holds, due}
+use Rattle.matchit.specs.declared.params.Params.{Params}
+use Rattle.desk_routes.specs.declared.place.Pattern.{Pattern}
+use Rattle.desk_routes.specs.declared.place.Pattern.TheVariants as patterns
+use Rattle.desk_routes.specs.declared.place.Place.{Place}
+use Rattle.desk_routes.specs.declared.place.Place.TheVariants as places
+use Rattle.desk_routes.specs.PathReading.{Parts, class, collection, deposit, holds_of_deposit, bag, audit, hold, file, deposits, holds, due, name_of, number_of, file_path_of}
 
 abbrev pub route_row : List ℕ → List ℕ → List (ℕ × ℕ) → Pattern → RouteOf Pattern
 route_row tokens text names value = record { pattern = tokens; text = text; names = names; value = value }
@@ -33,6 +37,38 @@ abbrev pub the_rows : RowsOf (RouteOf Pattern)
 the_rows =
     router_row (class []) ∷ router_row (collection []) ∷ router_row (audit []) ∷ router_row (bag []) ∷ router_row (file [] []) ∷ router_row (holds_of_deposit []) ∷ router_row (deposit [])
     ∷ router_row deposits ∷ router_row due ∷ router_row (hold []) ∷ router_row holds ∷ []
+
+-- ---- what the parameters of a row say
+
+-- what they took of the path, each with its name
+abbrev pub Texts : Type 0
+Texts = List (List ℕ × List ℕ)
+
+abbrev pub texts_in : Params → Texts
+texts_in params = walk params.pattern.now params.text.now params.path.now params.names.now 0 0
+
+abbrev pub name_in : Texts → Option (List ℕ)
+name_in texts = option_and_then name_of (named (codes "name") texts)
+
+abbrev pub number_in : Texts → Option ℕ
+number_in texts = option_and_then number_of (named (codes "number") texts)
+
+abbrev pub path_in : Texts → Option (List ℕ)
+path_in texts = option_and_then file_path_of (named (codes "path") texts)
+
+-- the place of a path that has this pattern and these texts
+abbrev pub place_by_texts : Pattern → Texts → Option Place
+place_by_texts patterns.Class texts = option_map places.Class (name_in texts)
+place_by_texts patterns.Collection texts = option_map places.Collection (name_in texts)
+place_by_texts patterns.Deposits texts = Some places.Deposits
+place_by_texts patterns.Deposit texts = option_map places.Deposit (number_in texts)
+place_by_texts patterns.HoldsOfDeposit texts = option_map places.HoldsOfDeposit (number_in texts)
+place_by_texts patterns.Bag texts = option_map places.Bag (number_in texts)
+place_by_texts patterns.File texts = option_and_then (λ n. option_map (places.File n) (path_in texts)) (number_in texts)
+place_by_texts patterns.Audit texts = option_map places.Audit (number_in texts)
+place_by_texts patterns.Holds texts = Some places.Holds
+place_by_texts patterns.Hold texts = option_map places.Hold (number_in texts)
+place_by_texts patterns.Due texts = Some places.Due
 
 -- ---- for private clauses: the router as it is filled, each time in its own order
 

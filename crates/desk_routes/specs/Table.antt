@@ -1,69 +1,82 @@
 -- The table of the routes: which method on which path asks for what. RFC 9110, section 9, has the methods, and section 15.5.6
 -- has what is refused with the methods that are allowed; the table is Depot's own.
-use Rattle.std.specs.Prelude.{◌≡◌, ◌≢◌, ℕ, List, Contains, codes, bytes_eq, Option, Some, None, option_and_then, Result, Err, ok_or, if◌then◌else◌}
+use Rattle.std.specs.Prelude.{◌≡◌, ◌≢◌, ℕ, List, [], ◌∷◌, Contains, codes, bytes_eq, Option, Some, None, option_and_then, Result, Err, ok_or, if◌then◌else◌}
 use Rattle.desk_routes.specs.declared.method.Method.{Method}
 use Rattle.desk_routes.specs.declared.method.Method.TheVariants.{Delete, Get, Post, Put}
-use Rattle.desk_routes.specs.declared.pattern.Pattern.{Pattern}
+use Rattle.desk_routes.specs.declared.place.Pattern.{Pattern}
+use Rattle.desk_routes.specs.declared.place.Pattern.TheVariants as patterns
+use Rattle.desk_routes.specs.declared.place.Place.{Place}
+use Rattle.desk_routes.specs.declared.place.Place.TheVariants as places
 use Rattle.desk_routes.specs.declared.refusal.DeskRefusal.{DeskRefusal}
 use Rattle.desk_routes.specs.declared.refusal.DeskRefusal.TheVariants as refusals
-use Rattle.desk_routes.specs.Routes.{method_text, methods_of}
-use Rattle.desk_routes.specs.Places.{PlaceValue, class, collection, deposits, deposit, holds_of_deposit, bag, file, audit, holds, hold, due, SpellsPlace, pattern_of}
+use Rattle.desk_routes.specs.declared.route.Route.{Route}
+use Rattle.desk_routes.specs.declared.route.Route.TheVariants as routes
+use Rattle.desk_routes.specs.Places.{SpellsPlace, pattern_of}
 use Rattle.desk_routes.specs.PathReading.{place_named}
 
--- what a method asks of a place
-pub data RouteValue : Type 0 where
-  define_class define_collection : List ℕ → RouteValue
-  deposit_bag list_deposits : RouteValue
-  record_of dispose holds_of download_bag : ℕ → RouteValue
-  download_file : ℕ → List ℕ → RouteValue
-  audit_of : ℕ → RouteValue
-  place_hold : RouteValue
-  release : ℕ → RouteValue
-  due_list : RouteValue
+abbrev pub method_text : Method → List ℕ
+method_text Delete = codes "DELETE"
+method_text Get = codes "GET"
+method_text Post = codes "POST"
+method_text Put = codes "PUT"
 
 -- the method and the place of each route
-abbrev pub row : RouteValue → Method × PlaceValue
-row (define_class name) = (Put, class name)
-row (define_collection name) = (Put, collection name)
-row deposit_bag = (Post, deposits)
-row list_deposits = (Get, deposits)
-row (record_of number) = (Get, deposit number)
-row (dispose number) = (Delete, deposit number)
-row (holds_of number) = (Get, holds_of_deposit number)
-row (download_bag number) = (Get, bag number)
-row (download_file number path) = (Get, file number path)
-row (audit_of number) = (Get, audit number)
-row place_hold = (Post, holds)
-row (release number) = (Delete, hold number)
-row due_list = (Get, due)
+abbrev pub row : Route → Method × Place
+row (routes.DefineClass name) = (Put, places.Class name)
+row (routes.DefineCollection name) = (Put, places.Collection name)
+row routes.Deposit = (Post, places.Deposits)
+row routes.List = (Get, places.Deposits)
+row (routes.Record number) = (Get, places.Deposit number)
+row (routes.Dispose number) = (Delete, places.Deposit number)
+row (routes.Holds number) = (Get, places.HoldsOfDeposit number)
+row (routes.DownloadBag number) = (Get, places.Bag number)
+row (routes.DownloadFile number path) = (Get, places.File number path)
+row (routes.Audit number) = (Get, places.Audit number)
+row routes.PlaceHold = (Post, places.Holds)
+row (routes.Release number) = (Delete, places.Hold number)
+row routes.DueList = (Get, places.Due)
+
+-- the methods that the paths of each pattern take, in the order of the alphabet
+abbrev pub methods_of : Pattern → List Method
+methods_of patterns.Class = Put ∷ []
+methods_of patterns.Collection = Put ∷ []
+methods_of patterns.Deposits = Get ∷ Post ∷ []
+methods_of patterns.Deposit = Delete ∷ Get ∷ []
+methods_of patterns.HoldsOfDeposit = Get ∷ []
+methods_of patterns.Bag = Get ∷ []
+methods_of patterns.File = Get ∷ []
+methods_of patterns.Audit = Get ∷ []
+methods_of patterns.Holds = Post ∷ []
+methods_of patterns.Hold = Delete ∷ []
+methods_of patterns.Due = Get ∷ []
 
 -- this method on this path asks for this
-abbrev pub AsksFor : List ℕ → List ℕ → RouteValue → Type 0
+abbrev pub AsksFor : List ℕ → List ℕ → Route → Type 0
 AsksFor method path route = (method ≡ method_text (row route).0) × SpellsPlace path (row route).1
 
 -- the path names a place of this pattern, and the method is none of those that such a place takes
 abbrev pub IsOtherMethod : List ℕ → List ℕ → Pattern → Type 0
 IsOtherMethod method path pattern =
-    (place : PlaceValue) × SpellsPlace path place × (pattern_of place ≡ pattern)
+    (place : Place) × SpellsPlace path place × (pattern_of place ≡ pattern)
     × ((allowed : Method) → Contains (methods_of pattern) allowed → method ≢ method_text allowed)
 
 -- ---- the same, found from the method and the path
 
 -- what a method asks of a place, if the place takes it
-abbrev pub route_at : Method → PlaceValue → Option RouteValue
-route_at Put (class name) = Some (define_class name)
-route_at Put (collection name) = Some (define_collection name)
-route_at Post deposits = Some deposit_bag
-route_at Get deposits = Some list_deposits
-route_at Get (deposit number) = Some (record_of number)
-route_at Delete (deposit number) = Some (dispose number)
-route_at Get (holds_of_deposit number) = Some (holds_of number)
-route_at Get (bag number) = Some (download_bag number)
-route_at Get (file number path) = Some (download_file number path)
-route_at Get (audit number) = Some (audit_of number)
-route_at Post holds = Some place_hold
-route_at Delete (hold number) = Some (release number)
-route_at Get due = Some due_list
+abbrev pub route_at : Method → Place → Option Route
+route_at Put (places.Class name) = Some (routes.DefineClass name)
+route_at Put (places.Collection name) = Some (routes.DefineCollection name)
+route_at Post places.Deposits = Some routes.Deposit
+route_at Get places.Deposits = Some routes.List
+route_at Get (places.Deposit number) = Some (routes.Record number)
+route_at Delete (places.Deposit number) = Some (routes.Dispose number)
+route_at Get (places.HoldsOfDeposit number) = Some (routes.Holds number)
+route_at Get (places.Bag number) = Some (routes.DownloadBag number)
+route_at Get (places.File number path) = Some (routes.DownloadFile number path)
+route_at Get (places.Audit number) = Some (routes.Audit number)
+route_at Post places.Holds = Some routes.PlaceHold
+route_at Delete (places.Hold number) = Some (routes.Release number)
+route_at Get places.Due = Some routes.DueList
 route_at method place = None
 
 -- the method that a word is, compared exactly
@@ -74,10 +87,10 @@ method_of text =
     else (if bytes_eq text (codes "POST") then Some Post
     else (if bytes_eq text (codes "PUT") then Some Put else None)))
 
-abbrev pub route_of_place : List ℕ → Option PlaceValue → Result RouteValue DeskRefusal
+abbrev pub route_of_place : List ℕ → Option Place → Result Route DeskRefusal
 route_of_place method None = Err refusals.NoRoute
 route_of_place method (Some place) = ok_or (option_and_then (λ m. route_at m place) (method_of method)) (refusals.Method (pattern_of place))
 
 -- what a method and a path ask for, or why that is refused: the path names nothing, or its place doesn't take the method
-abbrev pub route_of : List ℕ → List ℕ → Result RouteValue DeskRefusal
+abbrev pub route_of : List ℕ → List ℕ → Result Route DeskRefusal
 route_of method path = route_of_place method (place_named path)

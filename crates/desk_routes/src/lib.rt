@@ -1,19 +1,19 @@
 //! The routes of the desk: what a path names, which methods it takes, and what the desk refuses.
 #![tactic(auto)]
 
+mod file_path;
 pub mod laws;
 mod method;
 mod number;
-mod pattern;
 mod place;
 mod refusal;
 mod route;
 mod routes;
 mod target;
 
+pub use file_path::FilePath;
 pub use method::Method;
-pub use pattern::Pattern;
-pub use place::Place;
+pub use place::{Pattern, Place};
 pub use refusal::DeskRefusal;
 pub use route::Route;
 pub use routes::Routes;

@@ -1,51 +1,85 @@
-//! What a path names.
+//! What a path names, and the patterns of such paths.
 
-ghost use Rattle.std.specs.Prelude.{◌≡◌, option_map};
+ghost use Rattle.std.specs.Prelude.{◌≡◌};
 ghost use Rattle.matchit.specs.Params.{AllText};
 ghost use Rattle.desk_routes.specs.Places.{pattern_of};
-ghost use Rattle.desk_routes.specs.Views.{place_view, place_by_texts, name_in, number_in, texts_in};
+ghost use Rattle.desk_routes.specs.Rows.{place_by_texts, name_in, number_in, path_in, texts_in};
+ghost use Rattle.desk_routes.specs.Table.{methods_of};
 
+use crate::file_path::FilePath;
+use crate::method::Method;
 use crate::number::read_number;
-use crate::pattern::Pattern;
 use matchit::Params;
 use office_core::Name;
 
-/// What a path names. Names are names as they stand, and numbers have 1 to 7 digits, without a
-/// leading zero: nothing is decoded.
-#[derive(Drop)]
-pub enum Place<'p> {
+/// A pattern of paths that name something.
+#[derive(Clone, Copy, Debug, PartialEq, Eq)]
+pub enum Pattern {
     /// `/classes/NAME`
-    Class(Name<'p>),
+    Class,
     /// `/collections/NAME`
-    Collection(Name<'p>),
+    Collection,
     /// `/deposits`
     Deposits,
     /// `/deposits/N`
-    Deposit(u32),
+    Deposit,
     /// `/deposits/N/holds`
-    HoldsOfDeposit(u32),
+    HoldsOfDeposit,
     /// `/deposits/N/bag`
-    Bag(u32),
+    Bag,
     /// `/deposits/N/files/PATH`
-    File {
-        deposit: u32,
-        /// All that follows `files/`, as it stands. It is never empty.
-        path: &'p str,
-    },
+    File,
     /// `/deposits/N/audit`
-    Audit(u32),
+    Audit,
     /// `/holds`
     Holds,
     /// `/holds/K`
-    Hold(u32),
+    Hold,
     /// `/due`
+    Due,
+}
+
+impl Pattern {
+    /// The methods that a path of the pattern takes, in the order of the alphabet.
+    pub fn methods(self) -> &'static [Method]
+        ensures { result.now ≡ methods_of self }
+    {
+        match self {
+            Pattern::Class | Pattern::Collection => &[Method::Put],
+            Pattern::Deposits => &[Method::Get, Method::Post],
+            Pattern::Deposit => &[Method::Delete, Method::Get],
+            Pattern::HoldsOfDeposit
+            | Pattern::Bag
+            | Pattern::File
+            | Pattern::Audit
+            | Pattern::Due => &[Method::Get],
+            Pattern::Holds => &[Method::Post],
+            Pattern::Hold => &[Method::Delete],
+        }
+    }
+}
+
+/// What a path names: a case for each `Pattern`, with the parts of the path. Names are names as
+/// they stand, and numbers have 1 to 7 digits, without a leading zero: nothing is decoded.
+#[derive(Drop)]
+pub enum Place<'p> {
+    Class(Name<'p>),
+    Collection(Name<'p>),
+    Deposits,
+    Deposit(u32),
+    HoldsOfDeposit(u32),
+    Bag(u32),
+    File { deposit: u32, path: FilePath<'p> },
+    Audit(u32),
+    Holds,
+    Hold(u32),
     Due,
 }
 
 impl Place<'_> {
     /// The pattern of the paths that name such a place.
     pub fn pattern(&self) -> Pattern
-        ensures { result ≡ pattern_of (place_view self.now) }
+        ensures { result ≡ pattern_of self.now }
     {
         match self {
             Place::Class(_) => Pattern::Class,
@@ -75,10 +109,16 @@ fn number_in(params: &Params<'_, '_>) -> Option<u32>
     read_number(params.get("number")?)
 }
 
+fn path_in<'p>(params: &Params<'_, 'p>) -> Option<FilePath<'p>>
+    ensures { AllText (texts_in params.now) → result ≡ path_in (texts_in params.now) }
+{
+    FilePath::read(params.get("path")?)
+}
+
 /// The place of a path that has the pattern, by what the parameters took of it.
 pub(crate) fn place_by_params<'p>(pattern: Pattern, params: &Params<'_, 'p>) -> Option<Place<'p>>
     ensures { AllText (texts_in params.now)
-        → option_map place_view result ≡ place_by_texts pattern (texts_in params.now) }
+        → result ≡ place_by_texts pattern (texts_in params.now) }
 {
     match pattern {
         Pattern::Class => Some(Place::Class(name_in(params)?)),
@@ -89,7 +129,7 @@ pub(crate) fn place_by_params<'p>(pattern: Pattern, params: &Params<'_, 'p>) -> 
         Pattern::Bag => Some(Place::Bag(number_in(params)?)),
         Pattern::File => Some(Place::File {
             deposit: number_in(params)?,
-            path: params.get("path")?,
+            path: path_in(params)?,
         }),
         Pattern::Audit => Some(Place::Audit(number_in(params)?)),
         Pattern::Holds => Some(Place::Holds),

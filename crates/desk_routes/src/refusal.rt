@@ -1,6 +1,6 @@
 //! What the desk refuses before the office is asked.
 
-use crate::pattern::Pattern;
+use crate::place::Pattern;
 
 /// Why the desk refuses a request. The office is not asked.
 #[derive(Clone, Copy, Debug, PartialEq, Eq)]

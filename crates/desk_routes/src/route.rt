@@ -1,9 +1,9 @@
 //! What a method asks of a place.
 
-ghost use Rattle.std.specs.Prelude.{◌≡◌, option_map};
-ghost use Rattle.desk_routes.specs.Table.{method_of, route_at};
-ghost use Rattle.desk_routes.specs.Views.{place_view, route_view};
+ghost use Rattle.std.specs.Prelude.{◌≡◌};
+ghost use Rattle.desk_routes.specs.Table.{route_at};
 
+use crate::file_path::FilePath;
 use crate::method::Method;
 use crate::place::Place;
 use office_core::Name;
@@ -28,11 +28,7 @@ pub enum Route<'p> {
     /// `GET /deposits/N/bag`
     DownloadBag(u32),
     /// `GET /deposits/N/files/PATH`
-    DownloadFile {
-        deposit: u32,
-        /// All that follows `files/`, as it stands. It is never empty.
-        path: &'p str,
-    },
+    DownloadFile { deposit: u32, path: FilePath<'p> },
     /// `GET /deposits/N/audit`
     Audit(u32),
     /// `POST /holds`
@@ -43,21 +39,8 @@ pub enum Route<'p> {
     DueList,
 }
 
-/// The method that a word is, compared exactly.
-pub(crate) fn read_method(text: &str) -> Option<Method>
-    ensures { result ≡ method_of text.now }
-{
-    match text {
-        "DELETE" => Some(Method::Delete),
-        "GET" => Some(Method::Get),
-        "POST" => Some(Method::Post),
-        "PUT" => Some(Method::Put),
-        _ => None,
-    }
-}
-
 fn delete_route<'p>(place: Place<'p>) -> Option<Route<'p>>
-    ensures { option_map route_view result ≡ route_at Method.Delete (place_view place.entry) }
+    ensures { result ≡ route_at Method.Delete place.entry }
 {
     match place {
         Place::Deposit(number) => Some(Route::Dispose(number)),
@@ -67,7 +50,7 @@ fn delete_route<'p>(place: Place<'p>) -> Option<Route<'p>>
 }
 
 fn get_route<'p>(place: Place<'p>) -> Option<Route<'p>>
-    ensures { option_map route_view result ≡ route_at Method.Get (place_view place.entry) }
+    ensures { result ≡ route_at Method.Get place.entry }
 {
     match place {
         Place::Deposits => Some(Route::List),
@@ -82,7 +65,7 @@ fn get_route<'p>(place: Place<'p>) -> Option<Route<'p>>
 }
 
 fn post_route<'p>(place: Place<'p>) -> Option<Route<'p>>
-    ensures { option_map route_view result ≡ route_at Method.Post (place_view place.entry) }
+    ensures { result ≡ route_at Method.Post place.entry }
 {
     match place {
         Place::Deposits => Some(Route::Deposit),
@@ -92,7 +75,7 @@ fn post_route<'p>(place: Place<'p>) -> Option<Route<'p>>
 }
 
 fn put_route<'p>(place: Place<'p>) -> Option<Route<'p>>
-    ensures { option_map route_view result ≡ route_at Method.Put (place_view place.entry) }
+    ensures { result ≡ route_at Method.Put place.entry }
 {
     match place {
         Place::Class(name) => Some(Route::DefineClass(name)),
@@ -103,7 +86,7 @@ fn put_route<'p>(place: Place<'p>) -> Option<Route<'p>>
 
 /// What the method asks of the place, where the place takes it.
 pub(crate) fn route_at<'p>(method: Method, place: Place<'p>) -> Option<Route<'p>>
-    ensures { option_map route_view result ≡ route_at method (place_view place.entry) }
+    ensures { result ≡ route_at method place.entry }
 {
     match method {
         Method::Delete => delete_route(place),

@@ -1,15 +1,14 @@
 //! The table of the routes.
 
-ghost use Rattle.std.specs.Prelude.{◌≡◌, [], IfOk, OnOk, MatchResult, Ok, Err, option_map};
+ghost use Rattle.std.specs.Prelude.{◌≡◌, [], IfOk, OnOk};
 ghost use Rattle.desk_routes.specs.PathReading.{place_named};
 ghost use Rattle.desk_routes.specs.Rows.{definition_rows, rows_with_deposits, rows_with_parts_of_deposit, the_rows};
 ghost use Rattle.desk_routes.specs.Table.{route_of};
-ghost use Rattle.desk_routes.specs.Views.{place_view, route_view};
 
-use crate::pattern::Pattern;
-use crate::place::{Place, place_by_params};
+use crate::method::Method;
+use crate::place::{Pattern, Place, place_by_params};
 use crate::refusal::DeskRefusal;
-use crate::route::{Route, read_method, route_at};
+use crate::route::{Route, route_at};
 use matchit::{InsertError, Router};
 use std::alloc::{AllocError, Global};
 use std::marker::Model;
@@ -88,7 +87,7 @@ impl Model for Routes {
     ghost use Rattle.matchit.specs.Router.{RouteOf};
     ghost use Rattle.matchit.specs.Rows.{RowsOf};
     ghost use Rattle.desk_routes.specs.Rows.{the_rows};
-    ghost use Rattle.desk_routes.specs.declared.pattern.Pattern.{Pattern};
+    ghost use Rattle.desk_routes.specs.declared.place.Pattern.{Pattern};
 
     ghost Value = { RowsOf (RouteOf Pattern) };
 
@@ -110,7 +109,7 @@ impl Routes {
 
     /// What a path names, if anything: the place of which the path is the spelling.
     pub fn find<'p>(&self, path: &'p str) -> Option<Place<'p>>
-        ensures { option_map place_view result ≡ place_named path.now }
+        ensures { result ≡ place_named path.now }
     {
         match self.router.at(path) {
             Ok(found) => place_by_params(*found.value, &found.params),
@@ -123,15 +122,13 @@ impl Routes {
     /// Refuses with `NoRoute` where the path names nothing, and with `Method` where the place that
     /// it names doesn't take the method. Methods are compared exactly.
     pub fn route<'p>(&self, method: &str, path: &'p str) -> Result<Route<'p>, DeskRefusal>
-        ensures { MatchResult result
-            (λ route. route_of method.now path.now ≡ Ok (route_view route))
-            (λ refusal. route_of method.now path.now ≡ Err refusal) }
+        ensures { result ≡ route_of method.now path.now }
     {
         let Some(place) = self.find(path) else {
             return Err(DeskRefusal::NoRoute);
         };
         let pattern = place.pattern();
-        match read_method(method) {
+        match Method::read(method) {
             Some(method) => match route_at(method, place) {
                 Some(route) => Ok(route),
                 None => Err(DeskRefusal::Method(pattern)),

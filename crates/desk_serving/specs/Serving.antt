@@ -10,7 +10,7 @@ use Rattle.office_core.specs.declared.request.Request.{Request}
 use Rattle.office_history.specs.Runs.{Item}
 use Rattle.office_engine.specs.Keeping.{CommitsTo, IsTurn, after_item}
 use Rattle.desk_routes.specs.declared.refusal.DeskRefusal.{DeskRefusal}
-use Rattle.desk_hearing.specs.Asked.{HeardValue, asked_of}
+use Rattle.desk_hearing.specs.Asking.{HeardValue, ask_and_bag}
 use Rattle.desk_hearing.specs.Hearing.{Hears}
 use Rattle.desk_answers.specs.Answers.{answer_text, refusal_text}
 use Rattle.desk_log.specs.Notes.{note_of}
@@ -20,7 +20,7 @@ use Rattle.desk_log.specs.declared.note.OfficeNote.{OfficeNote}
 pub record IsItemOf (day : Date) (heard : HeardValue) (item : Item) : Type 0 where
   pub on_day : item.0 ≡ day
   pub caller : item.1.now ≡ heard.caller
-  pub asked : asked_of item.2 ≡ heard.asked
+  pub asked : ask_and_bag item.2 ≡ (heard.ask, heard.bag)
 
 -- the office serves what was heard, with this answer: as one turn of a run does, on an honest disk; what a crash may leave then is the
 -- office before or after it

@@ -8,7 +8,7 @@ use Rattle.office_history.specs.Histories.{History}
 use Rattle.office_history.specs.Runs.{IsLegal, Item, Run}
 use Rattle.office_engine.specs.Keeping.{IsKeptBy, IsLegalAndKept}
 use Rattle.desk_routes.specs.declared.refusal.DeskRefusal.{DeskRefusal}
-use Rattle.desk_hearing.specs.Asked.{HeardValue}
+use Rattle.desk_hearing.specs.Asking.{HeardValue}
 use Rattle.desk_hearing.specs.Hearing.{Hears}
 use Rattle.desk_answers.specs.Answers.{answer_text, refusal_text}
 use Rattle.desk_serving.specs.Serving.{DeskRequest, IsItemOf}

@@ -11,7 +11,7 @@ use Rattle.office_history.specs.Histories.{History}
 use Rattle.office_history.specs.Runs.{Item, Step}
 use Rattle.office_engine.specs.Keeping.{CommitsTo, Installs, KeepsTables, after_policy}
 use Rattle.desk_routes.specs.declared.refusal.DeskRefusal.{DeskRefusal}
-use Rattle.desk_hearing.specs.Asked.{HeardValue}
+use Rattle.desk_hearing.specs.Asking.{HeardValue}
 use Rattle.desk_hearing.specs.Hearing.{Hears}
 use Rattle.desk_answers.specs.Answers.{answer_text, refusal_text}
 use Rattle.desk_listening.specs.Listening.{Connection, lost, refused, served}

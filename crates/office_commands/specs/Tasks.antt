@@ -9,7 +9,7 @@ use Rattle.sqlite.specs.Held.{Held}
 use Rattle.sqlite.specs.Store.{Ghosts}
 use Rattle.office_core.specs.Policies.{PolicyValue}
 use Rattle.desk_routes.specs.declared.refusal.DeskRefusal.TheVariants.{Truncated}
-use Rattle.desk_hearing.specs.Asked.{HeardValue}
+use Rattle.desk_hearing.specs.Asking.{HeardValue}
 use Rattle.desk_hearing.specs.Hearing.{Hears}
 use Rattle.desk_listening.specs.Listening as listening
 use Rattle.desk_listening.specs.Listening.{Connection}

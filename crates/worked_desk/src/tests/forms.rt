@@ -147,7 +147,7 @@ fn paths(rt: HostRuntime) -> Result<(), Fail> {
     for (path, bytes) in &PATHS {
         holds(
             &rt,
-            decode_path(rt.alloc(), path)?.as_slice() == *bytes,
+            decode_path(rt.alloc(), path)?.as_bytes() == *bytes,
             path,
         );
     }

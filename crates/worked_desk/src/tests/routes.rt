@@ -9,15 +9,10 @@ fn finds_a_place(rt: HostRuntime) -> Result<(), Fail> {
     let routes = Routes::new(rt.alloc())?;
     let place = routes.find("/deposits/12/files//a%20b").ok_or("no place")?;
     assert!(rt; matches!(place.pattern(), Pattern::File));
-    assert!(rt;
-        matches!(
-            place,
-            Place::File {
-                deposit: 12,
-                path: "/a%20b"
-            }
-        )
-    );
+    let Place::File { deposit, path } = place else {
+        return Err(Fail::new("no file"));
+    };
+    assert!(rt; deposit == 12 && path.as_str() == "/a%20b");
     assert!(rt; routes.find("/deposits/012/files/a").is_none());
     Ok(())
 }

@@ -1,6 +1,5 @@
-use Rattle.std.proofs.Common.{Err, [], refl, ap}
+use Rattle.std.proofs.Common.{Err, refl, ap}
 use Rattle.std.proofs.lemmas.Result.{err_from_is_err_and}
-use Rattle.desk_hearing.specs.Asked.{asked_with}
 use Rattle.desk_hearing.proofs.JudgingLemmas.{years_refused, body_refused}
 use Rattle.desk_hearing.proofs.question.ask_of.Goals as goal
 
@@ -18,10 +17,8 @@ returns-in-Deposit-clause-asked c = rw c.in-Deposit.is refl
 pub returns-in_err-check_no_body-in-Whole-clause-asked : goal.returns-in_err-check_no_body-in-Whole-clause-asked
 returns-in_err-check_no_body-in-Whole-clause-asked c =
     let p = err_from_is_err_and c.from_residual-in_err-check_no_body-in-Whole.result c.from_residual-in_err-check_no_body-in-Whole.ensures.1 in
-    rw (c.in-Whole.is, p.1, p.2) (body_refused (asked_with c.in-Whole.ask []) c.args.body.now _ (λ e. let wrong = c.in_err-check_no_body-in-Whole.ensures.taken.1 e in cc)
+    rw (c.in-Whole.is, p.1, p.2) (body_refused c.in-Whole.ask c.args.body.now _ (λ e. let wrong = c.in_err-check_no_body-in-Whole.ensures.taken.1 e in cc)
     c.in_err-check_no_body-in-Whole.ensures.fault)
 
 pub returns-in_ok-check_no_body-in-Whole-clause-asked : goal.returns-in_ok-check_no_body-in-Whole-clause-asked
-returns-in_ok-check_no_body-in-Whole-clause-asked c =
-    let none = c.in_ok-check_no_body-in-Whole.ensures.taken.0 refl in
-    rw c.in-Whole.is (none, ap (asked_with c.in-Whole.ask) none)
+returns-in_ok-check_no_body-in-Whole-clause-asked c = rw c.in-Whole.is (c.in_ok-check_no_body-in-Whole.ensures.taken.0 refl, refl)

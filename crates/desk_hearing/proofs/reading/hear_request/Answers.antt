@@ -1,6 +1,6 @@
 use Rattle.std.proofs.Common.{◌+◌, ◌<◌, ◌≤◌, Ok, Err, take, subst}
 use Rattle.std.proofs.lemmas.Result.{err_from_is_err_and}
-use Rattle.desk_hearing.specs.View.{AnswersFront, question_seen}
+use Rattle.desk_hearing.specs.Steps.{AnswersFront}
 use Rattle.desk_hearing.proofs.ReadingLemmas.{head_given, head_end, front_given, judged_uncut, filled, fill_given, fill_end, ask_given, ask_uncut, heard_given, whole_of, part_is}
 use Rattle.desk_hearing.proofs.reading.hear_request.Goals as goal
 
@@ -37,7 +37,7 @@ returns-in_err-fill-clause-given g c =
     let first = c.in_ok-head.ensures.given (λ e. cc) in
     let announces = subst (λ l. AnswersFront (take c.in_ok-head.head.end l) (Ok c.in_ok-announced.announced)) c.deref.ensures.value c.in_ok-announced.ensures.answered in
     let p = err_from_is_err_and c.from_residual-in_err-fill.result c.from_residual-in_err-fill.ensures.1 in
-    rw (p.1, p.2) (fill_given c.in_err-fill.field-0.0 _ _ c.fill.new.bytes.items c.in_ok-head.head.end c.in_ok-announced.announced.body_length c.in_ok-announced.announced.caller (question_seen c.in_ok-announced.announced.question)
+    rw (p.1, p.2) (fill_given c.in_err-fill.field-0.0 _ _ c.fill.new.bytes.items c.in_ok-head.head.end c.in_ok-announced.announced.body_length c.in_ok-announced.announced.caller c.in_ok-announced.announced.question
     (λ remembered. let more = c.in_err-fill.ensures.given (λ e. remembered (cc)) in
     filled _ _ _ c.in_ok-head.head.bytes.items first.0 more.0 c.fill.new.bytes.items c.in_ok-head.head.end _ _ _ first.1 first.2.0 first.2.1 (subst (λ n. c.in_ok-head.head.end ≤ n) c.in_ok-head.head.bytes.ok.0 c.in_ok-head.ensures.within.0) announces more.1 more.2)
     (subst (λ n. n < c.in_ok-head.head.end + c.in_ok-announced.announced.body_length) c.fill.new.bytes.ok.0 c.in_err-fill.ensures.short))
@@ -56,7 +56,7 @@ returns-in_err-ask-clause-given g c =
     let more = c.in_ok-fill.ensures.given (λ e. cc) in
     let announces = subst (λ l. AnswersFront (take c.in_ok-head.head.end l) (Ok c.in_ok-announced.announced)) c.deref.ensures.value c.in_ok-announced.ensures.answered in
     let p = err_from_is_err_and c.from_residual-in_err-ask.result c.from_residual-in_err-ask.ensures.1 in
-    rw (p.1, p.2) (ask_given c.in_err-ask.field-0.0 _ _ c.fill.new.bytes.items _ c.in_ok-head.head.end c.in_ok-announced.announced.body_length c.in_ok-announced.announced.caller (question_seen c.in_ok-announced.announced.question)
+    rw (p.1, p.2) (ask_given c.in_err-ask.field-0.0 _ _ c.fill.new.bytes.items _ c.in_ok-head.head.end c.in_ok-announced.announced.body_length c.in_ok-announced.announced.caller c.in_ok-announced.announced.question
     (filled _ _ _ c.in_ok-head.head.bytes.items first.0 more.0 c.fill.new.bytes.items c.in_ok-head.head.end _ _ _ first.1 first.2.0 first.2.1 (subst (λ n. c.in_ok-head.head.end ≤ n) c.in_ok-head.head.bytes.ok.0 c.in_ok-head.ensures.within.0) announces more.1 more.2)
     (subst (λ n. c.in_ok-head.head.end + c.in_ok-announced.announced.body_length ≤ n) c.fill.new.bytes.ok.0 c.in_ok-fill.ensures.ok) (part_is c.deref-2.result.now c.fill.new.bytes.items c.in_ok-head.head.end c.in_ok-announced.announced.body_length c.deref-2.ensures.value) c.in_err-ask.ensures.asked)
 
@@ -73,7 +73,7 @@ returns-clause-given g c =
     let first = c.in_ok-head.ensures.given (λ e. cc) in
     let more = c.in_ok-fill.ensures.given (λ e. cc) in
     let announces = subst (λ l. AnswersFront (take c.in_ok-head.head.end l) (Ok c.in_ok-announced.announced)) c.deref.ensures.value c.in_ok-announced.ensures.answered in
-    heard_given _ _ c.fill.new.bytes.items _ c.truncate.new.self.items c.in_ok-head.head.end c.in_ok-announced.announced.body_length c.in_ok-announced.announced.caller (question_seen c.in_ok-announced.announced.question) c.in_ok-ask.ask
+    heard_given _ _ c.fill.new.bytes.items _ c.truncate.new.self.items c.in_ok-head.head.end c.in_ok-announced.announced.body_length c.in_ok-announced.announced.caller c.in_ok-announced.announced.question c.in_ok-ask.ask
     (filled _ _ _ c.in_ok-head.head.bytes.items first.0 more.0 c.fill.new.bytes.items c.in_ok-head.head.end _ _ _ first.1 first.2.0 first.2.1 (subst (λ n. c.in_ok-head.head.end ≤ n) c.in_ok-head.head.bytes.ok.0 c.in_ok-head.ensures.within.0) announces more.1 more.2)
     (subst (λ n. c.in_ok-head.head.end + c.in_ok-announced.announced.body_length ≤ n) c.fill.new.bytes.ok.0 c.in_ok-fill.ensures.ok) (part_is c.deref-2.result.now c.fill.new.bytes.items c.in_ok-head.head.end c.in_ok-announced.announced.body_length c.deref-2.ensures.value) c.truncate.ensures.items c.in_ok-ask.ensures.asked
 
