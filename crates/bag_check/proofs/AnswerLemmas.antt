@@ -23,24 +23,8 @@ given bag judged e result answered = subst (λ (r : Result Report Fault). Gives 
 
 -- no fault but want of memory names none
 only_memory : (fault : BagFault) → named_fault fault ≡ None → fault ≡ faults.Memory
-only_memory faults.NoDeclaration e = absurd cc
-only_memory (faults.Declaration f) e = absurd cc
-only_memory faults.FetchNotSupported e = absurd cc
-only_memory (faults.UnsupportedAlgorithm name) e = absurd cc
-only_memory faults.NoPayloadManifest e = absurd cc
-only_memory (faults.ManifestText name f) e = absurd cc
-only_memory (faults.OutsidePayload name path) e = absurd cc
-only_memory (faults.TagManifestListed name path) e = absurd cc
-only_memory (faults.PayloadInTagManifest name path) e = absurd cc
-only_memory (faults.PayloadManifestUnlisted name path) e = absurd cc
-only_memory (faults.Missing name path) e = absurd cc
-only_memory (faults.Unlisted name path) e = absurd cc
-only_memory (faults.InfoText f) e = absurd cc
-only_memory faults.OxumForm e = absurd cc
-only_memory faults.OxumTwice e = absurd cc
-only_memory faults.OxumWrong e = absurd cc
-only_memory (faults.ChecksumWrong name path) e = absurd cc
 only_memory faults.Memory e = refl
+only_memory _ e = absurd cc
 
 pub valid_is_accepted : (bag : List File) → IsBag bag → (result : Result BagReport BagFault) → Answered bag result → (v : Version) → Valid bag v
     → MatchResult result (λ report. report_seen report ≡ report_of v bag) (λ fault. fault ≡ faults.Memory)

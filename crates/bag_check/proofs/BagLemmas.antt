@@ -1,5 +1,5 @@
 -- Files of a bag by their paths.
-use Rattle.bag_check.proofs.Common.{◌≡◌, ℕ, ◌⊎◌, inl, inr, Bool, true, false, cond, List, [], ◌∷◌, map, filter, refl, sym, ap, subst, ◌∙◌, Option, Some, None, option_map, is_some, find, bytes_eq, codes, same_Some, false≢true, Decides-eqb, bytes_eq-Decides, starts_is, comes_before, File, IsBag, Ascends, content_at, Holds, HasFile, IsPayload, is_payload, has_path, before_chain, Has, contains_has, has_contains, has_map, map_has, has_filter, filter_has}
+use Rattle.bag_check.proofs.Common.{cases_Bool, no_value, ◌≡◌, ℕ, ◌⊎◌, inl, inr, Bool, true, false, cond, List, [], ◌∷◌, map, filter, refl, sym, ap, subst, ◌∙◌, Option, Some, None, option_map, is_some, find, bytes_eq, codes, same_Some, Decides-eqb, bytes_eq-Decides, starts_is, comes_before, File, IsBag, Ascends, content_at, Holds, HasFile, IsPayload, is_payload, has_path, before_chain, Has, contains_has, has_contains, has_map, map_has, has_filter, filter_has}
 use Rattle.bag_check.proofs.OrderLemmas.{apart, Up, Ascending, ascending_rest, later_path}
 
 -- ---- a bag's paths
@@ -25,12 +25,10 @@ up_skip before p (q ∷ ps) up = (before_chain before p q up.0 up.1.0, up.1.1)
 -- files that are kept by their paths still ascend
 pub up_filter : (t : List ℕ → Bool) (before : List ℕ) (files : List File) → Up before (paths files) → Up before (paths (filter (λ f. t f.path) files))
 up_filter t before [] up = tt
-up_filter t before (f ∷ fs) up = by_test (t f.path) (λ u. up_filter t f.path fs u) (λ u. up_filter t before fs u)
-  where
-    by_test : (x : Bool) → (Up f.path (paths fs) → Up f.path (paths (filter (λ f. t f.path) fs))) → (Up before (paths fs) → Up before (paths (filter (λ f. t f.path) fs)))
-        → Up before (paths (cond x (f ∷ filter (λ f. t f.path) fs) (filter (λ f. t f.path) fs)))
-    by_test true with_it without = (up.0, with_it up.1)
-    by_test false with_it without = without (up_skip before f.path (paths fs) up)
+up_filter t before (f ∷ fs) up = elim (cases_Bool (t f.path)) [
+  | inl is ↦ rw is (up.0, up_filter t f.path fs up.1)
+  | inr is ↦ rw is (up_filter t before fs (up_skip before f.path (paths fs) up))
+]
 
 -- the paths of files that are kept by their paths ascend
 pub kept_ascends : (t : List ℕ → Bool) (bag : List File) → IsBag bag → Ascending (paths (filter (λ f. t f.path) bag))
@@ -78,12 +76,12 @@ found_has (f ∷ fs) path content e = by_test (bytes_eq f.path path) refl e (λ 
 -- where nothing is found no file has the path
 none_found : (files : List File) (path content : List ℕ) → content_at files path ≡ None → Has files (at path content) → ⊥
 none_found [] path content e h = h
-none_found (f ∷ fs) path content e h = by_test (bytes_eq f.path path) refl e h (λ e h. none_found fs path content e h)
-  where
-    by_test : (x : Bool) → bytes_eq f.path path ≡ x → content_in (cond x (Some f) (find (λ f. bytes_eq f.path path) fs)) ≡ None → (f ≡ at path content) ⊎ Has fs (at path content) → (content_at fs path ≡ None → Has fs (at path content) → ⊥) → ⊥
-    by_test true t e h again = absurd cc
-    by_test false t e (inl is) again = false≢true (sym t ∙ (bytes_eq-Decides f.path path).1 (ap (λ (f : File). f.path) is))
-    by_test false t e (inr h) again = again e h
+none_found (f ∷ fs) path content e (inl is) =
+    let wrong = rw ((bytes_eq-Decides f.path path).1 (ap (λ (f : File). f.path) is)) at e in absurd cc
+none_found (f ∷ fs) path content e (inr h) = elim (cases_Bool (bytes_eq f.path path)) [
+  | inl t ↦ let wrong = rw t at e in absurd cc
+  | inr t ↦ none_found fs path content (rw t at e) h
+]
 
 -- what is found at a path stands there
 pub content_found : (bag : List File) (path content : List ℕ) → content_at bag path ≡ Some content → Holds bag path content
@@ -111,11 +109,7 @@ has_path_is bag path e = by_found (content_at bag path) refl e
 
 -- a path that isn't found has none
 pub no_path_is : (bag : List File) (path : List ℕ) → has_path bag path ≡ false → HasFile bag path → ⊥
-no_path_is bag path e = by_found (content_at bag path) refl e
-  where
-    by_found : (o : Option (List ℕ)) → content_at bag path ≡ o → is_some o ≡ false → HasFile bag path → ⊥
-    by_found None is e = no_content bag path is
-    by_found (Some content) is e = absurd cc
+no_path_is bag path e = no_content bag path (no_value (content_at bag path) e)
 
 -- a file's path is one of the bag's
 pub path_of_file : (bag : List File) (f : File) → Has bag f → HasFile bag f.path

@@ -1,22 +1,14 @@
 -- Reading and judging, item after item.
-use Rattle.bag_check.proofs.Common.{◌≡◌, ℕ, zero, suc, ◌+◌, ◌*◌, ◌<◌, ◌≤◌, Bool, true, false, cond, not, ◌&&◌, ◌||◌, List, [], ◌∷◌, ◌++◌, length, get_or, drop, map, filter, refl, sym, ap, ◌∙◌, arith, append_assoc, Option, Some, None, Result, Ok, Err, sum_by, is_some, option_and_then, codes, decimal, cow_str_bytes, list_any, count_by, AllByRecursion, append-nil, drop_more, length-map, and_parts, nat_tests, File, Fits, max_content, Version, entry_in, is_path_listed, manifest_of, Pair, Kept, pair_in, pairs_of, Rule, Kind, Algorithm, is_payload, payload_of, manifest_name, algorithm_named, is_oxum, oxums_of, payload_files, payload_bytes, manifest_count, Report, Fault, NoDeclaration, Declaration, FetchNotSupported, UnsupportedAlgorithm, NoPayloadManifest, ManifestText, Breaks, InfoText, OxumForm, OxumTwice, OxumWrong, rule_number, number_or, manifest_in, path_in, after_space, cause_or, text_or, ◌>>=◌, FailsAs, Named, Listed, named_of, with_manifest, manifests_in, listed_or_fault, listings_of, asks_for, first_unlisted, first_in, first_place, kept_by, named_by, named_or_fault, version_declared, no_fetch, some_payload, listings_in, keeps, listing_rules, keeps_contents, judge, bind_ok, fronted, again_onto, nothing_onto}
-use Rattle.std.proofs.Common.{nat_lt}
-use Rattle.std.specs.Fmt.{digits}
-use Rattle.std.specs.Ordering.{nat_cmp}
+use Rattle.bag_check.proofs.FirstLemmas.{inl, inr, cases_Bool, ◌≡◌, ℕ, zero, suc, ◌+◌, ◌*◌, ◌<◌, ◌≤◌, Bool, true, false, cond, not, ◌&&◌, ◌||◌, List, [], ◌∷◌, ◌++◌, length, slice_index_or as get_or, drop, map, filter, refl, sym, ap, ◌∙◌, arith, append_assoc, Option, Some, None, Result, Ok, Err, sum_by, is_some, option_and_then, codes, decimal, cow_str_bytes, list_any, count_by, AllByRecursion, append-nil, drop_more, length-map, and_parts, nat_tests, File, Fits, max_content, Version, entry_in, is_path_listed, manifest_of, Pair, Kept, pair_in, pairs_of, Rule, Kind, Algorithm, is_payload, payload_of, manifest_name, algorithm_named, is_oxum, oxums_of, payload_files, payload_bytes, manifest_count, Report, Fault, UnsupportedAlgorithm, ManifestText, Breaks, rule_number, number_or, manifest_in, path_in, after_space, cause_or, text_or, ◌>>=◌, FailsAs, Named, Listed, named_of, with_manifest, manifests_in, listed_or_fault, listings_of, asks_for, first_unlisted, first_in, first_place, kept_by, named_by, named_or_fault, version_declared, no_fetch, some_payload, listings_in, keeps, listing_rules, keeps_contents, judge, bind_ok, fronted, again_onto, nothing_onto, nat_lt, digits, nat_cmp, sum-map, sum_by-cons, percent_encode, Manifest, is_escaped, printed_text, printed_byte, all_read}
 use Rattle.std.specs.Cmp.Lexicographic.{slice_cmp}
 use Rattle.std.specs.BTreeMap.{is_at}
 use Rattle.std.specs.Map.{lookup}
 use Rattle.std.specs.declared.borrow.CowStr.{CowStr}
 use Rattle.std.specs.Global.{Global}
 use Rattle.std.proofs.lemmas.List.Recursion.{is_count_by}
-use Rattle.std.proofs.lemmas.List.Sums.{sum-map, sum_by-cons}
 use Rattle.percent_encoding.specs.declared.ascii_set.AsciiSet.{AsciiSet}
 use Rattle.percent_encoding.specs.AsciiSet.{should_percent_encode}
-use Rattle.percent_encoding.specs.Percent.{percent_encode}
 use Rattle.bag_text.specs.declared.listing.Listing.{Listing}
-use Rattle.bag_text.specs.declared.listing.Manifest.{Manifest}
-use Rattle.bag_check.specs.FaultTexts.{is_escaped, printed_text, printed_byte}
-use Rattle.bag_check.proofs.ManifestLemmas.{all_read}
 
 -- ---- bytes that are printed as escapes
 
@@ -83,18 +75,10 @@ placed front number space name path = simp (append_assoc, append-nil)
 -- a fault is printed part by part
 pub printed_parts : (fault : Option Fault) → codes "B" ++ (decimal (number_or fault) ++ (after_space (option_and_then manifest_in fault) ++ after_space (option_and_then path_in fault))) ++ cause_or fault ≡ text_or fault
 unfolding digits
-printed_parts None = refl
-printed_parts (Some NoDeclaration) = refl
-printed_parts (Some (Declaration f)) = refl
-printed_parts (Some FetchNotSupported) = refl
 printed_parts (Some (UnsupportedAlgorithm name)) = simp append-nil
-printed_parts (Some NoPayloadManifest) = refl
 printed_parts (Some (ManifestText name f)) = simp append_assoc
 printed_parts (Some (Breaks rule name path)) = placed (codes "B") (decimal (rule_number rule)) (codes " ") (printed_text name) (printed_text path)
-printed_parts (Some (InfoText f)) = refl
-printed_parts (Some OxumForm) = refl
-printed_parts (Some OxumTwice) = refl
-printed_parts (Some OxumWrong) = refl
+printed_parts _ = refl
 
 -- ---- manifests, file after file
 
@@ -188,11 +172,8 @@ unlisted_listed rule manifest fs more f total is asks its so_far =
 -- a path is found by its bytes
 pub found_by_bytes : (es : List (CowStr Global × Listing)) (path : List ℕ) → is_some (lookup (is_at (λ k. slice_cmp nat_cmp path (cow_str_bytes k))) es) ≡ is_path_listed path (map entry_in es)
 found_by_bytes [] path = refl
-found_by_bytes (e ∷ es) path = by_test (is_at (slice_cmp nat_cmp path) (cow_str_bytes e.0)) (found_by_bytes es path)
-  where
-    by_test : (x : Bool) → is_some (lookup (is_at (λ k. slice_cmp nat_cmp path (cow_str_bytes k))) es) ≡ is_path_listed path (map entry_in es) → is_some (cond x (Some e.1) (lookup (is_at (λ k. slice_cmp nat_cmp path (cow_str_bytes k))) es)) ≡ is_some (cond x (Some (entry_in e).1) (lookup (is_at (slice_cmp nat_cmp path)) (map entry_in es)))
-    by_test true again = refl
-    by_test false again = again
+found_by_bytes (e ∷ es) path =
+    elim (cases_Bool (is_at (slice_cmp nat_cmp path) (cow_str_bytes e.0))) [ inl is ↦ rw is refl | inr is ↦ rw is (found_by_bytes es path) ]
 
 -- what is left of a list begins with the next item
 pub next_item : {A : Type 0} (xs : List A) (i : ℕ) (x : A) → i < length xs → x ≡ get_or xs i x → drop i xs ≡ x ∷ drop (i + 1) xs
@@ -230,12 +211,10 @@ keeps_from bag ls rules i none total lt so_far = sym (ap (keeps bag ls) (drop_mo
 -- a test of the values of the pairs that are a Payload-Oxum
 pub any_oxum : (test : List ℕ → Bool) (kept : List Kept) → list_any test (oxums_of (pairs_of kept)) ≡ list_any (λ k. is_oxum (pair_in k) && test (cow_str_bytes k.1)) kept
 any_oxum test [] = refl
-any_oxum test (k ∷ ks) = by_label (is_oxum (pair_in k)) (any_oxum test ks)
-  where
-    by_label : (x : Bool) → list_any test (oxums_of (pairs_of ks)) ≡ list_any (λ k. is_oxum (pair_in k) && test (cow_str_bytes k.1)) ks
-        → list_any test (map (λ pair. pair.value) (cond x (pair_in k ∷ filter is_oxum (pairs_of ks)) (filter is_oxum (pairs_of ks)))) ≡ (x && test (cow_str_bytes k.1) || list_any (λ k. is_oxum (pair_in k) && test (cow_str_bytes k.1)) ks)
-    by_label true again = ap (λ (b : Bool). test (cow_str_bytes k.1) || b) again
-    by_label false again = again
+any_oxum test (k ∷ ks) = elim (cases_Bool (is_oxum (pair_in k))) [
+  | inl is ↦ rw is (ap (λ (b : Bool). test (cow_str_bytes k.1) || b) (any_oxum test ks))
+  | inr is ↦ rw is (any_oxum test ks)
+]
 
 -- how many there are
 abbrev oxum_count : List Kept → ℕ
@@ -269,20 +248,11 @@ count_take fs more f is e =
     let one : payload_of fs ≡ f ∷ payload_of more = ap payload_of is ∙ rw e refl in
     (ap length one ∙ omega arith, bytes_by fs ∙ ap (sum_by size) one ∙ sum_by-cons size f (payload_of more) ∙ ap (λ (n : ℕ). length f.content + n) (sym (bytes_by more)))
 
--- another file is not counted
-pub count_skip : (fs more : List File) (f : File) → fs ≡ f ∷ more → is_payload f.path ≡ false → (payload_files fs ≡ payload_files more) × (payload_bytes fs ≡ payload_bytes more)
-count_skip fs more f is e =
-    let one : payload_of fs ≡ payload_of more = ap payload_of is ∙ rw e refl in
-    (ap length one, bytes_by fs ∙ ap (sum_by size) one ∙ sym (bytes_by more))
-
 -- there are no more payload files than files
 pub few_payload : (fs : List File) → payload_files fs ≤ length fs
 few_payload [] = omega arith
-few_payload (f ∷ fs) = by_test (is_payload f.path) (few_payload fs)
-  where
-    by_test : (b : Bool) → payload_files fs ≤ length fs → length (cond b (f ∷ payload_of fs) (payload_of fs)) ≤ suc (length fs)
-    by_test true h = omega arith
-    by_test false h = omega arith
+few_payload (f ∷ fs) =
+    let h = few_payload fs in elim (cases_Bool (is_payload f.path)) [ inl is ↦ rw is (omega arith) | inr is ↦ rw is (omega arith) ]
 
 -- each of them has at most the most bytes
 small_all : (fs : List File) → AllByRecursion Fits fs → sum_by size (payload_of fs) ≤ max_content * length fs

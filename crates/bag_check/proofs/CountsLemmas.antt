@@ -1,8 +1,5 @@
 -- Reading the value of a `Payload-Oxum` gives the counts that it names.
-use Rattle.bag_check.proofs.Common.{◌≡◌, one-add, ℕ, ◌+◌, ◌≤◌, Bool, true, false, cond, not, eqb, ◌&&◌, List, [], ◌∷◌, ◌++◌, length, take, drop, refl, sym, ap, subst, ◌∙◌, arith, append_assoc, Option, Some, None, nat_le, list_all, is_ascii_digit, and_parts, and_from, eqb-true, nat_tests, take-append-drop, same_Some, number_from, IsNumber, NamesCounts, digit_len, digits_in, behind_digits, number_spelled, behind_stop, number_at_end, oxum_with_files, with_rest, with_bytes, counts_of}
-use Rattle.std.proofs.lemmas.List.Sums.{prefix_len-le-length}
-use Rattle.bag_text.specs.Text.{is_blank, AreBlanks}
-use Rattle.bag_check.proofs.OxumLemmas.{Stops, same_run, blanks_stop}
+use Rattle.bag_check.proofs.FirstLemmas.{eqb-true, some_if, ◌≡◌, one-add, ℕ, ◌+◌, ◌≤◌, Bool, true, false, cond, not, eqb, ◌&&◌, List, [], ◌∷◌, ◌++◌, length, take, drop, refl, sym, ap, subst, ◌∙◌, arith, append_assoc, Option, Some, None, nat_le, list_all, is_ascii_digit, and_parts, and_from, nat_tests, take-append-drop, same_Some, number_from, IsNumber, NamesCounts, digit_len, digits_in, behind_digits, number_spelled, behind_stop, number_at_end, oxum_with_files, with_rest, with_bytes, counts_of, prefix_len-le-length, is_blank, AreBlanks, Stops, same_run, blanks_stop}
 
 -- ---- the digits at the front
 
@@ -44,13 +41,10 @@ is_short digits = nat_le 1 (length digits) && nat_le (length digits) 20
 
 -- digits that are read spell that number
 number_is : (digits : List ℕ) (n : ℕ) → list_all is_ascii_digit digits ≡ true → number_spelled digits ≡ Some n → IsNumber digits n
-number_is digits n all e = by_test (is_short digits) refl e
-  where
-    by_test : (x : Bool) → is_short digits ≡ x → cond x (Some (number_from 0 digits)) None ≡ Some n → IsNumber digits n
-    by_test true is e =
-        let sizes = and_parts (nat_le 1 (length digits)) (nat_le (length digits) 20) is in
-        record { some = grind (arith, nat_tests, sizes.0); few = grind (arith, nat_tests, sizes.1); all = all; is = same_Some (number_from 0 digits) n e }
-    by_test false is e = absurd cc
+number_is digits n all e =
+    let short = some_if (is_short digits) (Some (number_from 0 digits)) n e in
+    let sizes = and_parts (nat_le 1 (length digits)) (nat_le (length digits) 20) short.0 in
+    record { some = grind (arith, nat_tests, sizes.0); few = grind (arith, nat_tests, sizes.1); all = all; is = same_Some (number_from 0 digits) n short.1 }
 
 -- digits that spell a number are read so
 number_again : (digits : List ℕ) (n : ℕ) → IsNumber digits n → number_spelled digits ≡ Some n
@@ -66,19 +60,13 @@ number_again digits n is =
 -- what stands after a full stop
 stop_is : (t rest : List ℕ) → behind_stop t ≡ Some rest → t ≡ 46 ∷ rest
 stop_is [] rest e = absurd cc
-stop_is (b ∷ t) rest e = by_test (eqb b 46) refl e
-  where
-    by_test : (x : Bool) → eqb b 46 ≡ x → cond x (Some t) None ≡ Some rest → b ∷ t ≡ 46 ∷ rest
-    by_test true is e = ap (λ (c : ℕ). c ∷ t) (eqb-true b 46 is) ∙ ap (λ (r : List ℕ). 46 ∷ r) (same_Some t rest e)
-    by_test false is e = absurd cc
+stop_is (b ∷ t) rest e =
+    let stop = some_if (eqb b 46) (Some t) rest e in
+    ap (λ (c : ℕ). c ∷ t) (eqb-true b 46 stop.0) ∙ ap (λ (r : List ℕ). 46 ∷ r) (same_Some t rest stop.1)
 
 -- a number at the end has only blanks after it
 last_is : (t : List ℕ) (n : ℕ) → number_at_end t ≡ Some n → AreBlanks (behind_digits t) × (number_spelled (digits_in t) ≡ Some n)
-last_is t n e = by_test (list_all is_blank (behind_digits t)) refl e
-  where
-    by_test : (x : Bool) → list_all is_blank (behind_digits t) ≡ x → cond x (number_spelled (digits_in t)) None ≡ Some n → AreBlanks (behind_digits t) × (number_spelled (digits_in t) ≡ Some n)
-    by_test true is e = (is, e)
-    by_test false is e = absurd cc
+last_is t n e = some_if (list_all is_blank (behind_digits t)) (number_spelled (digits_in t)) n e
 
 -- two numbers of which the second is read
 with_files_is : (bytes b f : ℕ) (o : Option ℕ) → oxum_with_files bytes o ≡ Some (b, f) → (bytes ≡ b) × (o ≡ Some f)

@@ -1,11 +1,6 @@
 -- Where no checksum is wrong, each SHA-256 that a manifest lists of a file is that of its content.
-use Rattle.bag_check.proofs.Common.{◌≡◌, ℕ, zero, suc, ◌<◌, Bool, true, false, cond, not, List, [], ◌∷◌, map, length, slice_index_or, Bor, inl, inr, refl, sym, ap, subst, ◌∙◌, arith, Option, Some, None, Result, Ok, Contains, option_map, find, bytes_eq-Decides, ◌>>=◌, File, IsBag, content_at, files_of, Entries, Entry, HasEntry, entries_in, entry_in, is_owned, Has, contains_has, has_contains, has_map, bind_ok, Rule, ChecksumWrong, Fault, Listed, breaks_at, first_in, first_place, is_wrong, keeps, keeps_contents, keeps_info, kept_by, or_place}
-use Rattle.std.proofs.Common.{bytes_eq}
-use Rattle.sha2.specs.Sha256.{sha256}
+use Rattle.bag_check.proofs.FirstLemmas.{inl, inr, cases_Bool, not-false, ◌≡◌, ℕ, zero, suc, ◌<◌, Bool, false, not, List, [], ◌∷◌, map, length, slice_index_or, Bor, refl, sym, ap, subst, ◌∙◌, arith, Option, Some, None, Result, Ok, Contains, option_map, find, bytes_eq-Decides, ◌>>=◌, File, IsBag, content_at, files_of, Entries, Entry, HasEntry, entries_in, entry_in, is_owned, Has, contains_has, has_contains, has_map, bind_ok, Rule, ChecksumWrong, Fault, Listed, breaks_at, first_in, first_place, is_wrong, keeps, keeps_contents, keeps_info, kept_by, or_place, bytes_eq, sha256, Manifest, AreRightOf, ListsSha256, digests_of, content_there}
 use Rattle.bag_text.specs.declared.checksum.Checksum.TheVariants.{Sha256}
-use Rattle.bag_text.specs.declared.listing.Manifest.{Manifest}
-use Rattle.bag_check.specs.Digests.{AreRightOf, ListsSha256, digests_of}
-use Rattle.bag_check.proofs.BagLemmas.{content_there}
 
 -- ---- no checksum is wrong where the contents are kept
 
@@ -33,25 +28,19 @@ in_each bag rule (k ∷ ls) none l h = by_first (first_in bag rule k) refl none 
 
 fails_each : (test : List ℕ × Entry → Bool) (es : Entries) → option_map (λ (e : List ℕ × Entry). e.0) (find test es) ≡ None → (x : List ℕ × Entry) → Has es x → test x ≡ false
 fails_each test [] none x h = absurd h
-fails_each test (y ∷ es) none x h = by_test (test y) refl none h (λ none more. fails_each test es none x more)
-  where
-    by_test : (b : Bool) → test y ≡ b → option_map (λ (e : List ℕ × Entry). e.0) (cond b (Some y) (find test es)) ≡ None → Has (y ∷ es) x → (option_map (λ (e : List ℕ × Entry). e.0) (find test es) ≡ None → Has es x → test x ≡ false) → test x ≡ false
-    by_test true is none h again = absurd cc
-    by_test false is none (inl same) again = ap test (sym same) ∙ is
-    by_test false is none (inr more) again = again none more
+fails_each test (y ∷ es) none x h = elim (cases_Bool (test y)) [
+  | inl is ↦ let wrong = rw is at none in absurd cc
+  | inr is ↦ elim h [ inl same ↦ ap test (sym same) ∙ is | inr more ↦ fails_each test es (rw is at none) x more ]
+]
 
 -- ---- a SHA-256 that isn't wrong
-
-passes : (b : Bool) → not b ≡ false → b ≡ true
-passes true e = refl
-passes false e = absurd cc
 
 pub right_of : (bag : List File) → IsBag bag → (ls : List Listed) → first_place bag ChecksumWrong ls ≡ None → (f : File) → Contains bag f → AreRightOf ls f
 right_of bag is ls none f there l digest listed (entry, lists, is_digest) =
     let fine = fails_each (breaks_at bag ChecksumWrong) l.entries (in_each bag ChecksumWrong ls none l (contains_has ls l listed)) (f.path, entry) (contains_has l.entries (f.path, entry) lists) in
     let found : content_at bag f.path ≡ Some f.content = content_there bag is f.path f.content there in
     let right : not (bytes_eq (sha256 f.content) digest) ≡ false = (λ i. is_wrong (sym is_digest i) (sym found i)) ∙ fine in
-    sym ((bytes_eq-Decides (sha256 f.content) digest).0 (passes (bytes_eq (sha256 f.content) digest) right))
+    sym ((bytes_eq-Decides (sha256 f.content) digest).0 (not-false (bytes_eq (sha256 f.content) digest) right))
 
 -- ---- what a manifest says of a path
 

@@ -1,11 +1,7 @@
 -- The definitions at small names, values and bags.
-use Rattle.bag_check.proofs.Common.{◌≡◌, [], ◌∷◌, ◌++◌, refl, arith, codes, Some, None, Payload, Tag, Missing, manifest_name, NamesCounts, oxums_of, counts_of, NoDeclaration, NoPayloadManifest, Breaks, judge, manifests_in}
-use Rattle.std.proofs.Common.{Err}
-use Rattle.std.specs.Fmt.{digits}
+use Rattle.bag_check.proofs.Common.{◌≡◌, [], ◌∷◌, ◌++◌, refl, arith, codes, Some, None, Payload, Tag, Missing, manifest_name, NamesCounts, oxums_of, counts_of, NoDeclaration, NoPayloadManifest, Breaks, judge, manifests_in, Err, digits, percent_encode_byte, printed_text, fault_text}
 use Rattle.std.specs.Str.{is_utf8, chars}
-use Rattle.percent_encoding.specs.Percent.{percent_encode_byte}
 use Rattle.bag_text.specs.Lines.{lines}
-use Rattle.bag_check.specs.FaultTexts.{printed_text, fault_text}
 
 is_a_manifest : (manifest_name (codes "manifest-sha256.txt") ≡ Some (Payload, codes "sha256")) × (manifest_name (codes "tagmanifest-md5.txt") ≡ Some (Tag, codes "md5"))
 is_a_manifest = (refl, refl)

@@ -1,6 +1,5 @@
 -- Faults by their numbers, and that of a bag only one comes first.
-use Rattle.bag_check.proofs.Common.{◌≡◌, ℕ, ◌+◌, ◌<◌, ◌≤◌, ◌⊎◌, inl, inr, Bool, true, false, List, [], ◌∷◌, refl, sym, ap, subst, ◌∙◌, arith, nat_eq, list_any, false≢true, cases_order, same_Some, File, IsBag, Version, Algorithm, LineFault, InfoFault, declaration_of, manifest_of, info_of, info_fault, Kind, Rule, declaration_path, info_path, DeclaresVersion, HasManifest, word_of, Fault, NoDeclaration, Declaration, FetchNotSupported, UnsupportedAlgorithm, NoPayloadManifest, ManifestText, Breaks, InfoText, OxumForm, OxumTwice, OxumWrong, Stands, rule_number, fault_number, fault_name, fault_path, PlaceBefore, ComesFirst, FirstFault, same_ok, same_err, declared_again, fault_is_refused}
-use Rattle.bag_text.specs.declared.declaration.DeclFault.{DeclFault}
+use Rattle.bag_check.proofs.Common.{◌≡◌, ℕ, ◌+◌, ◌<◌, ◌≤◌, ◌⊎◌, inl, inr, Bool, true, false, List, [], ◌∷◌, refl, sym, ap, subst, ◌∙◌, arith, eqb as nat_eq, list_any, false≢true, cases_order, same_Some, File, IsBag, Version, Algorithm, LineFault, InfoFault, declaration_of, manifest_of, info_of, info_fault, Kind, Rule, declaration_path, info_path, DeclaresVersion, HasManifest, word_of, Fault, NoDeclaration, Declaration, FetchNotSupported, UnsupportedAlgorithm, NoPayloadManifest, ManifestText, Breaks, InfoText, OxumForm, OxumTwice, OxumWrong, Stands, rule_number, fault_number, fault_name, fault_path, PlaceBefore, ComesFirst, FirstFault, same_ok, same_err, declared_again, fault_is_refused, DeclFault}
 use Rattle.bag_text.specs.Declaration.{declaration_fault}
 use Rattle.bag_check.specs.declared.rule.Rule.TheVariants as rules_of
 use Rattle.bag_check.proofs.OrderLemmas.{apart, one_first}
@@ -20,12 +19,7 @@ is_rule n = list_any (nat_eq n) rule_numbers
 -- a rule's number is one of them
 rule_is : (rule : Rule) → is_rule (rule_number rule) ≡ true
 rule_is rules_of.OutsidePayload = refl
-rule_is rules_of.TagManifestListed = refl
-rule_is rules_of.PayloadInTagManifest = refl
-rule_is rules_of.PayloadManifestUnlisted = refl
-rule_is rules_of.Missing = refl
-rule_is rules_of.Unlisted = refl
-rule_is rules_of.ChecksumWrong = refl
+rule_is _ = refl
 
 -- a number that is no rule's
 no_rule : (rule : Rule) (n : ℕ) → is_rule n ≡ false → rule_number rule ≡ n → ⊥
@@ -121,12 +115,6 @@ at_rule rule P p OxumWrong e = absurd (no_rule rule 16 refl (sym e))
 -- a fault's number is one of 1 to 17
 pub number_range : (g : Fault) → (1 ≤ fault_number g) × (fault_number g < 18)
 number_range (Breaks rules_of.OutsidePayload name path) = (omega arith, omega arith)
-number_range (Breaks rules_of.TagManifestListed name path) = (omega arith, omega arith)
-number_range (Breaks rules_of.PayloadInTagManifest name path) = (omega arith, omega arith)
-number_range (Breaks rules_of.PayloadManifestUnlisted name path) = (omega arith, omega arith)
-number_range (Breaks rules_of.Missing name path) = (omega arith, omega arith)
-number_range (Breaks rules_of.Unlisted name path) = (omega arith, omega arith)
-number_range (Breaks rules_of.ChecksumWrong name path) = (omega arith, omega arith)
 number_range _ = (omega arith, omega arith)
 
 -- ---- one number after the other

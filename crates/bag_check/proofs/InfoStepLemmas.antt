@@ -1,8 +1,5 @@
 -- The step of judging that reads `bag-info.txt`: it names the first fault of that file, or none stands.
-use Rattle.bag_check.proofs.Common.{◌≡◌, ℕ, ◌<◌, ◌≤◌, ◌⊎◌, inl, inr, Bool, true, false, cond, not, eqb, ◌||◌, List, length, refl, sym, ap, subst, ◌∙◌, arith, Option, Some, None, Result, Ok, Err, is_some, nat_lt, Contains, ◌≢◌, list_any, false≢true, eqb-true, eqb-false, ltb-true, ltb-false, File, IsBag, content_at, Pair, SaysInfo, info_of, InfoFault, Version, info_said, info_fault, Holds, HasFile, info_path, DeclaresVersion, NamesCounts, oxums_of, payload_bytes, payload_files, InfoIsRight, Fault, InfoText, OxumForm, OxumTwice, OxumWrong, HasOxum, Stands, FirstFault, counts_of, ◌>>=◌, are_others, oxums_kept, or_info, info_kept, keeps_info, same_err, never_both, Has, contains_has, has_contains, any_has, none_has}
-use Rattle.bag_check.proofs.BagLemmas.{one_content, content_found, no_content}
-use Rattle.bag_check.proofs.FaultLemmas.{at_13, at_14, at_15, at_16, Earlier, none_earlier, NoneBelow, none_more, named_first}
-use Rattle.bag_check.proofs.OxumLemmas.{one_info}
+use Rattle.bag_check.proofs.FirstLemmas.{inl, inr, not, eqb, true, or_cases, eqb-false, eqb-true, not-true, ne_eqb, or_right, true_from_ne_false, ◌≡◌, ℕ, ◌<◌, ◌≤◌, ◌⊎◌, Bool, false, cond, List, length, refl, sym, ap, subst, ◌∙◌, arith, Option, Some, None, Result, Ok, Err, is_some, nat_lt, Contains, ◌≢◌, list_any, false≢true, ltb-true, ltb-false, File, IsBag, content_at, Pair, SaysInfo, info_of, InfoFault, Version, info_said, info_fault, Holds, HasFile, info_path, DeclaresVersion, NamesCounts, oxums_of, payload_bytes, payload_files, InfoIsRight, Fault, InfoText, OxumForm, OxumTwice, OxumWrong, HasOxum, Stands, FirstFault, counts_of, ◌>>=◌, are_others, oxums_kept, or_info, info_kept, keeps_info, same_err, never_both, Has, contains_has, has_contains, any_has, none_has, one_content, content_found, no_content, at_13, at_14, at_15, at_16, Earlier, none_earlier, NoneBelow, none_more, named_first, one_info}
 use Rattle.bag_check.proofs.CountsLemmas.{counts_is, counts_again}
 
 -- ---- a bag-info.txt that is read
@@ -62,31 +59,22 @@ Differ bag bytes files = (bytes ≢ payload_bytes bag) ⊎ (files ≢ payload_fi
 
 -- counts that are said to differ do
 differ_is : (bag : List File) (bytes files : ℕ) → are_others bag (Some (bytes, files)) ≡ true → Differ bag bytes files
-differ_is bag bytes files e = by_tests (eqb bytes (payload_bytes bag)) (eqb files (payload_files bag)) refl refl e
-  where
-    by_tests : (x y : Bool) → eqb bytes (payload_bytes bag) ≡ x → eqb files (payload_files bag) ≡ y → (not x || not y) ≡ true → Differ bag bytes files
-    by_tests false y is also e = inl (eqb-false bytes (payload_bytes bag) is)
-    by_tests true false is also e = inr (eqb-false files (payload_files bag) also)
-    by_tests true true is also e = absurd (false≢true e)
+differ_is bag bytes files e = elim (or_cases (not (eqb bytes (payload_bytes bag))) (not (eqb files (payload_files bag))) e) [
+  | inl is ↦ inl (eqb-false bytes (payload_bytes bag) (not-true _ is))
+  | inr is ↦ inr (eqb-false files (payload_files bag) (not-true _ is))
+]
 
 -- counts that differ are said to
 differ_again : (bag : List File) (bytes files : ℕ) → Differ bag bytes files → are_others bag (Some (bytes, files)) ≡ true
-differ_again bag bytes files differ = by_tests (eqb bytes (payload_bytes bag)) (eqb files (payload_files bag)) refl refl differ
-  where
-    by_tests : (x y : Bool) → eqb bytes (payload_bytes bag) ≡ x → eqb files (payload_files bag) ≡ y → Differ bag bytes files → (not x || not y) ≡ true
-    by_tests false y is also differ = refl
-    by_tests true false is also differ = refl
-    by_tests true true is also (inl bytes_differ) = absurd (bytes_differ (eqb-true bytes (payload_bytes bag) is))
-    by_tests true true is also (inr files_differ) = absurd (files_differ (eqb-true files (payload_files bag) also))
+differ_again bag bytes files (inl differ) = rw (ne_eqb bytes (payload_bytes bag) differ) refl
+differ_again bag bytes files (inr differ) = rw (ne_eqb files (payload_files bag) differ) (or_right (not (eqb bytes (payload_bytes bag))) true refl)
 
 -- counts that aren't said to differ are the payload's
 same_counts : (bag : List File) (bytes files : ℕ) → (Differ bag bytes files → ⊥) → (bytes ≡ payload_bytes bag) × (files ≡ payload_files bag)
-same_counts bag bytes files same = by_tests (eqb bytes (payload_bytes bag)) (eqb files (payload_files bag)) refl refl
-  where
-    by_tests : (x y : Bool) → eqb bytes (payload_bytes bag) ≡ x → eqb files (payload_files bag) ≡ y → (bytes ≡ payload_bytes bag) × (files ≡ payload_files bag)
-    by_tests false y is also = absurd (same (inl (eqb-false bytes (payload_bytes bag) is)))
-    by_tests true false is also = absurd (same (inr (eqb-false files (payload_files bag) also)))
-    by_tests true true is also = (eqb-true bytes (payload_bytes bag) is, eqb-true files (payload_files bag) also)
+same_counts bag bytes files same =
+    let first = true_from_ne_false (eqb bytes (payload_bytes bag)) (λ is. same (inl (eqb-false bytes (payload_bytes bag) is))) in
+    let second = true_from_ne_false (eqb files (payload_files bag)) (λ is. same (inr (eqb-false files (payload_files bag) is))) in
+    (eqb-true bytes (payload_bytes bag) first, eqb-true files (payload_files bag) second)
 
 -- ---- no fault of bag-info.txt
 
@@ -132,15 +120,13 @@ values_free : (bag : List File) → IsBag bag → (pairs : List Pair) → SaysPa
 values_free bag is pairs read done e = by_tests (list_any is_formless (oxums_of pairs)) (nat_lt 1 (length (oxums_of pairs))) (list_any (is_other bag) (oxums_of pairs)) refl refl refl e
   where
     by_tests : (x y z : Bool) → list_any is_formless (oxums_of pairs) ≡ x → nat_lt 1 (length (oxums_of pairs)) ≡ y → list_any (is_other bag) (oxums_of pairs) ≡ z → oxum_steps x y z ≡ Ok done → IsFree bag
-    by_tests true y z form once right e = absurd cc
-    by_tests false true z form once right e = absurd cc
-    by_tests false false true form once right e = absurd cc
     by_tests false false false form once right e = record {
       text = not_refused bag is pairs read;
       form = form_kept bag is pairs read form;
       once = once_kept bag is pairs read once;
       right = right_kept bag is pairs read right;
     }
+    by_tests _ _ _ form once right e = absurd cc
 
 -- the pairs that are read of a bag's bag-info.txt
 says_pairs : (bag : List File) (text : List ℕ) (pairs : List Pair) → content_at bag info_path ≡ Some text → info_of text ≡ Ok pairs → SaysPairs bag pairs

@@ -1,10 +1,6 @@
 -- Judging a bag gives its report exactly where it is valid, and else the fault that comes first.
-use Rattle.bag_check.proofs.Common.{◌≡◌, ℕ, ◌↔◌, ◌⊎◌, inl, inr, Bool, true, false, List, [], ◌∷◌, refl, sym, ap, subst, ◌∙◌, Result, Ok, Err, false≢true, File, IsBag, Version, Algorithm, Lists, checksum_of, is_path_listed, Kind, Payload, Tag, Rule, Holds, HasFile, IsPayload, is_payload, fetch_path, DeclaresVersion, IsManifestName, word_of, HasManifest, ListsAt, digest, Report, report_of, Valid, Fault, Breaks, IsBroken, Stands, FirstFault, ◌>>=◌, has_path, version_declared, no_fetch, Named, manifests_in, some_payload, Listed, listings_of, listings_in, keeps, listing_rules, keeps_info, keeps_contents, judge, bind_ok, bind_err, same_ok, read_is_manifest, Has, contains_has, has_contains}
+use Rattle.bag_check.proofs.FirstLemmas.{◌≡◌, ℕ, ◌↔◌, ◌⊎◌, inl, inr, Bool, true, false, List, [], ◌∷◌, refl, sym, ap, subst, ◌∙◌, Result, Ok, Err, false≢true, File, IsBag, Version, Algorithm, Lists, checksum_of, is_path_listed, Kind, Payload, Tag, Rule, Holds, HasFile, IsPayload, is_payload, fetch_path, DeclaresVersion, IsManifestName, word_of, HasManifest, ListsAt, digest, Report, report_of, Valid, Fault, Breaks, IsBroken, Stands, FirstFault, ◌>>=◌, has_path, version_declared, no_fetch, Named, manifests_in, some_payload, Listed, listings_of, listings_in, keeps, listing_rules, keeps_info, keeps_contents, judge, bind_ok, bind_err, same_ok, read_is_manifest, Has, contains_has, has_contains, matches_of, at, has_path_is, no_path_is, is_payload_is, is_payload_again, number_range, NoneBelow, one_version, one_first_fault, Found, found_all, payload_manifest, all_read}
 use Rattle.bag_check.specs.declared.rule.Rule.TheVariants as rules_of
-use Rattle.bag_check.specs.Fixity.{matches_of}
-use Rattle.bag_check.proofs.BagLemmas.{at, has_path_is, no_path_is, is_payload_is, is_payload_again}
-use Rattle.bag_check.proofs.FaultLemmas.{number_range, NoneBelow, one_version, one_first_fault}
-use Rattle.bag_check.proofs.ManifestLemmas.{Found, found_all, payload_manifest, all_read}
 use Rattle.bag_check.proofs.RuleLemmas.{AreListed, listed, lists_found, found_lists, matches_is, matches_again}
 use Rattle.bag_check.proofs.StepLemmas.{version_ok, version_err, below_3, fetch_ok, fetch_err, below_4, names_err, below_5, payload_err, below_6, are_listed, texts_err, below_7, Follow, rules_ok, rules_err}
 use Rattle.bag_check.proofs.InfoStepLemmas.{info_ok, info_err, info_right}

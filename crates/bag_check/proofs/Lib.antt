@@ -17,4 +17,5 @@ pub mod CodeLemmas
 pub mod AnswerLemmas
 pub mod DigestLemmas
 mod Examples
+pub mod FirstLemmas
 pub mod Lemmas

@@ -1,5 +1,5 @@
 -- The manifests of a bag, found and read.
-use Rattle.bag_check.proofs.Common.{◌≡◌, ℕ, ◌⊎◌, inl, inr, Bool, true, false, cond, List, [], ◌∷◌, map, refl, sym, ap, subst, ◌∙◌, Option, Some, None, Result, Ok, Err, ◌≢◌, list_any, comes_before, File, Version, Algorithm, LineFault, Entries, manifest_of, Kind, Payload, IsManifestName, manifest_name, is_kind, word_of, algorithm_named, Fault, UnsupportedAlgorithm, NoPayloadManifest, ManifestText, ◌>>=◌, Named, named_by, named_or_fault, named_of, with_manifest, manifests_in, some_payload, Listed, listed_or_fault, listings_of, bind_ok, bind_err, same_ok, same_err, never_both, before_chain, Has, any_has, none_has, has_map}
+use Rattle.bag_check.proofs.Common.{inl, inr, sym, ok_if, err_unless, err_through, bind_err, ◌≡◌, ℕ, ◌⊎◌, true, List, [], ◌∷◌, map, refl, ap, subst, ◌∙◌, Option, Some, None, Result, Ok, Err, ◌≢◌, list_any, comes_before, File, Version, Algorithm, LineFault, Entries, manifest_of, Kind, Payload, IsManifestName, manifest_name, is_kind, word_of, algorithm_named, Fault, UnsupportedAlgorithm, NoPayloadManifest, ManifestText, ◌>>=◌, Named, named_by, named_or_fault, named_of, with_manifest, manifests_in, some_payload, Listed, listed_or_fault, listings_of, bind_ok, same_ok, same_err, never_both, before_chain, Has, any_has, none_has, has_map}
 use Rattle.bag_check.proofs.OrderLemmas.{apart, Up, Ascending, ascending_rest, later_path}
 use Rattle.bag_check.proofs.BagLemmas.{paths, up_skip, at}
 use Rattle.bag_check.proofs.NameLemmas.{kind_is, kind_again, name_is, no_name, one_name, algorithm_is, no_algorithm}
@@ -97,7 +97,10 @@ pub record IsFirstUnsupported (fs : List File) (fault : Fault) : Type 0 where
 pub first_unsupported : (fs : List File) (fault : Fault) → Ascending (paths fs) → manifests_in fs ≡ Err fault → IsFirstUnsupported fs fault
 unfolding manifests_in
 first_unsupported [] fault up e = absurd cc
-first_unsupported (f ∷ fs) fault up e = by_first (bind_err (named_of f) (λ found. manifests_in fs >>= λ ms. Ok (with_manifest found ms)) fault e) (λ e. first_unsupported fs fault (ascending_rest f.path (paths fs) up) e)
+first_unsupported (f ∷ fs) fault up e = elim (bind_err (named_of f) (λ found. manifests_in fs >>= λ ms. Ok (with_manifest found ms)) fault e) [
+  | inl e ↦ here (named_view f) e
+  | inr next ↦ more next.0 next.1 (first_unsupported fs fault (ascending_rest f.path (paths fs) up) (err_through (manifests_in fs) (with_manifest next.0) fault next.2))
+]
   where
     sound : NamedView f → (o : Option Named) → named_of f ≡ Ok o → IsUnsupported f.path → ⊥
     sound (no_manifest none is) o e (kind, alg, n, other) = none kind alg n
@@ -120,35 +123,19 @@ first_unsupported (f ∷ fs) fault up e = by_first (bind_err (named_of f) (λ fo
         of_other other (inl is) b before = sound (named_view f) o e (subst (λ (x : File). IsUnsupported x.path) (sym is) b)
         of_other other (inr h) b before = rest.first other h b before
 
-    by_rest : (o : Option Named) → named_of f ≡ Ok o → (manifests_in fs ≡ Err fault) ⊎ ((ms : List Named) × (manifests_in fs ≡ Ok ms) × (Ok (with_manifest o ms) ≡ Err fault)) → (manifests_in fs ≡ Err fault → IsFirstUnsupported fs fault) → IsFirstUnsupported (f ∷ fs) fault
-    by_rest o e (inl later) again = more o e (again later)
-    by_rest o e (inr (ms, is, also)) again = absurd cc
-
-    by_first : (named_of f ≡ Err fault) ⊎ ((o : Option Named) × (named_of f ≡ Ok o) × ((manifests_in fs >>= λ ms. Ok (with_manifest o ms)) ≡ Err fault)) → (manifests_in fs ≡ Err fault → IsFirstUnsupported fs fault) → IsFirstUnsupported (f ∷ fs) fault
-    by_first (inl e) again = here (named_view f) e
-    by_first (inr (o, is, e)) again = by_rest o is (bind_err (manifests_in fs) (λ ms. Ok (with_manifest o ms)) fault e) again
-
 -- ---- some payload manifest
-
--- what follows from whether there is a payload manifest
-abbrev payload_step : Bool → Result (Unit {0}) Fault
-payload_step x = cond x (Ok tt) (Err NoPayloadManifest)
 
 -- where one is said to be there, there is one
 pub payload_manifest : (ms : List Named) (done : Unit {0}) → some_payload ms ≡ Ok done → (m : Named) × Has ms m × (m.kind ≡ Payload)
-payload_manifest ms done e = by_test (list_any (λ m. is_kind Payload m.kind) ms) refl e
-  where
-    by_test : (x : Bool) → list_any (λ m. is_kind Payload m.kind) ms ≡ x → payload_step x ≡ Ok done → (m : Named) × Has ms m × (m.kind ≡ Payload)
-    by_test true t e = let some = any_has (λ (m : Named). is_kind Payload m.kind) ms t in (some.0, some.1, kind_is Payload some.0.kind some.2)
-    by_test false t e = absurd cc
+payload_manifest ms done e =
+    let some = any_has (λ (m : Named). is_kind Payload m.kind) ms (ok_if (list_any (λ m. is_kind Payload m.kind) ms) (Ok tt) NoPayloadManifest done e).0 in
+    (some.0, some.1, kind_is Payload some.0.kind some.2)
 
 -- where none is said to be there, there is none
 pub no_payload_manifest : (ms : List Named) (fault : Fault) → some_payload ms ≡ Err fault → (fault ≡ NoPayloadManifest) × ((m : Named) → Has ms m → m.kind ≡ Payload → ⊥)
-no_payload_manifest ms fault e = by_test (list_any (λ m. is_kind Payload m.kind) ms) refl e
-  where
-    by_test : (x : Bool) → list_any (λ m. is_kind Payload m.kind) ms ≡ x → payload_step x ≡ Err fault → (fault ≡ NoPayloadManifest) × ((m : Named) → Has ms m → m.kind ≡ Payload → ⊥)
-    by_test true t e = absurd cc
-    by_test false t e = (cc, λ m h is. none_has (λ (m : Named). is_kind Payload m.kind) ms m t h (kind_again Payload m.kind is))
+no_payload_manifest ms fault e =
+    let none = err_unless (list_any (λ m. is_kind Payload m.kind) ms) tt NoPayloadManifest fault e in
+    (sym none.1, λ m h is. none_has (λ (m : Named). is_kind Payload m.kind) ms m none.0 h (kind_again Payload m.kind is))
 
 -- ---- the manifests, read
 
@@ -219,7 +206,10 @@ pub record IsFirstRefused (v : Version) (ms : List Named) (fault : Fault) : Type
 pub first_refused : (v : Version) (ms : List Named) (fault : Fault) → Ascending (names ms) → listings_of v ms ≡ Err fault → IsFirstRefused v ms fault
 unfolding listings_of
 first_refused v [] fault up e = absurd cc
-first_refused v (m ∷ ms) fault up e = by_first (bind_err (listed_or_fault m (read_of v m)) (λ l. listings_of v ms >>= λ ls. Ok (l ∷ ls)) fault e) (λ e. first_refused v ms fault (ascending_rest m.name (names ms) up) e)
+first_refused v (m ∷ ms) fault up e = elim (bind_err (listed_or_fault m (read_of v m)) (λ l. listings_of v ms >>= λ ls. Ok (l ∷ ls)) fault e) [
+  | inl e ↦ here e
+  | inr next ↦ more next.0 next.1 (first_refused v ms fault (ascending_rest m.name (names ms) up) (err_through (listings_of v ms) (λ ls. next.0 ∷ ls) fault next.2))
+]
   where
     not_before : (other : Named) → (m ≡ other) ⊎ Has ms other → comes_before other.name m.name ≡ true → ⊥
     not_before other (inl is) before = apart m.name (subst (λ (x : Named). comes_before x.name m.name ≡ true) (sym is) before)
@@ -238,11 +228,3 @@ first_refused v (m ∷ ms) fault up e = by_first (bind_err (listed_or_fault m (r
             let read = listed_ok m (read_of v m) l e in
             never_both read.0 f (read_of v other) (ap (read_of v) (sym is) ∙ read.1) r
         of_other other f (inr h) r before = rest.first other f h r before
-
-    by_rest : (l : Listed) → listed_or_fault m (read_of v m) ≡ Ok l → (listings_of v ms ≡ Err fault) ⊎ ((ls : List Listed) × (listings_of v ms ≡ Ok ls) × (Ok (l ∷ ls) ≡ Err fault)) → (listings_of v ms ≡ Err fault → IsFirstRefused v ms fault) → IsFirstRefused v (m ∷ ms) fault
-    by_rest l e (inl later) again = more l e (again later)
-    by_rest l e (inr (ls, is, also)) again = absurd cc
-
-    by_first : (listed_or_fault m (read_of v m) ≡ Err fault) ⊎ ((l : Listed) × (listed_or_fault m (read_of v m) ≡ Ok l) × ((listings_of v ms >>= λ ls. Ok (l ∷ ls)) ≡ Err fault)) → (listings_of v ms ≡ Err fault → IsFirstRefused v ms fault) → IsFirstRefused v (m ∷ ms) fault
-    by_first (inl e) again = here e
-    by_first (inr (l, is, e)) again = by_rest l is (bind_err (listings_of v ms) (λ ls. Ok (l ∷ ls)) fault e) again

@@ -1,6 +1,5 @@
 -- The names of manifests: what computing gives is what the definitions say.
-use Rattle.bag_check.proofs.Common.{◌≡◌, ℕ, ◌+◌, ◌-◌, ◌<◌, Bool, true, false, cond, not, ◌&&◌, ltb, List, [], ◌∷◌, ◌++◌, length, take, drop, get_or, refl, sym, ap, subst, ◌∙◌, arith, append_assoc, length-append, Option, Some, None, bytes_eq, nat_eq, codes, ◌≢◌, list_any, starts_with, ends_with, same_Some, false≢true, and_parts, and_from, ltb-true, lt-ltb, not-true, not_from_false, Decides-eqb, take-append-drop, take-take, take_at, drop_at, length-take-le, length-drop, bytes_eq-Decides, starts_is, ends_is, Algorithm, Kind, Payload, Tag, IsTop, stem, IsManifestName, alg_behind, or_tag, manifest_name, is_kind, is_found_of, is_manifest_of, word_of, algorithm_named}
-use Rattle.bag_text.specs.declared.checksum.Algorithm.TheVariants.{Sha256, Sha512}
+use Rattle.bag_check.proofs.Common.{sym, some_if, ◌≡◌, ℕ, ◌+◌, ◌-◌, ◌<◌, Bool, true, false, cond, not, ◌&&◌, nat_lt as ltb, List, [], ◌∷◌, ◌++◌, length, take, drop, slice_index_or as get_or, refl, ap, subst, ◌∙◌, arith, append_assoc, length-append, Option, Some, None, bytes_eq, eqb as nat_eq, codes, ◌≢◌, list_any, starts_with, ends_with, same_Some, false≢true, and_parts, and_from, ltb-true, lt-ltb, not-true, not_from_false, Decides-eqb, take-append-drop, take-take, take_at, drop_at, length-take-le, length-drop, bytes_eq-Decides, starts_is, ends_is, Algorithm, Kind, Payload, Tag, IsTop, stem, IsManifestName, alg_behind, or_tag, manifest_name, is_kind, is_found_of, is_manifest_of, word_of, algorithm_named, Sha256, Sha512}
 
 -- ---- what stands between the front and `.txt`
 
@@ -62,11 +61,9 @@ alg_again front name alg b =
 
 -- what is found after a front is ALG
 behind_is : (front name alg : List ℕ) → alg_behind front name ≡ Some alg → IsBehind front name alg
-behind_is front name alg e = by_test (is_behind front name) refl e
-  where
-    by_test : (x : Bool) → is_behind front name ≡ x → cond x (Some (alg_in front name)) None ≡ Some alg → IsBehind front name alg
-    by_test true t e = subst (IsBehind front name) (same_Some (alg_in front name) alg e) (alg_is front name t)
-    by_test false t e = absurd cc
+behind_is front name alg e =
+    let behind = some_if (is_behind front name) (Some (alg_in front name)) alg e in
+    subst (IsBehind front name) (same_Some (alg_in front name) alg behind.1) (alg_is front name behind.0)
 
 -- ALG is found after its front
 behind_again : (front name alg : List ℕ) → IsBehind front name alg → alg_behind front name ≡ Some alg
@@ -117,11 +114,7 @@ name_again name Tag alg n =
 
 -- where nothing is found there is no manifest
 pub no_name : (name : List ℕ) → manifest_name name ≡ None → (kind : Kind) (alg : List ℕ) → IsManifestName kind alg name → ⊥
-no_name name e kind alg n = differ (manifest_name name) e (name_again name kind alg n)
-  where
-    differ : (o : Option (Kind × List ℕ)) → o ≡ None → o ≡ Some (kind, alg) → ⊥
-    differ None e f = absurd cc
-    differ (Some x) e f = absurd cc
+no_name name e kind alg n = let wrong = sym e ∙ name_again name kind alg n in absurd cc
 
 -- a name has one kind and one ALG
 pub one_name : (name : List ℕ) (k l : Kind) (one two : List ℕ) → IsManifestName k one name → IsManifestName l two name → (k ≡ l) × (one ≡ two)
@@ -177,11 +170,7 @@ algorithm_is alg a e = by_tests (bytes_eq alg (word_of Sha256)) (bytes_eq alg (w
 
 -- where none is found it is no algorithm's word
 pub no_algorithm : (alg : List ℕ) → algorithm_named alg ≡ None → (a : Algorithm) → alg ≢ word_of a
-no_algorithm alg e a is = differ (algorithm_named alg) e (ap algorithm_named is ∙ algorithm_again a)
-  where
-    differ : (o : Option Algorithm) → o ≡ None → o ≡ Some a → ⊥
-    differ None e f = absurd cc
-    differ (Some x) e f = absurd cc
+no_algorithm alg e a is = let wrong = sym e ∙ ap algorithm_named is ∙ algorithm_again a in absurd cc
 
 -- the words differ
 pub one_algorithm : (a b : Algorithm) → word_of a ≡ word_of b → a ≡ b

@@ -1,8 +1,7 @@
 -- The order of paths by bytes, and what comes first in an ascending list.
-use Rattle.bag_check.proofs.Common.{◌≡◌, ℕ, ◌⊎◌, inl, inr, Bool, true, false, cond, List, [], ◌∷◌, refl, sym, ap, subst, ◌∙◌, Option, Some, None, find, bytes_eq-Decides, comes_before, path_cmp, less, before_chain, Has}
+use Rattle.bag_check.proofs.Common.{sym, ap, false≢true, ◌≡◌, ℕ, ◌⊎◌, inl, inr, Bool, true, false, cond, List, [], ◌∷◌, refl, subst, ◌∙◌, Option, Some, None, find, bytes_eq-Decides, comes_before, path_cmp, less, before_chain, Has, is_lt, is_eq, ordering_reverse}
 use Rattle.std.specs.declared.cmp.Ordering.{Ordering}
 use Rattle.std.specs.declared.cmp.Ordering.TheVariants.{Less, Equal, Greater}
-use Rattle.std.specs.Ordering.{is_lt, is_eq, ordering_reverse}
 use Rattle.std.proofs.lemmas.Cmp.{nat_list_cmp_total}
 use Rattle.std.proofs.lemmas.Map.Text.{is_eq-slice_cmp}
 
@@ -11,8 +10,7 @@ use Rattle.std.proofs.lemmas.Map.Text.{is_eq-slice_cmp}
 -- Less is not its own reverse
 never : (o : Ordering) → o ≡ Less → o ≡ ordering_reverse o → ⊥
 never Less e r = absurd cc
-never Equal e r = absurd cc
-never Greater e r = absurd cc
+never _ e r = absurd cc
 
 -- no path comes before itself
 pub apart : (a : List ℕ) → comes_before a a ≡ true → ⊥
@@ -67,11 +65,7 @@ find_is_least test (p ∷ ps) up = by_test (test p) refl (find_is_least test ps 
     first e other (inr more) before = apart p (before_chain p other p (later_path p ps up other more) before)
 
     not_first : test p ≡ false → (other : List ℕ) → ((p ≡ other) ⊎ Has ps other) × (test other ≡ true) → Has ps other × (test other ≡ true)
-    not_first e other (inl is, passes) = absurd (differ (test p) (ap test is ∙ passes) e)
-      where
-        differ : (x : Bool) → x ≡ true → x ≡ false → ⊥
-        differ true t f = absurd cc
-        differ false t f = absurd cc
+    not_first e other (inl is, passes) = absurd (false≢true (sym e ∙ ap test is ∙ passes))
     not_first e other (inr more, passes) = (more, passes)
 
     skip : test p ≡ false → (found : Option (List ℕ)) → IsLeastPath (λ path. Has ps path × (test path ≡ true)) found → IsLeastPath (λ path. Has (p ∷ ps) path × (test path ≡ true)) found

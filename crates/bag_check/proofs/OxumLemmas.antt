@@ -1,6 +1,5 @@
 -- What a `Payload-Oxum` says is one thing.
-use Rattle.bag_check.proofs.Common.{◌≡◌, ℕ, ◌⊎◌, inl, inr, Bool, true, false, eqb, List, [], ◌∷◌, ◌++◌, length, refl, sym, ap, subst, ◌∙◌, arith, append_assoc, Contains, list_all, is_ascii_digit, false≢true, and_parts, or_cases, eqb-true, File, Pair, SaysInfo, info_of, InfoFault, Version, info_said, info_fault, Holds, info_path, IsNumber, NamesCounts, oxums_of, payload_bytes, payload_files, Valid, InfoText, OxumForm, OxumTwice, OxumWrong, Stands, same_ok, never_both}
-use Rattle.bag_text.specs.Text.{is_blank, AreBlanks}
+use Rattle.bag_check.proofs.Common.{◌≡◌, ℕ, inl, inr, Bool, true, false, eqb, List, [], ◌∷◌, ◌++◌, length, refl, sym, ap, subst, ◌∙◌, arith, append_assoc, Contains, list_all, is_ascii_digit, false≢true, and_parts, or_cases, eqb-true, File, Pair, SaysInfo, info_of, InfoFault, Version, info_said, info_fault, Holds, info_path, IsNumber, NamesCounts, oxums_of, payload_bytes, payload_files, Valid, InfoText, OxumForm, OxumTwice, OxumWrong, Stands, same_ok, never_both, is_blank, AreBlanks}
 
 -- ---- a run of digits ends at one place
 
@@ -30,11 +29,8 @@ same_run p (x ∷ xs) (y ∷ ys) r s all also stops stops_too e =
 
 -- a blank is no digit
 blank_no_digit : (b : ℕ) → is_blank b ≡ true → is_ascii_digit b ≡ false
-blank_no_digit b e = by_cases (or_cases (eqb b 32) (eqb b 9) e)
-  where
-    by_cases : (eqb b 32 ≡ true) ⊎ (eqb b 9 ≡ true) → is_ascii_digit b ≡ false
-    by_cases (inl is) = ap is_ascii_digit (eqb-true b 32 is)
-    by_cases (inr is) = ap is_ascii_digit (eqb-true b 9 is)
+blank_no_digit b e =
+    elim (or_cases (eqb b 32) (eqb b 9) e) [ inl is ↦ ap is_ascii_digit (eqb-true b 32 is) | inr is ↦ ap is_ascii_digit (eqb-true b 9 is) ]
 
 -- blanks stop a run of digits
 pub blanks_stop : (t : List ℕ) → AreBlanks t → Stops is_ascii_digit t
@@ -85,11 +81,7 @@ one_oxum bag v valid (w, declares, (text, pairs, holds, says, twice)) =
 
 -- it names the payload's counts
 pub oxum_is_right : (bag : List File) (v : Version) → Valid bag v → Stands bag OxumWrong → ⊥
-oxum_is_right bag v valid (w, declares, (value, bytes, files, (text, pairs, holds, says, has), named, wrong)) = by_wrong wrong
-  where
-    same : (bytes ≡ payload_bytes bag) × (files ≡ payload_files bag)
-    same = one_pair_of_counts value bytes files (payload_bytes bag) (payload_files bag) named (right_counts bag v valid text value pairs holds says has)
-
-    by_wrong : ((bytes ≡ payload_bytes bag) → ⊥) ⊎ ((files ≡ payload_files bag) → ⊥) → ⊥
-    by_wrong (inl differs) = differs same.0
-    by_wrong (inr differs) = differs same.1
+oxum_is_right bag v valid (w, declares, (value, bytes, files, (text, pairs, holds, says, has), named, wrong)) =
+    let right = right_counts bag v valid text value pairs holds says has in
+    let same = one_pair_of_counts value bytes files (payload_bytes bag) (payload_files bag) named right in
+    elim wrong [ inl differs ↦ differs same.0 | inr differs ↦ differs same.1 ]

@@ -1,8 +1,5 @@
 -- The first place at which a rule is broken is the least.
-use Rattle.bag_check.proofs.Common.{◌≡◌, ℕ, inl, inr, Bool, true, false, cond, not, List, [], ◌∷◌, map, refl, sym, ap, subst, ◌∙◌, Option, Some, None, option_map, find, false≢true, comes_before, File, Entry, is_path_listed, Rule, PlaceBefore, Listed, concerns, is_about_files, breaks_at, files_asked_for, first_listed, first_unlisted, first_in, or_place, first_place, before_chain, Has, has_map}
-use Rattle.bag_check.proofs.OrderLemmas.{apart, Ascending, ascending_rest, later_path, IsLeastPath, find_is_least}
-use Rattle.bag_check.proofs.BagLemmas.{paths}
-use Rattle.bag_check.proofs.ManifestLemmas.{list_names}
+use Rattle.bag_check.proofs.FirstLemmas.{◌≡◌, ℕ, inl, inr, Bool, true, false, cond, not, List, [], ◌∷◌, map, refl, sym, ap, subst, ◌∙◌, Option, Some, None, option_map, find, false≢true, comes_before, File, Entry, is_path_listed, Rule, PlaceBefore, Listed, concerns, is_about_files, breaks_at, files_asked_for, first_listed, first_unlisted, first_in, or_place, first_place, before_chain, Has, has_map, apart, Ascending, ascending_rest, later_path, IsLeastPath, find_is_least, paths, list_names}
 
 -- ---- in one manifest
 

@@ -1,16 +1,9 @@
 -- Where a rule is broken, by what the manifests list.
-use Rattle.bag_check.proofs.Common.{◌≡◌, ℕ, Bool, true, false, not, List, refl, sym, ap, subst, ◌∙◌, Option, Some, None, Ok, false≢true, not-true, not_from_false, false_from_ne_true, bytes_eq-Decides, File, IsBag, content_at, Version, Algorithm, Lists, checksum_of, Entry, Entries, manifest_of, is_path_listed, Kind, Payload, Tag, Rule, is_payload, is_kind, HasManifest, ListsAt, digest, IsBroken, has_path, Listed, is_wrong, asks_for, first_in, first_place, Has}
-use Rattle.bag_text.specs.declared.checksum.Algorithm.TheVariants.{Sha256, Sha512}
+use Rattle.bag_check.proofs.FirstLemmas.{◌≡◌, ℕ, Bool, true, false, not, List, refl, sym, ap, subst, ◌∙◌, Option, Some, None, Ok, false≢true, not-true, not_from_false, false_from_ne_true, bytes_eq-Decides, File, IsBag, content_at, Version, Algorithm, Lists, checksum_of, Entry, Entries, manifest_of, is_path_listed, Kind, Payload, Tag, Rule, is_payload, is_kind, HasManifest, ListsAt, digest, IsBroken, has_path, Listed, is_wrong, asks_for, first_in, first_place, Has, Sha256, Sha512, matches_of, Ascending, IsLeastPath, kept_ascends, kept_has, has_kept, content_found, content_there, has_path_is, no_path_is, is_payload_is, is_payload_again, kind_is, kind_again, manifest_of_is, manifest_of_again, one_manifest, list_names}
 use Rattle.bag_text.specs.declared.checksum.Checksum.{Checksum}
 use Rattle.bag_check.specs.declared.rule.Rule.TheVariants as rules_of
-use Rattle.bag_check.specs.Fixity.{matches_of}
-use Rattle.bag_check.proofs.OrderLemmas.{Ascending, IsLeastPath}
 use Rattle.bag_text.proofs.ManifestEntryLemmas.{listed_has, has_listed}
 use Rattle.bag_check.proofs.TextFacts.{lists_there, lists_back, ascend_is}
-use Rattle.bag_check.proofs.BagLemmas.{kept_ascends, kept_has, has_kept, content_found, content_there, has_path_is, no_path_is, is_payload_is, is_payload_again}
-use Rattle.bag_check.proofs.NameLemmas.{kind_is, kind_again, manifest_of_is, manifest_of_again}
-use Rattle.bag_check.proofs.FaultLemmas.{one_manifest}
-use Rattle.bag_check.proofs.ManifestLemmas.{list_names}
 use Rattle.bag_check.proofs.PlaceLemmas.{Breaking, first_is_least, Place, IsLeastPlace, BreakingAt, first_place_is_least}
 
 -- a manifest that is read

@@ -1,12 +1,6 @@
 -- Each step of judging a bag: it names the first fault of its number, or none of that number stands.
-use Rattle.bag_check.proofs.Common.{◌≡◌, ℕ, ◌+◌, ◌⊎◌, inl, inr, Bool, true, false, cond, List, [], ◌∷◌, refl, sym, ap, subst, ◌∙◌, Option, Some, None, Result, Ok, Err, File, IsBag, content_at, Version, Algorithm, LineFault, declaration_of, Entries, manifest_of, Kind, Payload, Rule, Holds, HasFile, declaration_path, fetch_path, DeclaresVersion, IsManifestName, word_of, HasManifest, Fault, NoDeclaration, Declaration, FetchNotSupported, UnsupportedAlgorithm, NoPayloadManifest, ManifestText, Breaks, IsBroken, Stands, rule_number, PlaceBefore, FirstFault, has_path, or_declaration, declared_by, version_declared, no_fetch, Named, manifests_in, some_payload, Listed, listings_of, first_place, kept_by, keeps, bind_ok, bind_err, same_err, never_both, is_declared, declared_again, refused_again, refused_is_fault, fault_is_refused, Has, contains_has, has_contains}
-use Rattle.bag_text.specs.declared.declaration.DeclFault.{DeclFault}
-use Rattle.bag_check.proofs.OrderLemmas.{apart, Ascending, ascending_rest}
+use Rattle.bag_check.proofs.FirstLemmas.{ok_unless, err_if, ◌≡◌, ℕ, ◌+◌, ◌⊎◌, inl, inr, List, [], ◌∷◌, refl, sym, ap, subst, ◌∙◌, Option, Some, None, Result, Ok, Err, File, IsBag, content_at, Version, Algorithm, LineFault, declaration_of, Entries, manifest_of, Kind, Payload, Rule, Holds, HasFile, declaration_path, fetch_path, DeclaresVersion, IsManifestName, word_of, HasManifest, Fault, NoDeclaration, Declaration, FetchNotSupported, UnsupportedAlgorithm, NoPayloadManifest, ManifestText, Breaks, IsBroken, Stands, rule_number, PlaceBefore, FirstFault, has_path, or_declaration, declared_by, version_declared, no_fetch, Named, manifests_in, some_payload, Listed, listings_of, first_place, kept_by, keeps, bind_ok, bind_err, same_err, never_both, is_declared, declared_again, refused_again, refused_is_fault, fault_is_refused, Has, contains_has, has_contains, DeclFault, apart, Ascending, ascending_rest, at, bag_ascends, ascends_up, path_of_file, one_content, content_found, no_content, has_path_is, no_path_is, one_algorithm, at_1, at_2, at_3, at_4, at_5, at_6, at_rule, Earlier, none_earlier, NoneBelow, NoneAt, IsLeast, none_below_1, none_more, named_first, one_version, as_named, as_listed, read_of, names, Found, IsFirstUnsupported, first_unsupported, no_payload_manifest, AreRead, IsFirstRefused, first_refused}
 use Rattle.bag_text.proofs.DeclarationLemmas as declaration
-use Rattle.bag_check.proofs.BagLemmas.{at, bag_ascends, ascends_up, path_of_file, one_content, content_found, no_content, has_path_is, no_path_is}
-use Rattle.bag_check.proofs.NameLemmas.{one_algorithm}
-use Rattle.bag_check.proofs.FaultLemmas.{at_1, at_2, at_3, at_4, at_5, at_6, at_rule, Earlier, none_earlier, NoneBelow, NoneAt, IsLeast, none_below_1, none_more, named_first, one_version}
-use Rattle.bag_check.proofs.ManifestLemmas.{as_named, as_listed, read_of, names, Found, IsFirstUnsupported, first_unsupported, no_payload_manifest, AreRead, IsFirstRefused, first_refused}
 use Rattle.bag_check.proofs.PlaceLemmas.{Place, IsLeastPlace}
 use Rattle.bag_check.proofs.RuleLemmas.{AreListed, listed, broken_first}
 
@@ -64,17 +58,9 @@ version_err bag f e = by_content (content_at bag declaration_path) refl e
 
 -- ---- fetch.txt
 
--- what follows from whether there is a fetch.txt
-abbrev fetch_step : Bool → Result (Unit {0}) Fault
-fetch_step x = cond x (Err FetchNotSupported) (Ok tt)
-
 -- where none is found there is no fetch.txt
 pub fetch_ok : (bag : List File) (done : Unit {0}) → no_fetch bag ≡ Ok done → HasFile bag fetch_path → ⊥
-fetch_ok bag done e = by_test (has_path bag fetch_path) refl e
-  where
-    by_test : (x : Bool) → has_path bag fetch_path ≡ x → fetch_step x ≡ Ok done → HasFile bag fetch_path → ⊥
-    by_test true t e = absurd cc
-    by_test false t e = no_path_is bag fetch_path t
+fetch_ok bag done e = no_path_is bag fetch_path (ok_unless (has_path bag fetch_path) FetchNotSupported (Ok tt) done e).0
 
 -- without a fetch.txt no fault below 4 stands
 pub below_4 : (bag : List File) → NoneBelow bag 3 → (HasFile bag fetch_path → ⊥) → NoneBelow bag 4
@@ -82,12 +68,9 @@ below_4 bag below none = none_more bag 3 4 refl below (λ g n s. at_3 (λ x. Sta
 
 -- the fetch.txt that is named comes first
 pub fetch_err : (bag : List File) (f : Fault) → NoneBelow bag 3 → no_fetch bag ≡ Err f → FirstFault bag f
-fetch_err bag f below e = by_test (has_path bag fetch_path) refl e
-  where
-    by_test : (x : Bool) → has_path bag fetch_path ≡ x → fetch_step x ≡ Err f → FirstFault bag f
-    by_test true t e = subst (FirstFault bag) (same_err FetchNotSupported f (fetch_step true) refl e)
-        (named_first bag FetchNotSupported below (record { stands = has_path_is bag fetch_path t; first = λ g n s. at_3 (λ x. Earlier x FetchNotSupported → ⊥) none_earlier g n }))
-    by_test false t e = absurd cc
+fetch_err bag f below e =
+    let there = err_if (has_path bag fetch_path) FetchNotSupported tt f e in
+    subst (FirstFault bag) there.1 (named_first bag FetchNotSupported below (record { stands = has_path_is bag fetch_path there.0; first = λ g n s. at_3 (λ x. Earlier x FetchNotSupported → ⊥) none_earlier g n }))
 
 -- ---- the manifests' names
 

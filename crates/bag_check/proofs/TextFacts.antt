@@ -1,7 +1,6 @@
 -- What is used of the manifests in a bag: what they list, and that it ascends.
-use Rattle.bag_check.proofs.Common.{◌≡◌, ℕ, true, List, [], ◌∷◌, map, Ok, AllByRecursion, Version, Algorithm, comes_before, Lists, checksum_of, AscendingPaths, Entry, Entries, manifest_of, Has, contains_has, has_contains}
+use Rattle.bag_check.proofs.FirstLemmas.{◌≡◌, ℕ, true, List, [], ◌∷◌, map, Ok, AllByRecursion, Version, Algorithm, comes_before, Lists, checksum_of, AscendingPaths, Entry, Entries, manifest_of, Has, contains_has, has_contains, Up, Ascending}
 use Rattle.bag_text.proofs.ManifestLaws as manifest
-use Rattle.bag_check.proofs.OrderLemmas.{Up, Ascending}
 
 -- what a text lists is an entry
 pub lists_there : (v : Version) (a : Algorithm) (text : List ℕ) (es : Entries) (path checksum : List ℕ) → manifest_of v a text ≡ Ok es → Lists v a text path checksum → (e : Entry) × Has es (path, e) × (e.checksum ≡ checksum_of a checksum)

@@ -1,9 +1,6 @@
 -- A valid bag has no fault.
-use Rattle.bag_check.proofs.Common.{◌≡◌, ℕ, List, sym, ap, subst, ◌∙◌, File, IsBag, Version, declaration_of, manifest_of, Payload, Tag, Rule, declaration_path, word_of, Valid, Fault, NoDeclaration, Declaration, FetchNotSupported, UnsupportedAlgorithm, NoPayloadManifest, ManifestText, Breaks, InfoText, OxumForm, OxumTwice, OxumWrong, IsBroken, Stands, declared_again, refused_again, manifest_is_read, fault_is_refused, never_both}
+use Rattle.bag_check.proofs.FirstLemmas.{◌≡◌, ℕ, List, sym, ap, subst, ◌∙◌, File, IsBag, Version, declaration_of, manifest_of, Payload, Tag, Rule, declaration_path, word_of, Valid, Fault, NoDeclaration, Declaration, FetchNotSupported, UnsupportedAlgorithm, NoPayloadManifest, ManifestText, Breaks, InfoText, OxumForm, OxumTwice, OxumWrong, IsBroken, Stands, declared_again, refused_again, manifest_is_read, fault_is_refused, never_both, one_content, one_version, info_is_read, oxum_has_form, one_oxum, oxum_is_right}
 use Rattle.bag_check.specs.declared.rule.Rule.TheVariants as rules_of
-use Rattle.bag_check.proofs.BagLemmas.{one_content}
-use Rattle.bag_check.proofs.FaultLemmas.{one_version}
-use Rattle.bag_check.proofs.OxumLemmas.{info_is_read, oxum_has_form, one_oxum, oxum_is_right}
 
 -- in a valid bag no rule is broken
 pub no_rule_broken : (bag : List File) (v : Version) → Valid bag v → (rule : Rule) (name path : List ℕ) → IsBroken bag v rule name path → ⊥

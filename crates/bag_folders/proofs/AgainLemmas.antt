@@ -1,19 +1,9 @@
 -- Files that are found again in another order come back in the one that they had.
-use Rattle.std.proofs.Common.{◌≡◌, ◌∙◌, ℕ, suc, ◌+◌, ◌<◌, ◌≤◌, Bool, true, false, cond, List, [], ◌∷◌, get_or, length, map, refl, sym, ap, ap₂, subst, drop, arith}
-use Rattle.std.specs.Prelude.{string_bytes}
-use Rattle.std.specs.List.{AllByRecursion, sum_by}
+use Rattle.bag_folders.proofs.Common.{◌≡◌, ◌∙◌, ℕ, suc, ◌+◌, ◌<◌, ◌≤◌, Bool, true, false, cond, List, [], ◌∷◌, get_or, length, map, refl, sym, ap, ap₂, subst, drop, arith, string_bytes, AllByRecursion, sum_by, nat_list_cmp_total, sum_by-cons, IsPermutation-map, IsPermutation-trans, sum_by-IsPermutation, sorted_far, bytes_eq, comes_before, Ascends, File, IsBag, Listed, AreFilesOf, AreInPathOrder, AreFoundAgain, file_outline, listed_outline}
+use Rattle.std.proofs.lemmas.Bool.{false_from_ne_true, true_from_ne_false, false≢true}
 use Rattle.std.specs.Ordering.{is_lt, ordering_reverse}
-use Rattle.std.proofs.lemmas.Cmp.{nat_list_cmp_total}
-use Rattle.std.proofs.lemmas.List.Sums.{sum_by-cons}
-use Rattle.std.proofs.lemmas.List.Sorted.{IsPermutation-map, IsPermutation-trans, sum_by-IsPermutation, sorted_far}
 use Rattle.std.proofs.lemmas.Slice.Eq.{bytes_eq-Decides}
-use Rattle.std.specs.Prelude.{bytes_eq}
-use Rattle.bag_text.specs.Paths.{comes_before}
-use Rattle.bag_text.specs.TransferForm.{Ascends, File, IsBag}
 use Rattle.bag_text.proofs.OrderLemmas.{after, before_chain, less, path_cmp}
-use Rattle.bag_folders.specs.declared.listed.Listed.{Listed}
-use Rattle.bag_folders.specs.Packing.{AreFilesOf, AreInPathOrder}
-use Rattle.bag_folders.specs.Unpacking.{AreFoundAgain, file_outline, listed_outline}
 use Rattle.bag_folders.proofs.OrderLemmas.{by_path}
 
 abbrev Outline : Type 0
@@ -25,18 +15,10 @@ one_way : (a b : List ℕ) → comes_before a b ≡ true → comes_before b a �
 one_way a b e = ap is_lt (nat_list_cmp_total.antisymm b a ∙ ap ordering_reverse (less (path_cmp a b) e))
 
 not_itself : (a : List ℕ) → comes_before a a ≡ false
-not_itself a = by_test (comes_before a a) refl
-  where
-    by_test : (b : Bool) → comes_before a a ≡ b → comes_before a a ≡ false
-    by_test true e = one_way a a e
-    by_test false e = e
+not_itself a = false_from_ne_true (comes_before a a) (λ e. false≢true (sym (one_way a a e) ∙ e))
 
 neither : (a b : List ℕ) → comes_before a b ≡ false → comes_before b a ≡ false → a ≡ b
-neither a b e g = by_test (bytes_eq a b) refl
-  where
-    by_test : (t : Bool) → bytes_eq a b ≡ t → a ≡ b
-    by_test true is = (bytes_eq-Decides a b).0 is
-    by_test false is = absurd (let k = sym g ∙ after a b e is in cc)
+neither a b e g = (bytes_eq-Decides a b).0 (true_from_ne_false (bytes_eq a b) (λ is. false≢true (sym g ∙ after a b e is)))
 
 -- ---- lists of paths and sizes
 

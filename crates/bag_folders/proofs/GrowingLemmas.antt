@@ -1,9 +1,5 @@
 -- Lists that grow by what an element gives.
-use Rattle.std.proofs.Common.{◌≡◌, ◌∙◌, ◌+◌, ◌<◌, ℕ, List, [], ◌∷◌, ◌++◌, Option, Some, None, get_or, length, refl, sym, ap, take}
-use Rattle.std.specs.Prelude.{filter_map, slice_get}
-use Rattle.std.specs.List.{AllZip, cons_option}
-use Rattle.std.specs.Option.{option_or}
-use Rattle.std.proofs.lemmas.List.{take_more}
+use Rattle.bag_folders.proofs.Common.{◌≡◌, ◌∙◌, ◌+◌, ◌<◌, ℕ, List, [], ◌∷◌, ◌++◌, Option, Some, None, get_or, length, refl, sym, ap, take, filter_map, slice_get, AllZip, cons_option, option_or, take_more}
 use Rattle.std.proofs.lemmas.List.Elements.{filter_map-append}
 
 pub filter_map_next : {X Y : Type 0} (h : X → Option Y) (xs : List X) (x : X) (old new : List Y)

@@ -1,3 +1,4 @@
+pub mod Common
 pub mod OrderLemmas
 pub mod SizeLemmas
 pub mod LoadLemmas
@@ -8,3 +9,4 @@ pub mod MakingLemmas
 pub mod ListingLemmas
 pub mod AgainLemmas
 pub mod UnpackLemmas
+pub mod Lemmas

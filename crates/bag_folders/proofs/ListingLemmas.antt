@@ -1,11 +1,5 @@
 -- The entries that are listed, folder by folder.
-use Rattle.std.proofs.Common.{◌≡◌, ◌∙◌, ◌+◌, ◌<◌, ◌≤◌, ℕ, List, true, false, Result, Ok, Err, IfErr, IfOk, IsErr, [], ◌∷◌, ◌++◌, get_or, length, sym, ap, subst, take, take_all, append-nil, append_assoc, arith}
-use Rattle.std.specs.Prelude.{flat_map, string_bytes}
-use Rattle.std.specs.List.{AllZip}
-use Rattle.std.proofs.lemmas.List.{take_more, take-append-le}
-use Rattle.std.proofs.lemmas.List.Concat.{flat_map-append}
-use Rattle.bag_folders.specs.declared.listed.Entry.{Entry}
-use Rattle.bag_folders.specs.Listing.{AreListed, AreListedAt}
+use Rattle.bag_folders.proofs.Common.{◌≡◌, ◌∙◌, ◌+◌, ◌<◌, ℕ, List, true, false, Result, Ok, Err, IfErr, IfOk, IsErr, [], ◌∷◌, ◌++◌, get_or, length, sym, ap, subst, take, append-nil, append_assoc, arith, flat_map, string_bytes, AllZip, take_more, take-append-le, flat_map-append, Entry, AreListedAt}
 use Rattle.bag_folders.proofs.GrowingLemmas.{zip_next}
 
 abbrev pub joined : List (List Entry) → List Entry
@@ -43,15 +37,6 @@ listed_next lists entries more new next entry lt at so_far here is =
       are_below = subst (λ (es : List Entry). AllZip (At lists) es (so_far.below ++ more ∷ [])) (sym front)
           (zip_next (At lists) (take next entries) so_far.below entry more so_far.are_below here);
     }
-
-pub listed_all : (lists : List ℕ → List Entry → Type 0) (entries : List Entry) (next : ℕ) → length entries ≤ next → AreListedSoFar lists entries next → AreListed lists entries
-listed_all lists entries next le so_far = record {
-  first = so_far.first;
-  below = so_far.below;
-  whole = so_far.whole;
-  are_first = so_far.are_first;
-  are_below = subst (λ (es : List Entry). AllZip (At lists) es so_far.below) (take_all next entries le) so_far.are_below;
-}
 
 -- what is told of names is told of some
 pub told_of_some : {S E V X : Type 0} (P : S → V → Type 0) (names : Result S E) (r : Result V X) → IfErr names (λ _. IsErr r) → IfOk names (λ n. IfOk r (λ v. P n v)) → IfOk r (λ v. (n : S) × P n v)

@@ -1,26 +1,7 @@
 -- Files that were read, and lists that grow as another is gone through.
-use Rattle.std.proofs.Common.{◌≡◌, ℕ, ◌+◌, ◌<◌, ◌≤◌, List, [], ◌∷◌, ◌++◌, length, get_or, take, map, refl, sym, ap, subst, ◌∙◌, append_assoc, arith}
-use Rattle.std.specs.Prelude.{string_bytes}
-use Rattle.std.specs.List.{flat_map}
-use Rattle.std.proofs.lemmas.List.{append-nil, map_push, take_all, take_more}
-use Rattle.std.proofs.lemmas.List.Concat.{flat_map-append}
-use Rattle.bag_text.specs.TransferForm.{File, entry}
-use Rattle.bag_folders.specs.declared.listed.Listed.{Listed}
-use Rattle.bag_folders.specs.Loading.{AppendsEntry}
-use Rattle.bag_folders.specs.Packing.{AreFilesOf}
+use Rattle.bag_folders.proofs.Common.{◌≡◌, ℕ, ◌+◌, ◌<◌, List, [], ◌∷◌, ◌++◌, length, get_or, take, refl, sym, ap, subst, ◌∙◌, append_assoc, arith, string_bytes, flat_map, append-nil, take_more, flat_map-append, File, entry, Listed, AppendsEntry, AreFilesOf}
 
 -- ---- one list is a view of another
-
--- one element more of both
-pub mapped_more : {X Y Z : Type 0} (g : X → Z) (h : Y → Z) (xs : List X) (x : X) (ys : List Y) (i : ℕ) (d : Y)
-    → i < length ys → map g xs ≡ map h (take i ys) → g x ≡ h (get_or ys i d) → map g (xs ++ x ∷ []) ≡ map h (take (i + 1) ys)
-mapped_more g h xs x ys i d lt so_far is =
-    map_push g xs x ∙ ap (λ (zs : List _). zs ++ g x ∷ []) so_far ∙ ap (λ (z : _). map h (take i ys) ++ z ∷ []) is
-    ∙ sym (map_push h (take i ys) (get_or ys i d)) ∙ ap (λ (zs : List _). map h zs) (sym (take_more ys i d lt))
-
--- all of both
-pub mapped_all : {X Y Z : Type 0} (g : X → Z) (h : Y → Z) (xs : List X) (ys : List Y) (i : ℕ) → length ys ≤ i → map g xs ≡ map h (take i ys) → map g xs ≡ map h ys
-mapped_all g h xs ys i le so_far = so_far ∙ ap (λ (zs : List _). map h zs) (take_all i ys le)
 
 -- ---- files of a listing
 

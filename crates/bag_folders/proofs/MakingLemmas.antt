@@ -1,14 +1,7 @@
 -- The folders that are made for files.
-use Rattle.std.proofs.Common.{◌≡◌, ◌≢◌, ◌∙◌, ◌||◌, ℕ, suc, ◌+◌, ◌<◌, ◌≤◌, Bool, false, cond, not, ◌&&◌, List, [], ◌∷◌, ◌++◌, Option, Some, None, MatchOption, get_or, length, ne_eqb, refl, sym, ap, ap₂, take, drop, take-append-drop, arith}
-use Rattle.std.specs.Prelude.{bytes_eq, codes, filter_map, option_map}
+use Rattle.bag_folders.proofs.Common.{◌≡◌, ◌≢◌, ◌∙◌, ◌||◌, ℕ, suc, ◌+◌, ◌<◌, ◌≤◌, Bool, false, cond, not, ◌&&◌, List, [], ◌∷◌, ◌++◌, Option, Some, None, MatchOption, get_or, length, ne_eqb, refl, sym, ap, ap₂, take, drop, take-append-drop, arith, bytes_eq, codes, filter_map, option_map, cons_option, list_any, Bor, declaration_path, is_payload, files_of, paths_found, folder_of, folders_of, needs_data}
 use Rattle.std.specs.Str.Pattern.{RFindsChar}
 use Rattle.std.proofs.lemmas.Str.Pattern.{NoCharPasses-char, drop_at_char}
-use Rattle.std.specs.List.{cons_option, list_any}
-use Rattle.std.specs.Borrow.{Bor}
-use Rattle.bag_check.specs.Contents.{declaration_path, is_payload}
-use Rattle.bag_text.specs.TransferReading.{files_of}
-use Rattle.bag_folders.specs.Packing.{paths_found}
-use Rattle.bag_folders.specs.Unpacking.{folder_of, folders_of, needs_data}
 
 -- a test of the paths of files that are lent
 pub any_path : (test : List ℕ → Bool) (files : List (Bor (List ℕ) × Bor (List ℕ)))

@@ -1,18 +1,10 @@
 -- What is told of a folder that is refused.
-use Rattle.std.proofs.Common.{◌≡◌, inl, inr, ℕ, List, [], ◌∷◌, length, replicate, map, refl, ◌∙◌, ap, sym}
-use Rattle.std.specs.Prelude.{◌||◌, Bool, bytes_eq, None, Result, Ok, Err, IfErr, IfOk, string_bytes}
+use Rattle.bag_folders.proofs.Common.{◌≡◌, inl, inr, ℕ, List, [], ◌∷◌, length, replicate, map, refl, ◌∙◌, ap, sym, ◌||◌, Bool, bytes_eq, None, Result, Ok, Err, IfErr, IfOk, string_bytes, declaration_path, File, IsFormOf, Failed, Entry, Listed, PackFault, AreFilesOf, AllFilesOf, AreInPathOrder, HasNoForm, HasNoFormOf, IsFoundUnder, IsPacked, IsPackedOf, IsUnpackable, IsRefusedOf, IsRefusedUnder, MayBeRefused, pack_failed, is_any_declared, is_declared, paths_found}
 use Rattle.std.proofs.Math.ListN.{length-replicate}
-use Rattle.bag_check.specs.Contents.{declaration_path}
-use Rattle.bag_text.specs.TransferForm.{File, IsFormOf}
-use Rattle.bag_folders.specs.declared.failed.Failed.{Failed}
 use Rattle.bag_folders.specs.declared.failed.Failed.TheVariants as failures
-use Rattle.bag_folders.specs.declared.listed.Entry.{Entry}
 use Rattle.bag_folders.specs.declared.listed.Found.{Found}
-use Rattle.bag_folders.specs.declared.listed.Listed.{Listed}
 use Rattle.bag_folders.specs.declared.packing.Packed.{Packed}
-use Rattle.bag_folders.specs.declared.pack_fault.PackFault.{PackFault}
 use Rattle.bag_folders.specs.declared.pack_fault.PackFault.TheVariants.{Name, Set, Size, Device, Memory}
-use Rattle.bag_folders.specs.Packing.{AreFilesOf, AllFilesOf, AreInPathOrder, HasNoForm, HasNoFormOf, IsFoundUnder, IsPacked, IsPackedOf, IsUnpackable, IsRefusedOf, IsRefusedUnder, MayBeRefused, pack_failed, is_any_declared, is_declared, paths_found}
 use Rattle.bag_folders.proofs.LoadLemmas.{same_count}
 
 -- ---- files that could be the ones that are listed
@@ -34,20 +26,14 @@ plan_refused found listed Size odd order none = (odd, (listed, order, none))
 plan_refused found listed (Device trouble) odd order none = none (map filled listed) (some_files listed)
 plan_refused found listed Memory odd order none = tt
 
-pub failed_has_none : (listed : List Listed) (failed : Failed) → HasNoFormOf listed (pack_failed failed)
-failed_has_none listed (failures.Device trouble) = tt
-failed_has_none listed failures.Memory = tt
-
 pub failed_under : (lists : List ℕ → List Entry → Type 0) (failed : Failed) → IsRefusedUnder lists (pack_failed failed)
 failed_under lists (failures.Device trouble) = tt
 failed_under lists failures.Memory = tt
 
 refused_under : (lists : List ℕ → List Entry → Type 0) (found : Found) (fault : PackFault) → IsFoundUnder lists found → IsRefusedOf found fault → IsRefusedUnder lists fault
-refused_under lists found (Name odd) under h = (found, under, h)
-refused_under lists found (Set fault path) under h = (found, under, h)
-refused_under lists found Size under h = (found, under, h)
 refused_under lists found (Device trouble) under h = tt
 refused_under lists found Memory under h = tt
+refused_under lists found fault under h = (found, under, h)
 
 pub plan_under : (lists : List ℕ → List Entry → Type 0) (found : Found) (fault : PackFault) → IsFoundUnder lists found → IsUnpackable found fault → IsRefusedUnder lists fault
 plan_under lists found fault under h = refused_under lists found fault under (inl h)
@@ -87,23 +73,16 @@ some_packed lists (Ok packed) h = let it = h.2 in (it.files, it.text, it.form, i
 some_packed lists (Err fault) h = tt
 
 of_refused : (found : Found) (fault : PackFault) → IsRefusedOf found fault → MayBeRefused fault
-of_refused found (Name odd) (inl h) = inl (found, h)
-of_refused found (Set fault path) (inl h) = inl (found, h)
-of_refused found Size (inl h) = inl (found, h)
 of_refused found (Device trouble) (inl h) = tt
-of_refused found Memory (inl h) = inl (found, h)
-of_refused found (Name odd) (inr h) = let it = h.3 in inr (it.0, it.2)
-of_refused found (Set fault path) (inr h) = let it = h.3 in inr (it.0, it.2)
-of_refused found Size (inr h) = let it = h.3 in inr (it.0, it.2)
 of_refused found (Device trouble) (inr h) = tt
 of_refused found Memory (inr h) = inr ([], tt)
+of_refused found fault (inl h) = inl (found, h)
+of_refused found fault (inr h) = let it = h.3 in inr (it.0, it.2)
 
 under_refused : (lists : List ℕ → List Entry → Type 0) (fault : PackFault) → IsRefusedUnder lists fault → MayBeRefused fault
-under_refused lists (Name odd) h = of_refused h.0 (Name odd) h.2
-under_refused lists (Set fault path) h = of_refused h.0 (Set fault path) h.2
-under_refused lists Size h = of_refused h.0 Size h.2
 under_refused lists (Device trouble) h = tt
 under_refused lists Memory h = inr ([], tt)
+under_refused lists fault h = of_refused h.0 fault h.2
 
 pub some_refused : (lists : List ℕ → List Entry → Type 0) (result : Result Packed PackFault) → IfErr result (IsRefusedUnder lists) → IfErr result MayBeRefused
 some_refused lists (Ok packed) h = tt

@@ -1,7 +1,6 @@
 -- What was read of a file.
-use Rattle.std.proofs.Common.{◌≡◌, ◌+◌, ◌∙◌, ◌++◌, ℕ, List, ap, sym, length, drop, take-append-drop, length-drop, arith}
+use Rattle.bag_folders.proofs.Common.{◌≡◌, ◌+◌, ◌∙◌, ◌++◌, ℕ, List, ap, sym, length, drop, take-append-drop, length-drop, arith, AppendsSome}
 use Rattle.std.specs.Io.{StartsWith}
-use Rattle.bag_folders.specs.Loading.{AppendsSome}
 
 -- What was read to the end stands behind what was there before.
 pub some_behind : (old new : List ℕ) (count size : ℕ) → StartsWith new old → length new ≡ length old + count → count ≡ size → AppendsSome size old new

@@ -1,22 +1,11 @@
 -- The fault of files, told by their paths and sizes.
-use Rattle.std.proofs.Common.{◌≡◌, ◌≢◌, ℕ, zero, suc, ◌+◌, ◌<◌, ◌≤◌, Bool, true, false, ltb, leb, cond, ◌||◌, List, [], ◌∷◌, ◌++◌, length, take, map, refl, sym, ap, ap₂, subst, ◌∙◌, arith}
-use Rattle.std.specs.Prelude.{Option, Some, None, Result, Ok, Err, bytes_eq, codes, string_bytes}
-use Rattle.std.specs.List.{list_any, position_from, sum_by, flat_map}
-use Rattle.std.proofs.lemmas.List.{length-append, length-take-le}
-use Rattle.std.proofs.lemmas.List.Sums.{sum_by-cons}
+use Rattle.bag_folders.proofs.Common.{◌≡◌, ◌≢◌, ℕ, zero, suc, ◌+◌, ◌<◌, ◌≤◌, Bool, true, false, ltb, leb, cond, ◌||◌, List, [], ◌∷◌, ◌++◌, length, take, map, refl, sym, ap, ap₂, subst, ◌∙◌, arith, Option, Some, None, Result, Ok, Err, bytes_eq, codes, string_bytes, list_any, position_from, sum_by, flat_map, length-append, length-take-le, sum_by-cons, is_good, comes_before, lies_under, File, IsBag, max_content, max_files, clashes, header, entry, opening, ending, set_text, option_or, Listed, PackFault, AreFilesOf, HasNoForm, IsNamedAs, listed_paths, path_at_fault, paths_found, IsFaultFound, emptied, is_too_long, with_long}
 use Rattle.std.proofs.lemmas.Option.{same_Some}
-use Rattle.bag_text.specs.Paths.{is_good, comes_before, lies_under}
-use Rattle.bag_text.specs.TransferForm.{File, IsBag, max_content, max_files, clashes, header, entry, opening, ending, set_text}
-use Rattle.std.specs.Option.{option_or}
 use Rattle.bag_text.specs.BagList.{ListFault, file_fault, fault_from, clash_fault, list_fault}
 use Rattle.bag_text.specs.declared.set_fault.SetFault.{SetFault}
-use Rattle.bag_text.specs.declared.set_fault.SetFault.TheVariants.{BadOpening, BadEntry, Truncated, OutOfOrder, BadPath, TooManyFiles, TrailingBytes, PathClash, Memory}
+use Rattle.bag_text.specs.declared.set_fault.SetFault.TheVariants.{BadEntry, PathClash, Memory}
 use Rattle.bag_text.proofs.ListLemmas.{judged, list_fault_law, list_bag_law, some}
-use Rattle.bag_folders.specs.declared.listed.Listed.{Listed}
-use Rattle.bag_folders.specs.declared.pack_fault.PackFault.{PackFault}
 use Rattle.bag_folders.specs.declared.pack_fault.PackFault.TheVariants as packing
-use Rattle.bag_folders.specs.Packing.{AreFilesOf, HasNoForm, IsNamedAs, listed_paths, path_at_fault, paths_found}
-use Rattle.bag_folders.specs.Sizes.{IsFaultFound, emptied, is_too_long, with_long}
 
 -- ---- one file
 
@@ -37,11 +26,8 @@ one_apart : (place : ℕ) (before : List ℕ) (f : File) → file_fault place be
 one_apart place before f e = by_tests (ltb max_content (length f.content)) (leb max_files place) (is_good f.path) (comes_before before f.path) e
   where
     by_tests : (long full good up : Bool) → judged place long full good up ≡ Some PathClash → ⊥
-    by_tests true full good up e = absurd cc
-    by_tests false true good up e = absurd cc
-    by_tests false false false up e = absurd cc
-    by_tests false false true false e = absurd cc
     by_tests false false true true e = absurd cc
+    by_tests _ _ _ _ e = absurd cc
 
 apart : (place : ℕ) (before : List ℕ) (files : List File) → fault_from place before files ≡ Some PathClash → ⊥
 unfolding fault_from
@@ -169,20 +155,8 @@ judged_long {X} place ls fs front h e j = by_front (fault_from 0 [] (map emptied
     by_front None is (Err PathClash) j = here None is
     by_front (Some g) is (Err PathClash) j = absurd (apart_here g is j)
     by_front r is (Err Memory) j = tt
-    by_front None is (Err BadOpening) j = absurd (no_clash BadOpening (λ e. absurd cc) j)
-    by_front None is (Err (BadEntry n)) j = absurd (no_clash (BadEntry n) (λ e. absurd cc) j)
-    by_front None is (Err Truncated) j = absurd (no_clash Truncated (λ e. absurd cc) j)
-    by_front None is (Err (OutOfOrder n)) j = absurd (no_clash (OutOfOrder n) (λ e. absurd cc) j)
-    by_front None is (Err (BadPath n)) j = absurd (no_clash (BadPath n) (λ e. absurd cc) j)
-    by_front None is (Err TooManyFiles) j = absurd (no_clash TooManyFiles (λ e. absurd cc) j)
-    by_front None is (Err TrailingBytes) j = absurd (no_clash TrailingBytes (λ e. absurd cc) j)
-    by_front (Some g) is (Err BadOpening) j = alike g BadOpening is j
-    by_front (Some g) is (Err (BadEntry n)) j = alike g (BadEntry n) is j
-    by_front (Some g) is (Err Truncated) j = alike g Truncated is j
-    by_front (Some g) is (Err (OutOfOrder n)) j = alike g (OutOfOrder n) is j
-    by_front (Some g) is (Err (BadPath n)) j = alike g (BadPath n) is j
-    by_front (Some g) is (Err TooManyFiles) j = alike g TooManyFiles is j
-    by_front (Some g) is (Err TrailingBytes) j = alike g TrailingBytes is j
+    by_front None is (Err found) j = absurd (no_clash found (λ e. absurd cc) j)
+    by_front (Some g) is (Err found) j = alike g found is j
 
 -- a file that was found at a place stands in the list
 found_within : (place : ℕ) (ls : List Listed) (k : ℕ) → position_from is_too_long place ls ≡ Some k → k < place + length ls
@@ -203,26 +177,12 @@ judged_ok files set h = (list_bag_law files).1 (subst (λ (fs : List File). IsBa
 
 pub judged_err : (X : Type 0) (files : List File) (fault : SetFault) → (fault ≢ Memory → ListFault files fault) → IsFaultFound {X = X} (list_fault files) (Err fault)
 judged_err X files Memory h = tt
-judged_err X files PathClash h = (list_fault_law files PathClash).1 (h (λ e. absurd cc))
-judged_err X files BadOpening h = (list_fault_law files BadOpening).1 (h (λ e. absurd cc))
-judged_err X files (BadEntry n) h = (list_fault_law files (BadEntry n)).1 (h (λ e. absurd cc))
-judged_err X files Truncated h = (list_fault_law files Truncated).1 (h (λ e. absurd cc))
-judged_err X files (OutOfOrder n) h = (list_fault_law files (OutOfOrder n)).1 (h (λ e. absurd cc))
-judged_err X files (BadPath n) h = (list_fault_law files (BadPath n)).1 (h (λ e. absurd cc))
-judged_err X files TooManyFiles h = (list_fault_law files TooManyFiles).1 (h (λ e. absurd cc))
-judged_err X files TrailingBytes h = (list_fault_law files TrailingBytes).1 (h (λ e. absurd cc))
+judged_err X files fault h = (list_fault_law files fault).1 (h (λ e. absurd cc))
 
 -- what is judged is the list's fault
 judged_fault : (X : Type 0) (files : List File) (fault : SetFault) → IsFaultFound {X = X} (list_fault files) (Err fault) → fault ≢ Memory → ListFault files fault
 judged_fault X files Memory j out = absurd (out refl)
-judged_fault X files PathClash j out = (list_fault_law files PathClash).0 j
-judged_fault X files BadOpening j out = (list_fault_law files BadOpening).0 j
-judged_fault X files (BadEntry n) j out = (list_fault_law files (BadEntry n)).0 j
-judged_fault X files Truncated j out = (list_fault_law files Truncated).0 j
-judged_fault X files (OutOfOrder n) j out = (list_fault_law files (OutOfOrder n)).0 j
-judged_fault X files (BadPath n) j out = (list_fault_law files (BadPath n)).0 j
-judged_fault X files TooManyFiles j out = (list_fault_law files TooManyFiles).0 j
-judged_fault X files TrailingBytes j out = (list_fault_law files TrailingBytes).0 j
+judged_fault X files fault j out = (list_fault_law files fault).0 j
 
 -- the list's fault, as it is named, is why there is no form
 no_form : (files : List File) (fault : SetFault) (path : Option (List ℕ)) (named : PackFault) → (fault ≢ Memory → ListFault files fault)

@@ -1,22 +1,14 @@
 -- What comes of a text that was read.
-use Rattle.std.proofs.Common.{◌≡◌, ℕ, List, Option, Some, None, IfSome, sym, subst}
-use Rattle.std.specs.Prelude.{Result, Ok, Err, IfErr, IfOk}
+use Rattle.bag_folders.proofs.Common.{◌≡◌, ℕ, List, Option, Some, None, IfSome, sym, subst, Result, Ok, Err, IfErr, IfOk, File, IsFormOf, Failed, CanStop, MakesFiles, IsOfForm, IsUnpacked, IsUnpackedFrom, IsUnpackedFromFile, IsUnreadable, MayBeUnreadable, judged_part, unpack_failed}
 use Rattle.std.specs.declared.io.Read.{Ghosts as Reads}
-use Rattle.bag_text.specs.TransferForm.{File, IsFormOf}
-use Rattle.bag_folders.specs.declared.failed.Failed.{Failed}
 use Rattle.bag_folders.specs.declared.failed.Failed.TheVariants as failures
 use Rattle.bag_folders.specs.declared.unpacking.Unpacked.{Unpacked}
 use Rattle.bag_folders.specs.declared.unpack_fault.UnpackFault.{UnpackFault}
 use Rattle.bag_folders.specs.declared.unpack_fault.UnpackFault.TheVariants.{Set, Size, Exists, Device, Memory}
-use Rattle.bag_folders.specs.Unpacking.{CanStop, MakesFiles, IsOfForm, IsUnpacked, IsUnpackedFrom, IsUnpackedFromFile, IsUnreadable, MayBeUnreadable, judged_part, unpack_failed}
 
 pub failed_stops : (failed : Failed) → CanStop (unpack_failed failed)
 failed_stops (failures.Device trouble) = tt
 failed_stops failures.Memory = tt
-
-pub failed_from : (text : List ℕ) (failed : Failed) → IsUnpackedFrom text (Err (unpack_failed failed))
-failed_from text (failures.Device trouble) = tt
-failed_from text failures.Memory = tt
 
 made_of : (text : List ℕ) (files : List File) (result : Result Unpacked UnpackFault) → IsFormOf files text → MakesFiles files result → IsUnpackedFrom text result
 made_of text files (Ok unpacked) form made = (files, form, made)
@@ -45,10 +37,6 @@ pub judged_from : (known : Option (List ℕ)) (text : List ℕ) (result : Result
 judged_from None text result read from = tt
 judged_from (Some given) text result read from = subst (λ (t : List ℕ). IsUnpackedFrom t result) read from
 
-pub failed_judged : (known : Option (List ℕ)) (failed : Failed) → IfSome known (λ given. IsUnpackedFrom (judged_part given) (Err (unpack_failed failed)))
-failed_judged None failed = tt
-failed_judged (Some given) failed = failed_from (judged_part given) failed
-
 -- and else it is some text
 pub some_unpacked : (text : List ℕ) (result : Result Unpacked UnpackFault) → IsUnpackedFrom text result → IfOk result IsUnpacked
 some_unpacked text (Ok unpacked) from = (from.0, text, from.1, from.2)
@@ -69,9 +57,7 @@ some_unreadable text (Err fault) from = some_refused text fault from
 stops : (fault : UnpackFault) → CanStop fault → IsOfForm fault → ⊥
 stops (Set fault other) stop form = stop
 stops Size stop form = stop
-stops Exists stop form = form
-stops (Device trouble) stop form = form
-stops Memory stop form = form
+stops _ stop form = form
 
 pub unmade_from : (unmade : Type 0) (read : Result (List File) UnpackFault) (result : Result Unpacked UnpackFault) → IfErr read (λ fault. (result ≡ Err fault) × unmade) → IfOk read (λ bag. MakesFiles bag result)
     → IfErr result (λ fault. IsOfForm fault → unmade)
@@ -81,12 +67,9 @@ unmade_from unmade (Err other) (Err fault) unread made = λ form. unread.1
 
 -- what comes of a file that was opened
 pub of_file : {F : Type 0} (reads : Reads F) (file : F) (result : Result Unpacked UnpackFault) → IfSome (reads.remaining file) (λ given. IsUnpackedFrom (judged_part given) result) → IsUnpackedFromFile reads result
-of_file reads file (Ok unpacked) judged = (file, judged)
-of_file reads file (Err (Set fault other)) judged = (file, judged)
-of_file reads file (Err Size) judged = (file, judged)
-of_file reads file (Err Exists) judged = (file, judged)
 of_file reads file (Err (Device trouble)) judged = tt
 of_file reads file (Err Memory) judged = tt
+of_file reads file _ judged = (file, judged)
 
 pub of_none : {F : Type 0} (reads : Reads F) (failed : Failed) → IsUnpackedFromFile reads (Err (unpack_failed failed))
 of_none reads (failures.Device trouble) = tt

@@ -1,9 +1,6 @@
 -- Making a bag of a list of files.
-use Rattle.bag_text.proofs.Common.{◌≡◌, ◌≢◌, ℕ, ◌+◌, ◌<◌, ◌≤◌, Bool, true, false, not, List, [], length, get_or, drop, map, refl, sym, ap, subst, ◌∙◌, arith, Option, Some, None, is_some, is_none, IfOk, IfErr, option_or, is_utf8, drop_more, at_drop_all, SetFault, Memory, is_good, path_fault, File, Ascends, IsBag, Answers, named_set_fault, ListFault, file_fault, fault_from, list_fault}
-use Rattle.std.proofs.Common.{Result, Ok, Err}
-use Rattle.bag_text.specs.declared.path.PathFault.{PathFault}
+use Rattle.bag_text.proofs.FirstLemmas.{◌≡◌, ◌≢◌, ℕ, ◌+◌, ◌<◌, ◌≤◌, Bool, true, false, not, List, [], length, get_or, drop, map, refl, sym, ap, subst, ◌∙◌, arith, Option, Some, None, is_some, is_none, IfOk, IfErr, option_or, is_utf8, drop_more, at_drop_all, SetFault, Memory, is_good, path_fault, File, Ascends, IsBag, Answers, named_set_fault, ListFault, file_fault, fault_from, list_fault, Result, Ok, Err, PathFault, err_is}
 use Rattle.bag_text.specs.ListReading.{Makes}
-use Rattle.bag_text.proofs.ResultLemmas.{err_is}
 use Rattle.bag_text.proofs.ListLemmas.{from_none, list_fault_law, list_bag_law}
 
 -- ---- one file after the other

@@ -1,5 +1,5 @@
 -- Blanks round a text.
-use Rattle.bag_text.proofs.Common.{◌≡◌, ℕ, Bool, true, false, cond, eqb, ◌&&◌, List, [], ◌∷◌, ◌++◌, length, map, refl, sym, ap, ◌∙◌, arith, and_parts, nat_tests, append-nil, is_blank, AreBlanks, skip_blanks, drop_last_blanks, trim_blanks}
+use Rattle.bag_text.proofs.Common.{inl, inr, cases_Bool, ◌≡◌, ℕ, Bool, true, false, cond, eqb, ◌&&◌, List, [], ◌∷◌, ◌++◌, length, map, refl, sym, ap, ◌∙◌, arith, and_parts, nat_tests, append-nil, is_blank, AreBlanks, skip_blanks, drop_last_blanks, trim_blanks}
 
 -- blanks in front of a text
 pub record HasFront (t rest : List ℕ) : Type 0 where
@@ -50,11 +50,8 @@ drop_back (b ∷ t) after h = rw (drop_back t after h) refl
 -- skipping leaves blanks at the end, where something else stands before them
 pub skip_back : (t after : List ℕ) → AreBlanks after → drop_last_blanks (skip_blanks (t ++ after)) ≡ drop_last_blanks (skip_blanks t)
 skip_back [] after h = ap drop_last_blanks (ap skip_blanks (sym (append-nil after)) ∙ skip_front after [] h)
-skip_back (b ∷ t) after h = by_first (is_blank b) (skip_back t after h)
-  where
-    by_first : (x : Bool) → drop_last_blanks (skip_blanks (t ++ after)) ≡ drop_last_blanks (skip_blanks t) → drop_last_blanks (cond x (skip_blanks (t ++ after)) (b ∷ t ++ after)) ≡ drop_last_blanks (cond x (skip_blanks t) (b ∷ t))
-    by_first true again = again
-    by_first false again = drop_back (b ∷ t) after h
+skip_back (b ∷ t) after h =
+    elim (cases_Bool (is_blank b)) [ inl e ↦ rw e (skip_back t after h) | inr e ↦ rw e (drop_back (b ∷ t) after h) ]
 
 -- blanks round a text go
 pub trim_round : (before value after : List ℕ) → AreBlanks before → AreBlanks after → trim_blanks (before ++ (value ++ after)) ≡ trim_blanks value
@@ -77,11 +74,8 @@ trimmed_round t =
 -- a map that keeps blanks commutes with dropping them
 pub map_skipped : (f : ℕ → ℕ) → ((b : ℕ) → is_blank (f b) ≡ is_blank b) → (t : List ℕ) → skip_blanks (map f t) ≡ map f (skip_blanks t)
 map_skipped f keeps [] = refl
-map_skipped f keeps (b ∷ t) = rw (keeps b) (by_first (is_blank b) (map_skipped f keeps t))
-  where
-    by_first : (x : Bool) → skip_blanks (map f t) ≡ map f (skip_blanks t) → cond x (skip_blanks (map f t)) (f b ∷ map f t) ≡ map f (cond x (skip_blanks t) (b ∷ t))
-    by_first true again = again
-    by_first false again = refl
+map_skipped f keeps (b ∷ t) =
+    rw (keeps b) (elim (cases_Bool (is_blank b)) [ inl e ↦ rw e (map_skipped f keeps t) | inr e ↦ rw e refl ])
 
 pub map_dropped : (f : ℕ → ℕ) → ((b : ℕ) → is_blank (f b) ≡ is_blank b) → (t : List ℕ) → drop_last_blanks (map f t) ≡ map f (drop_last_blanks t)
 map_dropped f keeps [] = refl

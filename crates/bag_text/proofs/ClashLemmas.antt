@@ -1,6 +1,5 @@
 -- Paths that lie under others.
-use Rattle.bag_text.proofs.Common.{◌≡◌, ℕ, suc, ◌+◌, ◌<◌, ◌⊎◌, inl, inr, Bool, true, false, eqb, ◌&&◌, ◌||◌, List, [], ◌∷◌, ◌++◌, length, get_or, drop, map, refl, ap, ◌∙◌, arith, append_assoc, bytes_eq, codes, Contains, list_any, or_cases, or_right, Decides-eqb, nat_tests, starts_is, bytes_eq-Decides, begins_with, drop_more, list_any_at, lies_under, File, Clashes, clashes}
-use Rattle.std.proofs.Common.{◌↔◌}
+use Rattle.bag_text.proofs.FirstLemmas.{false_from_ne_true, any_has, has_contains, ◌≡◌, ℕ, ◌<◌, ◌⊎◌, inl, inr, Bool, true, false, eqb, ◌&&◌, ◌||◌, List, [], ◌∷◌, ◌++◌, length, get_or, drop, refl, ap, ◌∙◌, arith, append_assoc, bytes_eq, codes, Contains, list_any, or_cases, or_right, Decides-eqb, nat_tests, starts_is, bytes_eq-Decides, begins_with, list_any_at, lies_under, File, Clashes, clashes, ◌↔◌}
 
 same : (a : ℕ) → eqb a a ≡ true
 same a = grind (arith, nat_tests)
@@ -14,32 +13,19 @@ under_rest [] (b ∷ rest) = slash b
 under_rest (a ∷ outer) rest = rw (same a) (under_rest outer rest)
 
 pub not_under : (outer inner : List ℕ) → ((rest : List ℕ) → inner ≡ outer ++ rest → ⊥) → lies_under outer inner ≡ false
-not_under outer inner apart = by_test (lies_under outer inner) refl
-  where
-    by_test : (x : Bool) → lies_under outer inner ≡ x → x ≡ false
-    by_test false e = refl
-    by_test true e =
-        let is = (starts_is Decides-eqb inner (outer ++ 47 ∷ []) (lies_under outer inner) refl).0 e in
-        absurd (apart (47 ∷ drop (length (outer ++ 47 ∷ [])) inner) (is ∙ append_assoc outer (47 ∷ []) (drop (length (outer ++ 47 ∷ [])) inner)))
+not_under outer inner apart = false_from_ne_true (lies_under outer inner) (λ e.
+    let is = (starts_is Decides-eqb inner (outer ++ 47 ∷ []) (lies_under outer inner) refl).0 e in
+    apart (47 ∷ drop (length (outer ++ 47 ∷ [])) inner) (is ∙ append_assoc outer (47 ∷ []) (drop (length (outer ++ 47 ∷ [])) inner)))
 
 -- a path is `data`, or begins one of the files as a folder does
 abbrev pub clash_at : List File → File → Bool
 clash_at files f = bytes_eq f.path (codes "data") || list_any (λ g. lies_under f.path g.path) files
 
--- the test of one file more
-pub clash_more : {X : Type 0} (g : X → File) (test : File → Bool) (xs : List X) (i : ℕ) (d : X) → i < length xs → list_any test (map g (drop i xs)) ≡ (test (g (get_or xs i d)) || list_any test (map g (drop (i + 1) xs)))
-clash_more g test xs i d lt = ap (λ (ys : List _). list_any test (map g ys)) (drop_more xs i d lt)
-
 -- ---- the test and the relation
 
 -- Some file passes a test exactly where the test of all says so.
 any_found : {X : Type 0} (test : X → Bool) (xs : List X) → list_any test xs ≡ true → (x : X) × Contains xs x × (test x ≡ true)
-any_found test [] e = absurd cc
-any_found test (x ∷ xs) e = by_test (test x) refl e (any_found test xs)
-  where
-    by_test : (r : Bool) → test x ≡ r → (r || list_any test xs) ≡ true → (list_any test xs ≡ true → (y : _) × Contains xs y × (test y ≡ true)) → (y : _) × Contains (x ∷ xs) y × (test y ≡ true)
-    by_test true is e again = (x, (0, omega arith, refl), is)
-    by_test false is e again = let later = again e in let at = later.1.1 in (later.0, (suc later.1.0, omega arith, later.1.2), later.2)
+any_found test xs e = let found = any_has test xs e in (found.0, has_contains xs found.0 found.1, found.2)
 
 any_holds : {X : Type 0} (test : X → Bool) (xs : List X) (x : X) (k : ℕ) → k < length xs → get_or xs k x ≡ x → test x ≡ true → list_any test xs ≡ true
 any_holds test xs x k lt is e = list_any_at test xs k x lt (ap test is ∙ e)

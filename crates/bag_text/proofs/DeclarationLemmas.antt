@@ -1,11 +1,7 @@
 -- What a text declares, and its first fault.
-use Rattle.bag_text.proofs.Common.{◌≡◌, ℕ, ◌+◌, ◌≤◌, Bool, true, false, cond, eqb, ltb, not, ◌||◌, List, [], ◌∷◌, ◌++◌, length, map, take, drop, refl, sym, ap, ◌∙◌, arith, append_assoc, Option, Some, None, Result, Ok, Err, codes, bytes_eq, ok_or, ◌==◌, if◌then◌else◌, slice_get, option_and_then, ◌↔◌, IfOk, IfErr, option_map_or, is_utf8, bytes_eq-Decides, take-append-drop, drop_at, take-append_seam, nat_tests, is_blank, has_mark, trim_blanks, skip_blanks, drop_last_blanks, lines, ◌>>=◌, Version, V1_0, V0_97}
-use Rattle.std.specs.Char.{to_ascii_lowercase}
-use Rattle.bag_text.specs.Declaration.{version_text, version_label, encoding_label, IsLabelled, Declares, after_label, is_version_text, is_supported, is_utf8_name, declaration_fault}
-use Rattle.bag_text.specs.DeclarationReading.{version_declared, encoding_fault, exactly_two, two_lines_of, declaration_of}
+use Rattle.bag_text.proofs.FirstLemmas.{same_Some, not-false, bind_ok, ok_unless, some_if, ◌≡◌, ℕ, ◌+◌, ◌≤◌, Bool, true, false, cond, eqb, ltb, not, ◌||◌, List, [], ◌∷◌, ◌++◌, length, map, take, drop, refl, sym, ap, ◌∙◌, arith, append_assoc, Option, Some, None, Result, Ok, Err, codes, bytes_eq, ok_or, ◌==◌, if◌then◌else◌, slice_get, option_and_then, ◌↔◌, IfOk, IfErr, option_map_or, is_utf8, bytes_eq-Decides, take-append-drop, drop_at, take-append_seam, nat_tests, is_blank, has_mark, trim_blanks, skip_blanks, drop_last_blanks, lines, ◌>>=◌, Version, V1_0, V0_97, to_ascii_lowercase, version_text, version_label, encoding_label, IsLabelled, Declares, after_label, is_version_text, is_supported, is_utf8_name, declaration_fault, version_declared, encoding_fault, exactly_two, declaration_of, trim_round, trimmed_round, map_skipped, map_dropped}
 use Rattle.bag_text.specs.declared.declaration.DeclFault.{DeclFault}
 use Rattle.bag_text.specs.declared.declaration.DeclFault.TheVariants.{NotUtf8, ByteOrderMark, NotTwoLines, BadVersionLine, UnsupportedVersion, BadEncodingLine, UnsupportedEncoding}
-use Rattle.bag_text.proofs.BlankLemmas.{trim_round, trimmed_round, map_skipped, map_dropped}
 
 -- four texts, one after another
 nested : (a b c d : List ℕ) → a ++ b ++ c ++ d ≡ a ++ (b ++ (c ++ d))
@@ -13,20 +9,17 @@ nested a b c d = append_assoc (a ++ b) c d ∙ append_assoc a b (c ++ d)
 
 -- a value that is read stands after its label
 pub label_read : (label value line : List ℕ) → after_label label line ≡ Some value → IsLabelled label value line
-label_read label value line e = by_label (bytes_eq (take (length label) line) label) refl e
-  where
-    by_label : (x : Bool) → bytes_eq (take (length label) line) label ≡ x → cond x (Some (trim_blanks (drop (length label) line))) None ≡ Some value → IsLabelled label value line
-    by_label false is e = absurd cc
-    by_label true is e =
-        let same : take (length label) line ≡ label = (bytes_eq-Decides (take (length label) line) label).0 is in
-        let found : trim_blanks (drop (length label) line) ≡ value = cc in
-        let parts = trimmed_round (drop (length label) line) in (
-          parts.before,
-          parts.after,
-          parts.first,
-          parts.last,
-          sym (take-append-drop (length label) line) ∙ ap (λ (x : List ℕ). x ++ drop (length label) line) same ∙ ap (λ (x : List ℕ). label ++ x) (parts.is ∙ ap (λ (x : List ℕ). parts.before ++ (x ++ parts.after)) found) ∙ sym (nested label parts.before value parts.after),
-        )
+label_read label value line e =
+    let read = some_if _ _ _ e in
+    let same : take (length label) line ≡ label = (bytes_eq-Decides (take (length label) line) label).0 read.0 in
+    let found : trim_blanks (drop (length label) line) ≡ value = same_Some _ _ read.1 in
+    let parts = trimmed_round (drop (length label) line) in (
+      parts.before,
+      parts.after,
+      parts.first,
+      parts.last,
+      sym (take-append-drop (length label) line) ∙ ap (λ (x : List ℕ). x ++ drop (length label) line) same ∙ ap (λ (x : List ℕ). label ++ x) (parts.is ∙ ap (λ (x : List ℕ). parts.before ++ (x ++ parts.after)) found) ∙ sym (nested label parts.before value parts.after),
+    )
 
 -- a value after its label is read, without the blanks round it
 pub label_again : (label value line : List ℕ) → IsLabelled label value line → after_label label line ≡ Some (trim_blanks value)
@@ -134,24 +127,19 @@ of_two first second = version_declared first >>= λ version. encoding_fault seco
 
 -- each of the two lines says its part
 both_say : (first second : List ℕ) (v : Version) → of_two first second ≡ Ok v → (version_declared first ≡ Ok v) × (encoding_fault second ≡ sound)
-both_say first second v e = by_version (version_declared first) (encoding_fault second) e
-  where
-    by_encoding : (w : Version) (r : Result (Unit {0}) DeclFault) → (r >>= λ _. Ok w) ≡ Ok v → (w ≡ v) × (r ≡ sound)
-    by_encoding w (Ok tt) e = let now : w ≡ v = cc in (now, refl)
-    by_encoding w (Err f) e = absurd cc
-
-    by_version : (a : Result Version DeclFault) (r : Result (Unit {0}) DeclFault) → (a >>= λ version. r >>= λ _. Ok version) ≡ Ok v → (a ≡ Ok v) × (r ≡ sound)
-    by_version (Err f) r e = absurd cc
-    by_version (Ok w) r e = let both = by_encoding w r e in (ap (λ (x : Version). Ok x) both.0, both.1)
+both_say first second v e =
+    let version = bind_ok (version_declared first) (λ version. encoding_fault second >>= λ _. Ok version) v e in
+    let encoding = bind_ok (encoding_fault second) (λ _. Ok version.0) v version.2 in
+    (version.1 ∙ encoding.2, encoding.1)
 
 -- A version that is read is declared.
 pub is_declared : (text : List ℕ) (v : Version) → declaration_of text ≡ Ok v → Declares text v
-is_declared text v e = by_utf8 (is_utf8 text) refl e
+is_declared text v e =
+    let utf8 = ok_unless _ _ _ _ e in
+    let mark = ok_unless _ _ _ _ utf8.1 in
+    by_lines (not-false _ utf8.0) mark.0 (lines text) refl mark.1
   where
     by_lines : is_utf8 text ≡ true → has_mark text ≡ false → (ls : List (List ℕ)) → lines text ≡ ls → (exactly_two ls >>= λ pair. of_two pair.0 pair.1) ≡ Ok v → Declares text v
-    by_lines utf8 unmarked [] two e = absurd cc
-    by_lines utf8 unmarked (a ∷ []) two e = absurd cc
-    by_lines utf8 unmarked (a ∷ b ∷ c ∷ ls) two e = absurd cc
     by_lines utf8 unmarked (first ∷ second ∷ []) two e =
         let both = both_say first second v e in
         let said = encoding_named (after_label encoding_label second) both.1 in
@@ -166,14 +154,7 @@ is_declared text v e = by_utf8 (is_utf8 text) refl e
           encoded = label_read encoding_label said.value second said.some;
           is_utf8_in_any_case = said.is;
         }
-
-    by_mark : is_utf8 text ≡ true → (x : Bool) → has_mark text ≡ x → cond x (Err ByteOrderMark) (two_lines_of text >>= λ pair. of_two pair.0 pair.1) ≡ Ok v → Declares text v
-    by_mark utf8 true is e = absurd cc
-    by_mark utf8 false is e = by_lines utf8 is (lines text) refl e
-
-    by_utf8 : (x : Bool) → is_utf8 text ≡ x → cond (not x) (Err NotUtf8) (cond (has_mark text) (Err ByteOrderMark) (two_lines_of text >>= λ pair. of_two pair.0 pair.1)) ≡ Ok v → Declares text v
-    by_utf8 false is e = absurd cc
-    by_utf8 true is e = by_mark is (has_mark text) refl e
+    by_lines utf8 unmarked _ two e = absurd cc
 
 -- A version that is declared is read.
 pub declared_again : (text : List ℕ) (v : Version) → Declares text v → declaration_of text ≡ Ok v

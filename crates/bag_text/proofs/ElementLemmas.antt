@@ -1,6 +1,5 @@
 -- The elements of a list, and of one that is mapped or filtered.
-use Rattle.bag_text.proofs.Common.{◌≡◌, ◌⊎◌, inl, inr, ℕ, Bool, true, false, cond, ◌||◌, List, [], ◌∷◌, ◌++◌, length, zero, suc, map, filter, refl, sym, ap, ◌∙◌, arith, Contains, list_any, false≢true}
-use Rattle.std.proofs.Common.{slice_get, Some}
+use Rattle.bag_text.proofs.Common.{cases_Bool, or_parts, ◌≡◌, ◌⊎◌, inl, inr, ℕ, Bool, true, false, List, [], ◌∷◌, ◌++◌, length, zero, suc, map, filter, refl, sym, ap, ◌∙◌, arith, Contains, list_any, false≢true, slice_get, Some}
 
 -- x is an element, by the list's parts
 abbrev pub Has : {A : Type 0} → List A → A → Type 0
@@ -22,21 +21,16 @@ has_contains (y ∷ ys) x (inr h) = let rest = has_contains ys x h in (suc rest.
 -- where some element passes there is one
 pub any_has : {A : Type 0} (p : A → Bool) (xs : List A) → list_any p xs ≡ true → (x : A) × Has xs x × (p x ≡ true)
 any_has p [] e = absurd cc
-any_has {A} p (x ∷ xs) e = by_test (p x) refl e (λ e. any_has p xs e)
-  where
-    by_test : (t : Bool) → p x ≡ t → (t || list_any p xs) ≡ true → (list_any p xs ≡ true → (y : A) × Has xs y × (p y ≡ true)) → (y : A) × ((x ≡ y) ⊎ Has xs y) × (p y ≡ true)
-    by_test true t e again = (x, inl refl, t)
-    by_test false t e again = let found = again e in (found.0, inr found.1, found.2)
+any_has p (x ∷ xs) e = elim (cases_Bool (p x)) [
+  | inl is ↦ (x, inl refl, is)
+  | inr isnt ↦ let found = any_has p xs (rw isnt at e) in (found.0, inr found.1, found.2)
+]
 
 -- where none passes no element does
 pub none_has : {A : Type 0} (p : A → Bool) (xs : List A) (x : A) → list_any p xs ≡ false → Has xs x → p x ≡ true → ⊥
 none_has p [] x none h e = h
-none_has {A} p (y ∷ ys) x none h e = by_test (p y) refl none h (λ n h. none_has p ys x n h e)
-  where
-    by_test : (t : Bool) → p y ≡ t → (t || list_any p ys) ≡ false → (y ≡ x) ⊎ Has ys x → (list_any p ys ≡ false → Has ys x → ⊥) → ⊥
-    by_test true t none h again = absurd cc
-    by_test false t none (inl is) again = let same : p y ≡ p x = ap p is in absurd cc
-    by_test false t none (inr h) again = again none h
+none_has p (y ∷ ys) x none (inl is) e = false≢true (sym (or_parts (p y) (list_any p ys) none).0 ∙ ap p is ∙ e)
+none_has p (y ∷ ys) x none (inr h) e = none_has p ys x (or_parts (p y) (list_any p ys) none).1 h e
 
 -- ---- elements of a list that is mapped or filtered
 
@@ -55,23 +49,17 @@ map_has f (x ∷ xs) y (inr h) = let found = map_has f xs y h in (found.0, inr f
 -- an element that passes is kept
 pub has_filter : {A : Type 0} (p : A → Bool) (xs : List A) (x : A) → Has xs x → p x ≡ true → Has (filter p xs) x
 has_filter p [] x h e = absurd h
-has_filter {A} p (y ∷ ys) x h e = by_test (p y) refl h (λ h. has_filter p ys x h e)
-  where
-    by_test : (t : Bool) → p y ≡ t → (y ≡ x) ⊎ Has ys x → (Has ys x → Has (filter p ys) x) → Has (cond t (y ∷ filter p ys) (filter p ys)) x
-    by_test true t (inl is) again = inl is
-    by_test true t (inr h) again = inr (again h)
-    by_test false t (inl is) again = absurd (false≢true (sym t ∙ ap p is ∙ e))
-    by_test false t (inr h) again = again h
+has_filter p (y ∷ ys) x (inl is) e = rw (ap p is ∙ e) (inl is)
+has_filter p (y ∷ ys) x (inr h) e =
+    elim (cases_Bool (p y)) [ inl t ↦ rw t (inr (has_filter p ys x h e)) | inr t ↦ rw t (has_filter p ys x h e) ]
 
 -- what is kept is an element that passes
 pub filter_has : {A : Type 0} (p : A → Bool) (xs : List A) (x : A) → Has (filter p xs) x → Has xs x × (p x ≡ true)
 filter_has p [] x h = absurd h
-filter_has {A} p (y ∷ ys) x h = by_test (p y) refl h (λ h. filter_has p ys x h)
-  where
-    by_test : (t : Bool) → p y ≡ t → Has (cond t (y ∷ filter p ys) (filter p ys)) x → (Has (filter p ys) x → Has ys x × (p x ≡ true)) → ((y ≡ x) ⊎ Has ys x) × (p x ≡ true)
-    by_test true t (inl is) again = (inl is, ap p (sym is) ∙ t)
-    by_test true t (inr h) again = let more = again h in (inr more.0, more.1)
-    by_test false t h again = let more = again h in (inr more.0, more.1)
+filter_has p (y ∷ ys) x h = elim (cases_Bool (p y)) [
+  | inl t ↦ elim (rw t at h) [ inl is ↦ (inl is, ap p (sym is) ∙ t) | inr h ↦ let more = filter_has p ys x h in (inr more.0, more.1) ]
+  | inr t ↦ let more = filter_has p ys x (rw t at h) in (inr more.0, more.1)
+]
 
 -- ---- by their places
 

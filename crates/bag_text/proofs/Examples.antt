@@ -1,12 +1,8 @@
 -- The definitions at the bytes of a small bag.
-use Rattle.bag_text.proofs.Common.{◌≡◌, ℕ, List, [], ◌∷◌, ◌++◌, refl, codes, Some, is_utf8, chars, decode_pairs, V1_0, V0_97, PathClash, ListedTwice, StrayContinuation, lines, path_fault, decode, entry_of, add_line_of, entries_of, manifest_of, info_of, pairs_from, add_info_line, File, set_text, set_of, literal_at, digits_at, number_at, header_at, place_at, file_at, entry_at, files_at}
-use Rattle.std.proofs.Common.{Ok, Err}
+use Rattle.bag_text.proofs.Common.{◌≡◌, ℕ, List, [], ◌∷◌, ◌++◌, refl, codes, Some, is_utf8, chars, decode_pairs, V1_0, V0_97, PathClash, ListedTwice, StrayContinuation, lines, path_fault, decode, entry_of, add_line_of, entries_of, manifest_of, info_of, pairs_from, add_info_line, File, set_text, set_of, literal_at, digits_at, number_at, header_at, place_at, file_at, entry_at, files_at, Ok, Err, Sha256, declaration_fault, declaration_of}
 use Rattle.std.specs.Fmt.{digits}
 use Rattle.bag_text.specs.declared.declaration.DeclFault.TheVariants.{UnsupportedVersion}
 use Rattle.bag_text.specs.declared.path.PathFault.TheVariants.{DotSegment}
-use Rattle.bag_text.specs.declared.checksum.Algorithm.TheVariants.{Sha256}
-use Rattle.bag_text.specs.Declaration.{declaration_fault}
-use Rattle.bag_text.specs.DeclarationReading.{declaration_of}
 
 unfoldable pub declaration : List ℕ
 declaration = codes "BagIt-Version: 1.0" ++ 10 ∷ [] ++ codes "Tag-File-Character-Encoding: UTF-8" ++ 10 ∷ []

@@ -1,8 +1,5 @@
 -- The faults of reading are those of the table.
-use Rattle.bag_text.proofs.Common.{◌≡◌, ℕ, inl, inr, Bool, true, false, cond, eqb, List, [], ◌∷◌, ◌++◌, refl, sym, ap, subst, ◌∙◌, arith, append_assoc, lit<, lit≤, decimal, append-nil, Flaw, Short, Bad, ◌>>=◌, Place, End, Entry, literal_at, number_at, header_at, place_at, Head, header, ending, max_content, max_path, BeginsWith, IsProperBeginning, HasSizes, IsEndOrHeader}
-use Rattle.std.proofs.Common.{Result, Ok, Err}
-use Rattle.bag_text.proofs.NumberLemmas.{number_ok, number_again, number_short, number_bad}
-use Rattle.bag_text.proofs.HeaderLemmas.{HeadFits, file_word, after_path, after_word, steps, spelled, literal_ok, literal_again, literal_ends, literal_bad}
+use Rattle.bag_text.proofs.FirstLemmas.{err_through, never_both, ◌≡◌, ℕ, inl, inr, Bool, true, false, cond, eqb, List, [], ◌∷◌, ◌++◌, refl, sym, ap, subst, ◌∙◌, arith, append_assoc, lit<, lit≤, decimal, append-nil, Flaw, Short, Bad, ◌>>=◌, Place, End, Entry, literal_at, number_at, header_at, place_at, Head, header, ending, max_content, max_path, BeginsWith, IsProperBeginning, HasSizes, IsEndOrHeader, Result, Ok, Err, number_ok, number_again, number_short, number_bad, HeadFits, file_word, after_word, steps, spelled, literal_ok, literal_again, literal_ends, literal_bad}
 use Rattle.bag_text.proofs.FormLemmas.{place_header}
 
 -- ---- headers that end too soon, and bad ones
@@ -33,24 +30,19 @@ header_short t e = by_word (literal_at file_word t) refl (sym (steps t) ∙ e)
               record { path = n.3; content = record { low = lit≤ tt; high = lit≤ tt } },
               ap (λ (x : List ℕ). x ++ (n.1 ++ tail)) word ∙ append_assoc file_word after (n.1 ++ tail) ∙ ap (λ (x : List ℕ). file_word ++ x) (sym (append_assoc after n.1 tail) ∙ ap (λ (x : List ℕ). x ++ tail) n.2) ∙ sym (spelled n.0 0 []) ∙ append-nil (header n.0 0),
             )
-        by_path (Ok p) is2 g = by_content (number_at 10 0 max_content p.1) refl g
-          where
-            by_content : (r : Result (ℕ × List ℕ) Flaw) → number_at 10 0 max_content p.1 ≡ r → after_path p.0 r ≡ Err Short → (p : ℕ) × (c : ℕ) × (more : List ℕ) × HeadFits p c × (t ++ more ≡ header p c)
-            by_content (Err Bad) is3 g = absurd cc
-            by_content (Ok c) is3 g = absurd cc
-            by_content (Err Short) is3 g =
-                let word = literal_ok file_word t after is in
-                let path = number_ok 32 1 max_path (lit< tt) (lit≤ tt) after p.0 p.1 is2 in
-                let n = number_short 10 0 max_content (lit< tt) (lit≤ tt) (lit≤ tt) p.1 is3 in
-                let tail : List ℕ = 10 ∷ [] in
-                let front : List ℕ = decimal p.0 ++ 32 ∷ p.1 in
-                let inner : front ++ (n.1 ++ tail) ≡ decimal p.0 ++ 32 ∷ (decimal n.0 ++ 10 ∷ []) = append_assoc (decimal p.0) (32 ∷ p.1) (n.1 ++ tail) ∙ ap (λ (x : List ℕ). decimal p.0 ++ 32 ∷ x) (sym (append_assoc p.1 n.1 tail) ∙ ap (λ (x : List ℕ). x ++ tail) n.2) in (
-                  p.0,
-                  n.0,
-                  n.1 ++ tail,
-                  record { path = path.1; content = n.3 },
-                  ap (λ (x : List ℕ). x ++ (n.1 ++ tail)) (word ∙ ap (λ (x : List ℕ). file_word ++ x) path.0) ∙ append_assoc file_word front (n.1 ++ tail) ∙ ap (λ (x : List ℕ). file_word ++ x) inner ∙ sym (spelled p.0 n.0 []) ∙ append-nil (header p.0 n.0),
-                )
+        by_path (Ok p) is2 g =
+            let word = literal_ok file_word t after is in
+            let path = number_ok 32 1 max_path (lit< tt) (lit≤ tt) after p.0 p.1 is2 in
+            let n = number_short 10 0 max_content (lit< tt) (lit≤ tt) (lit≤ tt) p.1 (err_through {B = Head} (number_at 10 0 max_content p.1) (λ c. record { path_len = p.0; content_len = c.0; rest = c.1 }) Short g) in
+            let tail : List ℕ = 10 ∷ [] in
+            let front : List ℕ = decimal p.0 ++ 32 ∷ p.1 in
+            let inner : front ++ (n.1 ++ tail) ≡ decimal p.0 ++ 32 ∷ (decimal n.0 ++ 10 ∷ []) = append_assoc (decimal p.0) (32 ∷ p.1) (n.1 ++ tail) ∙ ap (λ (x : List ℕ). decimal p.0 ++ 32 ∷ x) (sym (append_assoc p.1 n.1 tail) ∙ ap (λ (x : List ℕ). x ++ tail) n.2) in (
+              p.0,
+              n.0,
+              n.1 ++ tail,
+              record { path = path.1; content = n.3 },
+              ap (λ (x : List ℕ). x ++ (n.1 ++ tail)) (word ∙ ap (λ (x : List ℕ). file_word ++ x) path.0) ∙ append_assoc file_word front (n.1 ++ tail) ∙ ap (λ (x : List ℕ). file_word ++ x) inner ∙ sym (spelled p.0 n.0 []) ∙ append-nil (header p.0 n.0),
+            )
 
 pub header_bad : (t more : List ℕ) → header_at t ≡ Err Bad → header_at (t ++ more) ≡ Err Bad
 header_bad t more e = by_word (literal_at file_word t) refl (sym (steps t) ∙ e)
@@ -66,17 +58,13 @@ header_bad t more e = by_word (literal_at file_word t) refl (sym (steps t) ∙ e
         by_path : (r : Result (ℕ × List ℕ) Flaw) → number_at 32 1 max_path after ≡ r → after_word r ≡ Err Bad → header_at (t ++ more) ≡ Err Bad
         by_path (Err Short) is2 g = absurd cc
         by_path (Err Bad) is2 g = ap header_at word ∙ steps (file_word ++ (after ++ more)) ∙ rw (literal_again file_word (after ++ more)) (rw (number_bad 32 1 max_path after more is2) refl)
-        by_path (Ok p) is2 g = by_content (number_at 10 0 max_content p.1) refl g
-          where
-            by_content : (r : Result (ℕ × List ℕ) Flaw) → number_at 10 0 max_content p.1 ≡ r → after_path p.0 r ≡ Err Bad → header_at (t ++ more) ≡ Err Bad
-            by_content (Err Short) is3 g = absurd cc
-            by_content (Ok c) is3 g = absurd cc
-            by_content (Err Bad) is3 g =
-                let path = number_ok 32 1 max_path (lit< tt) (lit≤ tt) after p.0 p.1 is2 in
-                let high = path.1.high in
-                let two : after ++ more ≡ decimal p.0 ++ 32 ∷ (p.1 ++ more) = ap (λ (x : List ℕ). x ++ more) path.0 ∙ append_assoc (decimal p.0) (32 ∷ p.1) more in
-                ap header_at (word ∙ ap (λ (x : List ℕ). file_word ++ x) two) ∙ steps (file_word ++ (decimal p.0 ++ 32 ∷ (p.1 ++ more)))
-                ∙ rw (literal_again file_word (decimal p.0 ++ 32 ∷ (p.1 ++ more))) (rw (number_again 32 1 max_path (lit< tt) (lit≤ tt) p.0 (omega arith) path.1.low path.1.high (p.1 ++ more)) (rw (number_bad 10 0 max_content p.1 more is3) refl))
+        by_path (Ok p) is2 g =
+            let path = number_ok 32 1 max_path (lit< tt) (lit≤ tt) after p.0 p.1 is2 in
+            let high = path.1.high in
+            let two : after ++ more ≡ decimal p.0 ++ 32 ∷ (p.1 ++ more) = ap (λ (x : List ℕ). x ++ more) path.0 ∙ append_assoc (decimal p.0) (32 ∷ p.1) more in
+            let is3 = err_through {B = Head} (number_at 10 0 max_content p.1) (λ c. record { path_len = p.0; content_len = c.0; rest = c.1 }) Bad g in
+            ap header_at (word ∙ ap (λ (x : List ℕ). file_word ++ x) two) ∙ steps (file_word ++ (decimal p.0 ++ 32 ∷ (p.1 ++ more)))
+            ∙ rw (literal_again file_word (decimal p.0 ++ 32 ∷ (p.1 ++ more))) (rw (number_again 32 1 max_path (lit< tt) (lit≤ tt) p.0 (omega arith) path.1.low path.1.high (p.1 ++ more)) (rw (number_bad 10 0 max_content p.1 more is3) refl))
 
 -- ---- what may stand at an entry's place
 
@@ -87,14 +75,7 @@ pub fit : (p c : ℕ) → HasSizes p c → HeadFits p c
 fit p c sizes = record { path = record { low = sizes.some_path; high = sizes.short_path }; content = record { low = omega arith; high = sizes.short_content } }
 
 unplaced : (t : List ℕ) (p : Place) → place_at t ≡ Ok p → (f : Flaw) → place_at t ≡ Err f → ⊥
-unplaced t p e f g = let both : place_or t e g ≡ place_or t e g = refl in absurd (apart (place_at t) e g)
-  where
-    place_or : (t : List ℕ) → place_at t ≡ Ok p → place_at t ≡ Err f → Unit {0}
-    place_or t e g = tt
-
-    apart : (r : Result Place Flaw) → r ≡ Ok p → r ≡ Err f → ⊥
-    apart (Ok q) e g = absurd cc
-    apart (Err h) e g = absurd cc
+unplaced t p e f g = never_both p f (place_at t) e g
 
 place_bad : (t more : List ℕ) → place_at t ≡ Err Bad → place_at (t ++ more) ≡ Err Bad
 unfolding place_at
@@ -103,18 +84,8 @@ place_bad (b ∷ t) more e = by_first (eqb b 69) e
   where
     by_first : (x : Bool) → cond x (literal_at ending (b ∷ t) >>= λ rest. Ok (End rest)) (header_at (b ∷ t) >>= λ head. Ok (Entry head)) ≡ Err Bad
         → cond x (literal_at ending (b ∷ (t ++ more)) >>= λ rest. Ok (End rest)) (header_at (b ∷ (t ++ more)) >>= λ head. Ok (Entry head)) ≡ Err Bad
-    by_first true e = by_end (literal_at ending (b ∷ t)) refl e
-      where
-        by_end : (r : Result (List ℕ) Flaw) → literal_at ending (b ∷ t) ≡ r → (r >>= λ rest. Ok (End rest)) ≡ Err Bad → (literal_at ending (b ∷ (t ++ more)) >>= λ rest. Ok (End rest)) ≡ Err Bad
-        by_end (Ok rest) is e = absurd cc
-        by_end (Err Short) is e = absurd cc
-        by_end (Err Bad) is e = rw (literal_bad ending (b ∷ t) more is) refl
-    by_first false e = by_head (header_at (b ∷ t)) refl e
-      where
-        by_head : (r : Result Head Flaw) → header_at (b ∷ t) ≡ r → (r >>= λ head. Ok (Entry head)) ≡ Err Bad → (header_at (b ∷ (t ++ more)) >>= λ head. Ok (Entry head)) ≡ Err Bad
-        by_head (Ok head) is e = absurd cc
-        by_head (Err Short) is e = absurd cc
-        by_head (Err Bad) is e = rw (header_bad (b ∷ t) more is) refl
+    by_first true e = rw (literal_bad ending (b ∷ t) more (err_through (literal_at ending (b ∷ t)) (λ rest. End rest) Bad e)) refl
+    by_first false e = rw (header_bad (b ∷ t) more (err_through (header_at (b ∷ t)) (λ head. Entry head) Bad e)) refl
 
 pub place_end : (rest : List ℕ) → place_at (ending ++ rest) ≡ Ok (End rest)
 unfolding place_at literal_at
@@ -137,18 +108,8 @@ completes [] e = (ending, inl refl)
 completes (b ∷ t) e = by_first (eqb b 69) e
   where
     by_first : (x : Bool) → cond x (literal_at ending (b ∷ t) >>= λ rest. Ok (End rest)) (header_at (b ∷ t) >>= λ head. Ok (Entry head)) ≡ Err Short → (more : List ℕ) × IsEndOrHeader (b ∷ t ++ more)
-    by_first true e = by_end (literal_at ending (b ∷ t)) refl e
-      where
-        by_end : (r : Result (List ℕ) Flaw) → literal_at ending (b ∷ t) ≡ r → (r >>= λ rest. Ok (End rest)) ≡ Err Short → (more : List ℕ) × IsEndOrHeader (b ∷ t ++ more)
-        by_end (Ok rest) is e = absurd cc
-        by_end (Err Bad) is e = absurd cc
-        by_end (Err Short) is e = let w = literal_ends ending (b ∷ t) is in (w.0, inl w.1)
-    by_first false e = by_head (header_at (b ∷ t)) refl e
-      where
-        by_head : (r : Result Head Flaw) → header_at (b ∷ t) ≡ r → (r >>= λ head. Ok (Entry head)) ≡ Err Short → (more : List ℕ) × IsEndOrHeader (b ∷ t ++ more)
-        by_head (Ok head) is e = absurd cc
-        by_head (Err Bad) is e = absurd cc
-        by_head (Err Short) is e = let h = header_short (b ∷ t) is in (h.2, inr (h.0, h.1, sized h.0 h.1 h.3, h.4))
+    by_first true e = let w = literal_ends ending (b ∷ t) (err_through (literal_at ending (b ∷ t)) (λ rest. End rest) Short e) in (w.0, inl w.1)
+    by_first false e = let h = header_short (b ∷ t) (err_through (header_at (b ∷ t)) (λ head. Entry head) Short e) in (h.2, inr (h.0, h.1, sized h.0 h.1 h.3, h.4))
 
 pub short_place : (t : List ℕ) → place_at t ≡ Err Short → IsProperBeginning IsEndOrHeader t
 short_place t e =

@@ -1,14 +1,6 @@
 -- What is read is a transfer form, and a transfer form is read.
-use Rattle.bag_text.proofs.Common.{◌≡◌, ℕ, zero, suc, ◌+◌, ◌-◌, ◌<◌, ◌≤◌, Bool, true, false, cond, eqb, ltb, not, ◌&&◌, List, [], ◌∷◌, ◌++◌, length, get_or, take, drop, refl, sym, ap, subst, ◌∙◌, arith, append_assoc, IfOk, Option, Some, None, is_none, is_utf8, flat_map, AllByRecursion, nat_tests, not-false, eqb-true, ltb-false, le-ltb, append-nil, take_at, drop_at, take-append-drop, length-append, length-take, length-drop, drop_more, Flaw, Short, Bad, SetFault, BadEntry, Truncated, OutOfOrder, BadPath, TrailingBytes, PathClash, path_fault, ◌>>=◌, Gives, Place, End, Entry, literal_at, header_at, place_at, file_at, result_at, entry_at, files_at, after_opening, set_of, named_set_fault, File, Head, header, entry, opening, ending, set_text, max_content, max_files, Ascends, clashes, Fits, IsBag, max_path, is_good, comes_before}
-use Rattle.std.proofs.Common.{Result, Ok, Err}
+use Rattle.bag_text.proofs.FirstLemmas.{and_parts, bind_ok, ok_if, ok_unless, never_both, ◌≡◌, ℕ, zero, suc, ◌+◌, ◌-◌, ◌<◌, ◌≤◌, Bool, true, false, cond, eqb, ltb, not, List, [], ◌∷◌, ◌++◌, length, get_or, take, drop, refl, sym, ap, subst, ◌∙◌, arith, append_assoc, IfOk, Option, Some, None, is_none, is_utf8, flat_map, AllByRecursion, nat_tests, not-false, eqb-true, ltb-false, le-ltb, append-nil, take_at, drop_at, take-append-drop, length-append, length-take, length-drop, drop_more, Flaw, Short, Bad, SetFault, BadEntry, Truncated, OutOfOrder, BadPath, TrailingBytes, PathClash, path_fault, ◌>>=◌, Gives, Place, End, Entry, literal_at, header_at, place_at, file_at, result_at, entry_at, files_at, after_opening, set_of, named_set_fault, File, Head, header, entry, opening, ending, set_text, max_content, max_files, Ascends, clashes, Fits, IsBag, max_path, is_good, comes_before, Result, Ok, Err, ok_is, InBounds, HeadFits, literal_ok, literal_again, header_ok, header_again}
 use Rattle.bag_text.specs.TransferReading.{entry_of}
-use Rattle.bag_text.proofs.ResultLemmas.{ok_is}
-use Rattle.bag_text.proofs.NumberLemmas.{InBounds}
-use Rattle.bag_text.proofs.HeaderLemmas.{HeadFits, literal_ok, literal_again, header_ok, header_again}
-
-guard : {A : Type 0} (b : Bool) (f : SetFault) (r : Result A SetFault) (x : A) → cond b (Err f) r ≡ Ok x → (b ≡ false) × (r ≡ Ok x)
-guard true f r x e = absurd cc
-guard false f r x e = (refl, e)
 
 -- a file with its bytes in place
 pub record Stands (before rest : List ℕ) (head : Head) (f : File) (behind : List ℕ) : Type 0 where
@@ -25,10 +17,10 @@ file_ok offset before head x e =
     let content = take head.content_len (drop head.path_len head.rest) in
     let behind = drop head.content_len (drop head.path_len head.rest) in
     let made : File × List ℕ = (record { path = path; content = content }, drop 1 behind) in
-    let g1 = guard (ltb (length head.rest) (head.path_len + head.content_len + 1)) Truncated (cond (not (eqb (get_or behind 0 0) 10)) (Err (BadEntry offset)) (cond (not (is_good path)) (Err (BadPath offset)) (cond (not (comes_before before path)) (Err (OutOfOrder offset)) (Ok made)))) x e in
-    let g2 = guard (not (eqb (get_or behind 0 0) 10)) (BadEntry offset) (cond (not (is_good path)) (Err (BadPath offset)) (cond (not (comes_before before path)) (Err (OutOfOrder offset)) (Ok made))) x g1.1 in
-    let g3 = guard (not (is_good path)) (BadPath offset) (cond (not (comes_before before path)) (Err (OutOfOrder offset)) (Ok made)) x g2.1 in
-    let g4 = guard (not (comes_before before path)) (OutOfOrder offset) (Ok made) x g3.1 in
+    let g1 = ok_unless (ltb (length head.rest) (head.path_len + head.content_len + 1)) Truncated (cond (not (eqb (get_or behind 0 0) 10)) (Err (BadEntry offset)) (cond (not (is_good path)) (Err (BadPath offset)) (cond (not (comes_before before path)) (Err (OutOfOrder offset)) (Ok made)))) x e in
+    let g2 = ok_unless (not (eqb (get_or behind 0 0) 10)) (BadEntry offset) (cond (not (is_good path)) (Err (BadPath offset)) (cond (not (comes_before before path)) (Err (OutOfOrder offset)) (Ok made))) x g1.1 in
+    let g3 = ok_unless (not (is_good path)) (BadPath offset) (cond (not (comes_before before path)) (Err (OutOfOrder offset)) (Ok made)) x g2.1 in
+    let g4 = ok_unless (not (comes_before before path)) (OutOfOrder offset) (Ok made) x g3.1 in
     let long : head.path_len + head.content_len + 1 ≤ length head.rest = ltb-false _ _ g1.0 in
     let lf : get_or behind 0 0 ≡ 10 = eqb-true _ _ (not-false _ g2.0) in
     let some : 0 < length behind = omega (arith, length-drop head.content_len (drop head.path_len head.rest), length-drop head.path_len head.rest) in
@@ -56,11 +48,7 @@ pub path_fits : (path : List ℕ) → is_good path ≡ true → InBounds 1 max_p
 path_fits path e = record { low = by_empty (eqb (length path) 0) refl; high = by_long (ltb max_path (length path)) refl }
   where
     both : is_none (path_fault path) ≡ true
-    both = second (is_utf8 path) e
-      where
-        second : (x : Bool) → (x && is_none (path_fault path)) ≡ true → is_none (path_fault path) ≡ true
-        second true h = h
-        second false h = absurd cc
+    both = (and_parts (is_utf8 path) (is_none (path_fault path)) e).1
 
     by_empty : (x : Bool) → eqb (length path) 0 ≡ x → 1 ≤ length path
     by_empty true is = let e2 = rw is at both in absurd cc
@@ -124,21 +112,17 @@ place_ok [] p e = absurd cc
 place_ok (b ∷ t) p e = by_first (eqb b 69) e
   where
     by_first : (x : Bool) → cond x (literal_at ending (b ∷ t) >>= λ rest. Ok (End rest)) (header_at (b ∷ t) >>= λ head. Ok (Entry head)) ≡ Ok p → IsPlace (b ∷ t) p
-    by_first true e = by_end (literal_at ending (b ∷ t)) refl e
-      where
-        by_end : (r : Result (List ℕ) Flaw) → literal_at ending (b ∷ t) ≡ r → (r >>= λ rest. Ok (End rest)) ≡ Ok p → IsPlace (b ∷ t) p
-        by_end (Err f) is e = absurd cc
-        by_end (Ok rest) is e = subst (λ (p : Place). IsPlace (b ∷ t) p) (ok_is (End rest) p e) (record {
-          at_end = λ other same. literal_ok ending (b ∷ t) other (is ∙ (let k : rest ≡ other = cc in rw k refl));
+    by_first true e =
+        let read = bind_ok (literal_at ending (b ∷ t)) (λ rest. Ok (End rest)) p e in
+        subst (λ (p : Place). IsPlace (b ∷ t) p) (ok_is (End read.0) p read.2) (record {
+          at_end = λ other same. literal_ok ending (b ∷ t) other (read.1 ∙ (let k : read.0 ≡ other = cc in rw k refl));
           at_entry = λ head same. absurd cc;
         })
-    by_first false e = by_head (header_at (b ∷ t)) refl e
-      where
-        by_head : (r : Result Head Flaw) → header_at (b ∷ t) ≡ r → (r >>= λ head. Ok (Entry head)) ≡ Ok p → IsPlace (b ∷ t) p
-        by_head (Err f) is e = absurd cc
-        by_head (Ok head) is e = subst (λ (p : Place). IsPlace (b ∷ t) p) (ok_is (Entry head) p e) (record {
+    by_first false e =
+        let read = bind_ok (header_at (b ∷ t)) (λ head. Ok (Entry head)) p e in
+        subst (λ (p : Place). IsPlace (b ∷ t) p) (ok_is (Entry read.0) p read.2) (record {
           at_end = λ rest same. absurd cc;
-          at_entry = λ other same. header_ok (b ∷ t) other (is ∙ (let k : head ≡ other = cc in rw k refl));
+          at_entry = λ other same. header_ok (b ∷ t) other (read.1 ∙ (let k : read.0 ≡ other = cc in rw k refl));
         })
 
 -- what stands at an entry's place, from what the entry is
@@ -169,19 +153,14 @@ entry_ok offset left before t o e = by_place left (place_at t) refl e
           none = λ _. (place_ok t (End []) is).at_end [] refl ∙ append-nil ending;
           some = λ x same. absurd cc;
         })
-        by_rest (b ∷ rest) is e = by_test (eqb (length (b ∷ rest)) 0) refl e
-          where
-            by_test : (x : Bool) → eqb (length (b ∷ rest)) 0 ≡ x → cond x (Ok None) (Err TrailingBytes) ≡ Ok o → IsEntry before t o
-            by_test true is e = let k = eqb-true _ _ is in absurd (omega arith)
-            by_test false is e = absurd cc
+        by_rest (b ∷ rest) is e =
+            let none : length (b ∷ rest) ≡ 0 = eqb-true _ _ (ok_if (eqb (length (b ∷ rest)) 0) (Ok None) TrailingBytes o e).0 in absurd (omega arith)
     by_place zero (Ok (Entry head)) is e = absurd cc
-    by_place (suc more) (Ok (Entry head)) is e = by_file (file_at offset before head) refl e
-      where
-        by_file : (r : Result (File × List ℕ) SetFault) → file_at offset before head ≡ r → (r >>= λ file. Ok (Some file)) ≡ Ok o → IsEntry before t o
-        by_file (Err f) is2 e = absurd cc
-        by_file (Ok x) is2 e = subst (λ (o : Option (File × List ℕ)). IsEntry before t o) (ok_is (Some x) o e) (record {
+    by_place (suc more) (Ok (Entry head)) is e =
+        let read = bind_ok (file_at offset before head) (λ file. Ok (Some file)) o e in
+        subst (λ (o : Option (File × List ℕ)). IsEntry before t o) (ok_is (Some read.0) o read.2) (record {
           none = λ same. absurd cc;
-          some = λ y same. entry_whole offset before t head y ((place_ok t (Entry head) is).at_entry head refl) (is2 ∙ (let k : x ≡ y = cc in rw k refl));
+          some = λ y same. entry_whole offset before t head y ((place_ok t (Entry head) is).at_entry head refl) (read.1 ∙ (let k : read.0 ≡ y = cc in rw k refl));
         })
 
 no_file_past_limit : (offset : ℕ) (before text : List ℕ) (file : File × List ℕ) → entry_at offset 0 before text ≡ Ok (Some file) → ⊥
@@ -189,11 +168,7 @@ unfolding entry_at
 no_file_past_limit offset before text file e = by_place (place_at text) e
   where
     by_place : (p : Result Place Flaw) → (result_at offset p >>= entry_of offset 0 before) ≡ Ok (Some file) → ⊥
-    by_place (Ok (End rest)) h = by_end (eqb (length rest) 0) h
-      where
-        by_end : (b : Bool) → cond b (Ok None) (Err TrailingBytes) ≡ Ok (Some file) → ⊥
-        by_end true h = absurd cc
-        by_end false h = absurd cc
+    by_place (Ok (End rest)) h = let wrong = (ok_if (eqb (length rest) 0) (Ok None) TrailingBytes (Some file) h).1 in absurd cc
     by_place (Ok (Entry head)) h = absurd cc
     by_place (Err flaw) h = absurd cc
 
@@ -219,19 +194,16 @@ files_ok whole (suc more) before t fs e = by_entry (entry_at (whole - length t) 
         → AreFiles (suc more) before t fs
     by_entry (Err f) is e again = absurd cc
     by_entry (Ok None) is e again = subst (λ (fs : List File). AreFiles (suc more) before t fs) (ok_is [] fs e) (record { text = (entry_ok (whole - length t) (suc more) before t None is).none refl; few = omega arith; each = tt; up = tt })
-    by_entry (Ok (Some x)) is e again = by_rest (files_at whole more x.0.path x.1) refl e
-      where
-        by_rest : (r : Result (List File) SetFault) → files_at whole more x.0.path x.1 ≡ r → (r >>= λ files. Ok (x.0 ∷ files)) ≡ Ok fs → AreFiles (suc more) before t fs
-        by_rest (Err f) is2 e = absurd cc
-        by_rest (Ok rest) is2 e =
-            let first = (entry_ok (whole - length t) (suc more) before t (Some x) is).some x refl in
-            let others = again x rest is2 in
-            subst (λ (fs : List File). AreFiles (suc more) before t fs) (ok_is (x.0 ∷ rest) fs e) (record {
-              text = first.0 ∙ ap (λ (r : List ℕ). entry x.0 ++ r) others.text ∙ sym (append_assoc (entry x.0) (flat_map entry rest) ending);
-              few = (let k = others.few in omega arith);
-              each = (first.1, others.each);
-              up = (first.2, others.up);
-            })
+    by_entry (Ok (Some x)) is e again =
+        let read = bind_ok (files_at whole more x.0.path x.1) (λ files. Ok (x.0 ∷ files)) fs e in
+        let first = (entry_ok (whole - length t) (suc more) before t (Some x) is).some x refl in
+        let others = again x read.0 read.1 in
+        subst (λ (fs : List File). AreFiles (suc more) before t fs) (ok_is (x.0 ∷ read.0) fs read.2) (record {
+          text = first.0 ∙ ap (λ (r : List ℕ). entry x.0 ++ r) others.text ∙ sym (append_assoc (entry x.0) (flat_map entry read.0) ending);
+          few = (let k = others.few in omega arith);
+          each = (first.1, others.each);
+          up = (first.2, others.up);
+        })
 
 pub record IsRead (t : List ℕ) (fs : List File) : Type 0 where
   pub text : t ≡ set_text fs
@@ -244,17 +216,14 @@ set_ok t fs e = by_opening (literal_at opening t) refl e
     by_opening : (r : Result (List ℕ) Flaw) → literal_at opening t ≡ r → (after_opening r >>= λ rest. files_at (length t) max_files [] rest >>= λ files. cond (clashes files) (Err PathClash) (Ok files)) ≡ Ok fs → IsRead t fs
     by_opening (Err Short) is e = absurd cc
     by_opening (Err Bad) is e = absurd cc
-    by_opening (Ok rest) is e = by_files (files_at (length t) max_files [] rest) refl e
-      where
-        by_files : (r : Result (List File) SetFault) → files_at (length t) max_files [] rest ≡ r → (r >>= λ files. cond (clashes files) (Err PathClash) (Ok files)) ≡ Ok fs → IsRead t fs
-        by_files (Err f) is2 e = absurd cc
-        by_files (Ok files) is2 e =
-            let g = guard (clashes files) PathClash (Ok files) fs e in
-            let r = files_ok (length t) max_files [] rest files is2 in
-            subst (λ (fs : List File). IsRead t fs) (ok_is files fs g.1) (record {
-              text = literal_ok opening t rest is ∙ ap (λ (r : List ℕ). opening ++ r) r.text ∙ sym (append_assoc opening (flat_map entry files) ending);
-              bag = record { few = r.few; each = r.each; ascending = r.up; apart = g.0 };
-            })
+    by_opening (Ok rest) is e =
+        let read = bind_ok (files_at (length t) max_files [] rest) (λ files. cond (clashes files) (Err PathClash) (Ok files)) fs e in
+        let g = ok_unless (clashes read.0) PathClash (Ok read.0) fs read.2 in
+        let r = files_ok (length t) max_files [] rest read.0 read.1 in
+        subst (λ (fs : List File). IsRead t fs) (ok_is read.0 fs g.1) (record {
+          text = literal_ok opening t rest is ∙ ap (λ (r : List ℕ). opening ++ r) r.text ∙ sym (append_assoc opening (flat_map entry read.0) ending);
+          bag = record { few = r.few; each = r.each; ascending = r.up; apart = g.0 };
+        })
 
 -- what a call that gives the files found
 pub is_found : {X : Type 0} (t : List ℕ) (view : X → List File) (r : Result X SetFault) → Gives named_set_fault view r (set_of t) → IfOk r (λ x. IsBag (view x) × (t ≡ set_text (view x)))
@@ -293,8 +262,5 @@ set_trails fs b more bag =
 
 pub none_begins : (x y : List File) → IsBag x → IsBag y → (more : List ℕ) → set_text x ≡ set_text y ++ more → more ≡ []
 none_begins x y p q [] same = refl
-none_begins x y p q (b ∷ more) same = absurd (apart (set_of (set_text x)) (set_again x p) (ap set_of same ∙ set_trails y b more q))
-  where
-    apart : (r : Result (List File) SetFault) → r ≡ Ok x → r ≡ Err TrailingBytes → ⊥
-    apart (Ok z) e g = absurd cc
-    apart (Err f) e g = absurd cc
+none_begins x y p q (b ∷ more) same =
+    absurd (never_both x TrailingBytes (set_of (set_text x)) (set_again x p) (ap set_of same ∙ set_trails y b more q))

@@ -1,18 +1,13 @@
 -- What reading `bag-info.txt` promises, of what its lines give.
-use Rattle.bag_text.proofs.Common.{◌≡◌, ℕ, List, ap, ◌⊎◌, inl, inr, refl, Result, Ok, Err, IfOk, IfErr, MatchResult, InfoFault, NoColon, EmptyLabel, StrayContinuation, Pair, SaysInfo, InfoFaultIs, FailsAs, Gives, info_of, named_info_fault, pairs_in}
+use Rattle.bag_text.proofs.FirstLemmas.{◌≡◌, ℕ, List, ap, ◌⊎◌, inl, inr, refl, Result, Ok, Err, IfOk, IfErr, MatchResult, InfoFault, Pair, SaysInfo, InfoFaultIs, FailsAs, Gives, info_of, named_info_fault, pairs_in, same_ok, same_err, never_both}
+use Rattle.bag_text.specs.declared.bag_info.InfoFault.TheVariants.{Memory}
 use Rattle.bag_text.specs.declared.bag_info.BagInfo.{BagInfo}
-use Rattle.bag_text.specs.declared.bag_info.InfoFault.TheVariants.{NotUtf8, ByteOrderMark, Memory}
-use Rattle.bag_text.proofs.ResultLemmas.{same_ok, same_err, never_both}
 use Rattle.bag_text.proofs.InfoLemmas.{info_said, info_fault}
 
 -- an answered fault is memory or the one that was read
 fails : (fault : InfoFault) (read : Result (List Pair) InfoFault) → FailsAs (named_info_fault fault) read → (fault ≡ Memory) ⊎ (read ≡ Err fault)
 fails Memory read e = inl refl
-fails NotUtf8 read e = inr e
-fails ByteOrderMark read e = inr e
-fails (NoColon n) read e = inr e
-fails (EmptyLabel n) read e = inr e
-fails (StrayContinuation n) read e = inr e
+fails _ read e = inr e
 
 module _ (t : List ℕ) where
   -- what is read is what the text says

@@ -1,9 +1,7 @@
 -- What `bag-info.txt` says, and its first fault.
-use Rattle.bag_text.proofs.Common.{◌≡◌, one-add, ℕ, suc, ◌+◌, Bool, true, false, cond, eqb, not, ◌||◌, List, [], ◌∷◌, ◌++◌, length, take, drop, refl, sym, ap, subst, ◌∙◌, arith, append_assoc, ◌≢◌, Result, Ok, Err, ◌↔◌, list_any, list_all, position_or_len, flat_map, is_utf8, append-nil, and_parts, or_parts, nat_tests, list_any-append, is_blank, AreBlanks, has_mark, begins_with, skip_blanks, drop_last_blanks, lines, InfoFault, NoColon, EmptyLabel, StrayContinuation, Pair, begins_blank, is_colon, IsPairLine, AreGroups, SaysInfo, filled_lines, InfoFaultIs, ◌>>=◌, label_of, value_of, pair_of, extend_last, add_info_line, pairs_from, info_of}
+use Rattle.bag_text.proofs.FirstLemmas.{inl, inr, cases_Bool, false_from_ne_true, true_from_ne_false, false≢true, not-false, eqb-true, bind_ok, ok_unless, ok_is, never_both, ◌≡◌, one-add, ℕ, suc, ◌+◌, Bool, true, false, cond, eqb, not, ◌||◌, List, [], ◌∷◌, ◌++◌, length, take, drop, refl, sym, ap, subst, ◌∙◌, arith, append_assoc, ◌≢◌, Result, Ok, Err, ◌↔◌, list_any, list_all, position_or_len, flat_map, is_utf8, append-nil, and_parts, or_parts, nat_tests, list_any-append, is_blank, AreBlanks, has_mark, begins_with, skip_blanks, drop_last_blanks, lines, InfoFault, NoColon, EmptyLabel, StrayContinuation, Pair, begins_blank, is_colon, IsPairLine, AreGroups, SaysInfo, filled_lines, InfoFaultIs, ◌>>=◌, label_of, value_of, pair_of, extend_last, add_info_line, pairs_from, info_of, skipped, dropped, skip_front, drop_back, not_empty}
 use Rattle.bag_text.specs.declared.bag_info.InfoFault.TheVariants.{NotUtf8, ByteOrderMark, Memory}
 use Rattle.bag_text.specs.BagInfo.{IsReached}
-use Rattle.bag_text.proofs.BlankLemmas.{skipped, dropped, skip_front, drop_back}
-use Rattle.bag_text.proofs.PathLemmas.{not_empty}
 
 -- ---- a line that is a pair
 
@@ -46,15 +44,8 @@ blanks_no_colon : (t : List ℕ) → AreBlanks t → list_any is_colon t ≡ fal
 blanks_no_colon [] h = refl
 blanks_no_colon (b ∷ t) h =
     let parts = and_parts (is_blank b) _ h in
-    let none : is_colon b ≡ false = colon_apart b parts.0 in
+    let none = false_from_ne_true (is_colon b) (λ is. let wrong : is_blank 58 ≡ true = subst (λ (n : ℕ). is_blank n ≡ true) (eqb-true b 58 is) parts.0 in absurd cc) in
     rw none (blanks_no_colon t parts.1)
-  where
-    colon_apart : (b : ℕ) → is_blank b ≡ true → is_colon b ≡ false
-    colon_apart b e = by_colon (eqb b 58) refl
-      where
-        by_colon : (x : Bool) → eqb b 58 ≡ x → x ≡ false
-        by_colon false is = refl
-        by_colon true is = let colon : b ≡ 58 = grind (arith, nat_tests, is) in absurd (let wrong : is_blank 58 ≡ true = subst (λ (n : ℕ). is_blank n ≡ true) colon e in cc)
 
 not_blank_skip : (t : List ℕ) → begins_blank t ≡ false → skip_blanks t ≡ t
 not_blank_skip [] e = refl
@@ -62,11 +53,7 @@ not_blank_skip (b ∷ t) e = rw e refl
 
 skipped_begins : (t : List ℕ) → begins_blank (skip_blanks t) ≡ false
 skipped_begins [] = refl
-skipped_begins (b ∷ t) = by_first (is_blank b) refl (skipped_begins t)
-  where
-    by_first : (x : Bool) → is_blank b ≡ x → begins_blank (skip_blanks t) ≡ false → begins_blank (cond x (skip_blanks t) (b ∷ t)) ≡ false
-    by_first true e again = again
-    by_first false e again = e
+skipped_begins (b ∷ t) = elim (cases_Bool (is_blank b)) [ inl e ↦ rw e (skipped_begins t) | inr e ↦ rw e e ]
 
 dropped_twice : (t : List ℕ) → drop_last_blanks (drop_last_blanks t) ≡ drop_last_blanks t
 dropped_twice t = let back = dropped t in sym (drop_back (drop_last_blanks t) back.after back.blanks) ∙ ap drop_last_blanks (sym back.is)
@@ -182,17 +169,14 @@ record IsAdded (before : List Pair) (line : List ℕ) (now : List Pair) : Type 0
   now_is : now ≡ before ++ pair ∷ []
 
 added : (n : ℕ) (before : List Pair) (line : List ℕ) (now : List Pair) → begins_blank line ≡ false → pair_added n before line ≡ Ok now → IsAdded before line now
-added n before line now g e = by_colon (list_any is_colon line) refl e
-  where
-    by_label : list_any is_colon line ≡ true → (x : Bool) → eqb (length (label_of line)) 0 ≡ x → (cond x (Err (EmptyLabel n)) (Ok (at (label_of line) (value_of line))) >>= λ pair. Ok (before ++ pair ∷ [])) ≡ Ok now → IsAdded before line now
-    by_label colon true is e = absurd cc
-    by_label colon false is e =
-        let now_is : before ++ at (label_of line) (value_of line) ∷ [] ≡ now = cc in
-        record { pair = at (label_of line) (value_of line); is = pair_read line g colon (λ none. let wrong : eqb (length (label_of line)) 0 ≡ true = rw none refl in absurd cc); now_is = sym now_is }
-
-    by_colon : (x : Bool) → list_any is_colon line ≡ x → (cond (not x) (Err (NoColon n)) (cond (eqb (length (label_of line)) 0) (Err (EmptyLabel n)) (Ok (at (label_of line) (value_of line)))) >>= λ pair. Ok (before ++ pair ∷ [])) ≡ Ok now → IsAdded before line now
-    by_colon false is e = absurd cc
-    by_colon true is e = by_label is (eqb (length (label_of line)) 0) refl e
+added n before line now g e =
+    let made = at (label_of line) (value_of line) in
+    let read = bind_ok (pair_of n line) (λ pair. Ok (before ++ pair ∷ [])) now e in
+    let colon = ok_unless (not (list_any is_colon line)) (NoColon n) (cond (eqb (length (label_of line)) 0) (Err (EmptyLabel n)) (Ok made)) read.0 read.1 in
+    let label = ok_unless (eqb (length (label_of line)) 0) (EmptyLabel n) (Ok made) read.0 colon.1 in
+    let some = λ (none : label_of line ≡ []). let empty : eqb (length (label_of line)) 0 ≡ true = rw none refl in false≢true (sym label.0 ∙ empty) in
+    let now_is = ap (λ (p : Pair). before ++ p ∷ []) (ok_is made read.0 label.1) ∙ ok_is (before ++ read.0 ∷ []) now read.2 in
+    record { pair = made; is = pair_read line g (not-false _ colon.0) some; now_is = sym now_is }
 
 added_again : (n : ℕ) (before : List Pair) (line label value : List ℕ) → IsPairLine line label value → pair_added n before line ≡ Ok (before ++ at label value ∷ [])
 added_again n before line label value p =
@@ -201,6 +185,10 @@ added_again n before line label value p =
     rw (r.colon, some) (ap (λ (x : List ℕ). Ok (before ++ at x (value_of line) ∷ [])) r.label_is ∙ ap (λ (x : List ℕ). Ok (before ++ at label x ∷ [])) r.value_is)
 
 -- ---- what is read is said
+
+-- equal answers to a line are read on alike
+with_line : {r s : Result (List Pair) InfoFault} (n : ℕ) (ls : List (List ℕ)) → r ≡ s → (r >>= λ now. pairs_from (n + 1) now ls) ≡ (s >>= λ now. pairs_from (n + 1) now ls)
+with_line n ls e = ap (λ (r : Result (List Pair) InfoFault). r >>= λ now. pairs_from (n + 1) now ls) e
 
 -- lines that continue the last pair, and groups
 record GoesOn (init : List Pair) (p : Pair) (ls : List (List ℕ)) (pairs : List Pair) : Type 0 where
@@ -217,7 +205,17 @@ going_on n init p [] pairs e =
     let same : init ++ p ∷ [] ≡ pairs = let h = sym (no_lines_left n (init ++ p ∷ [])) ∙ e in cc in
     record { more = []; rest = []; others = []; is = refl; blank = refl; groups = refl; whole = sym same ∙ ap (λ (q : Pair). init ++ q ∷ []) (sym (longer_none p)) }
 going_on n init p (line ∷ ls) pairs e =
-    by_blank (list_all is_blank line) refl (sym (unfolded_lines n (init ++ p ∷ []) line ls) ∙ e) (λ init p e. going_on (n + 1) init p ls pairs e)
+    let read = sym (unfolded_lines n (init ++ p ∷ []) line ls) ∙ e in
+    elim (cases_Bool (list_all is_blank line)) [
+      | inl is ↦ skipping is (going_on (n + 1) init p ls pairs (sym (with_line n ls (add_blank n (init ++ p ∷ []) line is)) ∙ read))
+      | inr is ↦ elim (cases_Bool (begins_blank line)) [
+        | inl begins ↦ continuing is begins (going_on (n + 1) init (at p.label (p.value ++ 10 ∷ skip_blanks line)) ls pairs (sym (with_line n ls (add_more n init p line is begins)) ∙ read))
+        | inr begins ↦
+            let one = bind_ok (pair_added n (init ++ p ∷ []) line) (λ now. pairs_from (n + 1) now ls) pairs (sym (with_line n ls (add_other n (init ++ p ∷ []) line is begins)) ∙ read) in
+            let a = added n (init ++ p ∷ []) line one.0 begins one.1 in
+            beginning is a.pair a.is (going_on (n + 1) (init ++ p ∷ []) a.pair ls pairs (ap (λ (x : List Pair). pairs_from (n + 1) x ls) (sym a.now_is) ∙ one.2))
+      ]
+    ]
   where
     skipping : list_all is_blank line ≡ true → GoesOn init p ls pairs → GoesOn init p (line ∷ ls) pairs
     skipping is h = record { more = h.more; rest = h.rest; others = h.others; is = rw is h.is; blank = h.blank; groups = h.groups; whole = h.whole }
@@ -236,54 +234,30 @@ going_on n init p (line ∷ ls) pairs e =
       whole = h.whole ∙ append_assoc init (p ∷ []) (longer q h.more ∷ h.others) ∙ ap (λ (x : Pair). init ++ x ∷ longer q h.more ∷ h.others) (sym (longer_none p));
     }
 
-    Again : Type 0
-    Again = (init : List Pair) (p : Pair) → pairs_from (n + 1) (init ++ p ∷ []) ls ≡ Ok pairs → GoesOn init p ls pairs
-
-    by_pair : list_all is_blank line ≡ false → begins_blank line ≡ false → (r : Result (List Pair) InfoFault) → pair_added n (init ++ p ∷ []) line ≡ r → (r >>= λ now. pairs_from (n + 1) now ls) ≡ Ok pairs → Again → GoesOn init p (line ∷ ls) pairs
-    by_pair is begins (Err f) e g again = absurd cc
-    by_pair is begins (Ok now) e g again =
-        let a = added n (init ++ p ∷ []) line now begins e in
-        beginning is a.pair a.is (again (init ++ p ∷ []) a.pair (ap (λ (x : List Pair). pairs_from (n + 1) x ls) (sym a.now_is) ∙ g))
-
-    by_begin : list_all is_blank line ≡ false → (x : Bool) → begins_blank line ≡ x → (add_info_line n (init ++ p ∷ []) line >>= λ now. pairs_from (n + 1) now ls) ≡ Ok pairs → Again → GoesOn init p (line ∷ ls) pairs
-    by_begin is true begins e again = continuing is begins (again init (at p.label (p.value ++ 10 ∷ skip_blanks line)) (sym (ap (λ (r : Result (List Pair) InfoFault). r >>= λ now. pairs_from (n + 1) now ls) (add_more n init p line is begins)) ∙ e))
-    by_begin is false begins e again = by_pair is begins (pair_added n (init ++ p ∷ []) line) refl (sym (ap (λ (r : Result (List Pair) InfoFault). r >>= λ now. pairs_from (n + 1) now ls) (add_other n (init ++ p ∷ []) line is begins)) ∙ e) again
-
-    by_blank : (x : Bool) → list_all is_blank line ≡ x → (add_info_line n (init ++ p ∷ []) line >>= λ now. pairs_from (n + 1) now ls) ≡ Ok pairs → Again → GoesOn init p (line ∷ ls) pairs
-    by_blank true is e again = skipping is (again init p (sym (ap (λ (r : Result (List Pair) InfoFault). r >>= λ now. pairs_from (n + 1) now ls) (add_blank n (init ++ p ∷ []) line is)) ∙ e))
-    by_blank false is e again = by_begin is (begins_blank line) refl e again
-
 -- lines that are read fall into groups
 groups_read : (n : ℕ) (ls : List (List ℕ)) (pairs : List Pair) → pairs_from n [] ls ≡ Ok pairs → AreGroups (filled_lines ls) pairs
 groups_read n [] pairs e =
     let none : [] ≡ pairs = let h = sym (no_lines_left n []) ∙ e in cc in
     subst (AreGroups []) none refl
-groups_read n (line ∷ ls) pairs e = by_blank (list_all is_blank line) refl (sym (unfolded_lines n [] line ls) ∙ e) (λ e. groups_read (n + 1) ls pairs e)
+groups_read n (line ∷ ls) pairs e =
+    let read = sym (unfolded_lines n [] line ls) ∙ e in
+    elim (cases_Bool (list_all is_blank line)) [
+      | inl is ↦ rw is (groups_read (n + 1) ls pairs (sym (with_line n ls (add_blank n [] line is)) ∙ read))
+      | inr is ↦ elim (cases_Bool (begins_blank line)) [
+        | inl begins ↦ let wrong = sym (with_line n ls (add_stray n line is begins)) ∙ read in absurd cc
+        | inr begins ↦
+            let one = bind_ok (pair_added n [] line) (λ now. pairs_from (n + 1) now ls) pairs (sym (with_line n ls (add_other n [] line is begins)) ∙ read) in
+            let a = added n [] line one.0 begins one.1 in
+            beginning is a.pair a.is (going_on (n + 1) [] a.pair ls pairs (ap (λ (x : List Pair). pairs_from (n + 1) x ls) (sym a.now_is) ∙ one.2))
+      ]
+    ]
   where
     beginning : list_all is_blank line ≡ false → (q : Pair) → IsPairLine line q.label q.value → GoesOn [] q ls pairs → AreGroups (filled_lines (line ∷ ls)) pairs
     beginning is q pair h =
         let all : line ∷ h.more ++ h.rest ≡ filled_lines (line ∷ ls) = rw is (ap (λ (x : List (List ℕ)). line ∷ x) (sym h.is)) in
         subst (λ (x : List (List ℕ)). AreGroups x pairs) all (subst (AreGroups (line ∷ h.more ++ h.rest)) (sym h.whole) (line, h.more, h.rest, q.value, refl, pair, h.blank, refl, h.groups))
 
-    by_pair : list_all is_blank line ≡ false → begins_blank line ≡ false → (r : Result (List Pair) InfoFault) → pair_added n [] line ≡ r → (r >>= λ now. pairs_from (n + 1) now ls) ≡ Ok pairs → AreGroups (filled_lines (line ∷ ls)) pairs
-    by_pair is begins (Err f) e g = absurd cc
-    by_pair is begins (Ok now) e g =
-        let a = added n [] line now begins e in
-        beginning is a.pair a.is (going_on (n + 1) [] a.pair ls pairs (ap (λ (x : List Pair). pairs_from (n + 1) x ls) (sym a.now_is) ∙ g))
-
-    by_begin : list_all is_blank line ≡ false → (x : Bool) → begins_blank line ≡ x → (add_info_line n [] line >>= λ now. pairs_from (n + 1) now ls) ≡ Ok pairs → AreGroups (filled_lines (line ∷ ls)) pairs
-    by_begin is true begins e = let wrong = sym (ap (λ (r : Result (List Pair) InfoFault). r >>= λ now. pairs_from (n + 1) now ls) (add_stray n line is begins)) ∙ e in absurd cc
-    by_begin is false begins e = by_pair is begins (pair_added n [] line) refl (sym (ap (λ (r : Result (List Pair) InfoFault). r >>= λ now. pairs_from (n + 1) now ls) (add_other n [] line is begins)) ∙ e)
-
-    by_blank : (x : Bool) → list_all is_blank line ≡ x → (add_info_line n [] line >>= λ now. pairs_from (n + 1) now ls) ≡ Ok pairs → (pairs_from (n + 1) [] ls ≡ Ok pairs → AreGroups (filled_lines ls) pairs) → AreGroups (filled_lines (line ∷ ls)) pairs
-    by_blank true is e again = rw is (again (sym (ap (λ (r : Result (List Pair) InfoFault). r >>= λ now. pairs_from (n + 1) now ls) (add_blank n [] line is)) ∙ e))
-    by_blank false is e again = by_begin is (begins_blank line) refl e
-
 -- ---- what is said is read
-
--- equal answers to a line are read on alike
-with_line : {r s : Result (List Pair) InfoFault} (n : ℕ) (ls : List (List ℕ)) → r ≡ s → (r >>= λ now. pairs_from (n + 1) now ls) ≡ (s >>= λ now. pairs_from (n + 1) now ls)
-with_line n ls e = ap (λ (r : Result (List Pair) InfoFault). r >>= λ now. pairs_from (n + 1) now ls) e
 
 -- lines that continue the last pair, then groups
 going_again : (n : ℕ) (init : List Pair) (p : Pair) (ls more rest : List (List ℕ)) (others : List Pair) → filled_lines ls ≡ more ++ rest → list_all begins_blank more ≡ true → AreGroups rest others → pairs_from n (init ++ p ∷ []) ls ≡ Ok (init ++ longer p more ∷ others)
@@ -357,15 +331,10 @@ unfolding info_of
 marked text e g = rw (e, g) refl
 
 is_said : (text : List ℕ) (pairs : List Pair) → info_of text ≡ Ok pairs → SaysInfo text pairs
-is_said text pairs e = by_utf8 (is_utf8 text) refl
-  where
-    by_mark : is_utf8 text ≡ true → (x : Bool) → has_mark text ≡ x → SaysInfo text pairs
-    by_mark utf8 true is = let wrong = sym (marked text utf8 is) ∙ e in absurd cc
-    by_mark utf8 false is = record { utf8 = utf8; unmarked = is; groups = groups_read 1 (lines text) pairs (sym (info_lines text utf8 is) ∙ e) }
-
-    by_utf8 : (x : Bool) → is_utf8 text ≡ x → SaysInfo text pairs
-    by_utf8 false is = let wrong = sym (not_utf8 text is) ∙ e in absurd cc
-    by_utf8 true is = by_mark is (has_mark text) refl
+is_said text pairs e =
+    let utf8 = true_from_ne_false (is_utf8 text) (λ is. never_both pairs NotUtf8 (info_of text) e (not_utf8 text is)) in
+    let unmarked = false_from_ne_true (has_mark text) (λ is. never_both pairs ByteOrderMark (info_of text) e (marked text utf8 is)) in
+    record { utf8 = utf8; unmarked = unmarked; groups = groups_read 1 (lines text) pairs (sym (info_lines text utf8 unmarked) ∙ e) }
 
 -- A text says these pairs exactly where reading answers them.
 pub info_said : (text : List ℕ) (pairs : List Pair) → (info_of text ≡ Ok pairs) ↔ SaysInfo text pairs
@@ -415,11 +384,8 @@ stops_again n before [] line back now f read fault =
     unfolded_lines n before line back ∙ ap (λ (r : Result (List Pair) InfoFault). r >>= λ now. pairs_from (n + 1) now back) (ap (λ (x : List Pair). add_info_line n x line) same ∙ ap (λ (k : ℕ). add_info_line k now line) here ∙ fault)
 stops_again n before (a ∷ front) line back now f read fault =
     let place : n + 1 + length front ≡ n + length (a ∷ front) = omega arith in
-    unfolded_lines n before a (front ++ line ∷ back) ∙ by_first (add_info_line n before a) (sym (unfolded_lines n before a front) ∙ read) (λ b read. stops_again (n + 1) b front line back now f read (ap (λ (k : ℕ). add_info_line k now line) place ∙ fault))
-  where
-    by_first : (r : Result (List Pair) InfoFault) → (r >>= λ b. pairs_from (n + 1) b front) ≡ Ok now → ((b : List Pair) → pairs_from (n + 1) b front ≡ Ok now → pairs_from (n + 1) b (front ++ line ∷ back) ≡ Err f) → (r >>= λ b. pairs_from (n + 1) b (front ++ line ∷ back)) ≡ Err f
-    by_first (Err g) e again = absurd cc
-    by_first (Ok b) e again = again b e
+    let first = bind_ok (add_info_line n before a) (λ b. pairs_from (n + 1) b front) now (sym (unfolded_lines n before a front) ∙ read) in
+    unfolded_lines n before a (front ++ line ∷ back) ∙ rw first.1 (stops_again (n + 1) first.0 front line back now f first.2 (ap (λ (k : ℕ). add_info_line k now line) place ∙ fault))
 
 pub add_longer : (n : ℕ) (a : Pair) (ps : List Pair) (line : List ℕ) → list_all is_blank line ≡ false → begins_blank line ≡ true → add_info_line n (a ∷ ps) line ≡ Ok (extend_last (a ∷ ps) (skip_blanks line))
 unfolding add_info_line

@@ -1,11 +1,7 @@
 -- Reading the lines of `bag-info.txt`.
-use Rattle.bag_text.proofs.Common.{◌≡◌, one-add, ℕ, suc, zero, ◌+◌, ◌-◌, ◌<◌, ◌≤◌, Bool, true, false, cond, eqb, not, ◌&&◌, ◌||◌, List, [], ◌∷◌, ◌++◌, length, take, drop, refl, sym, ap, subst, ◌∙◌, ◌⊎◌, inl, inr, arith, append_assoc, Option, Some, None, Result, Ok, Err, Contains, list_any, list_all, position_or_len, AllByRecursion, option_to_list, is_utf8, IsCharBoundary, cow_str_bytes, IsUtf8-from_is_utf8, is_utf8-from_IsUtf8, IsUtf8-take, IsUtf8-drop, IsCharBoundary-after_ascii, prefix_len-le-length, append-nil, map_push, nil_from_length, same_Some, list_any-append, and_parts, or_parts, or_right, eqb-true, get_or-append_seam, take-append_seam, drop-append-add, take-length, is_blank, AreBlanks, skip_blanks, drop_last_blanks, is_end, lines, LF, CR, CRLF, end_bytes, EndsBefore, AreLines, InfoFault, NoColon, EmptyLabel, StrayContinuation, Pair, is_colon, begins_blank, ◌>>=◌, FailsAs, label_of, value_of, colon_cut, pair_of, extend_last, add_info_line, pairs_from, named_info_fault, Kept, pair_in, pairs_of, has_line_feed, IsOwnedIfContinued, AreMarked}
-use Rattle.std.proofs.Common.{length-append}
-use Rattle.std.specs.Str.{IsUtf8}
-use Rattle.std.proofs.lemmas.List.Elements.{Contains-append_left, Contains-push_cases}
+use Rattle.bag_text.proofs.FirstLemmas.{inl, inr, cases_Bool, some_if, ok_unless, ok_is, ◌≡◌, one-add, ℕ, suc, zero, ◌+◌, ◌-◌, ◌<◌, ◌≤◌, Bool, true, false, cond, eqb, not, ◌||◌, List, [], ◌∷◌, ◌++◌, length, take, drop, refl, sym, ap, subst, ◌∙◌, ◌⊎◌, arith, append_assoc, Option, Some, None, Result, Ok, Err, Contains, list_any, list_all, position_or_len, AllByRecursion, option_to_list, is_utf8, IsCharBoundary, cow_str_bytes, IsUtf8-from_is_utf8, is_utf8-from_IsUtf8, IsUtf8-take, IsUtf8-drop, IsCharBoundary-after_ascii, prefix_len-le-length, append-nil, map_push, nil_from_length, same_Some, list_any-append, and_parts, or_parts, or_right, eqb-true, get_or-append_seam, take-append_seam, drop-append-add, take-length, is_blank, AreBlanks, skip_blanks, drop_last_blanks, is_end, lines, LF, CR, CRLF, end_bytes, EndsBefore, AreLines, InfoFault, NoColon, EmptyLabel, StrayContinuation, Pair, is_colon, begins_blank, ◌>>=◌, FailsAs, label_of, value_of, colon_cut, pair_of, extend_last, add_info_line, pairs_from, named_info_fault, Kept, pair_in, pairs_of, has_line_feed, IsOwnedIfContinued, AreMarked, length-append, IsUtf8, fails_on, dropped}
 use Rattle.bag_text.specs.Lines.{End}
-use Rattle.bag_text.proofs.ResultLemmas.{fails_on}
-use Rattle.bag_text.proofs.BlankLemmas.{dropped}
+use Rattle.std.proofs.lemmas.List.Elements.{Contains-append_left, Contains-push_cases}
 use Rattle.bag_text.proofs.LineLemmas.{no_lines, are_lines}
 use Rattle.bag_text.proofs.InfoLemmas.{cut_again, has_colon, extended, some_pairs, unfolded_lines, no_lines_left}
 
@@ -79,11 +75,8 @@ blank_is_ascii b e = by_space (eqb b 32) refl e
 -- a text without its first blanks is text
 pub skipped_text : (t : List ℕ) → is_utf8 t ≡ true → is_utf8 (skip_blanks t) ≡ true
 skipped_text [] e = e
-skipped_text (b ∷ t) e = by_first (is_blank b) refl (λ e. skipped_text t e)
-  where
-    by_first : (x : Bool) → is_blank b ≡ x → (is_utf8 t ≡ true → is_utf8 (skip_blanks t) ≡ true) → is_utf8 (cond x (skip_blanks t) (b ∷ t)) ≡ true
-    by_first true is again = again (cut_text [] b t e (blank_is_ascii b is)).1
-    by_first false is again = e
+skipped_text (b ∷ t) e =
+    elim (cases_Bool (is_blank b)) [ inl is ↦ rw is (skipped_text t (cut_text [] b t e (blank_is_ascii b is)).1) | inr is ↦ rw is e ]
 
 -- a text without its last blanks is text
 pub dropped_text : (t : List ℕ) → is_utf8 t ≡ true → is_utf8 (drop_last_blanks t) ≡ true
@@ -112,13 +105,11 @@ pub record WasCut (line front back : List ℕ) : Type 0 where
 
 -- a cut is at the first colon
 pub was_cut : (line : List ℕ) (o : Option (List ℕ × List ℕ)) (front back : List ℕ) → o ≡ colon_cut line → o ≡ Some (front, back) → WasCut line front back
-was_cut line o front back is some = by_colon (list_any is_colon line) refl (sym is ∙ some)
-  where
-    by_colon : (x : Bool) → list_any is_colon line ≡ x → cond x (found (take (position_or_len is_colon line) line, drop (position_or_len is_colon line + 1) line)) None ≡ Some (front, back) → WasCut line front back
-    by_colon false e g = absurd cc
-    by_colon true e g =
-        let same = same_Some (take (position_or_len is_colon line) line, drop (position_or_len is_colon line + 1) line) (front, back) g in
-        record { colon = e; front_is = ap (λ (x : List ℕ × List ℕ). x.0) (sym same); back_is = ap (λ (x : List ℕ × List ℕ). x.1) (sym same) }
+was_cut line o front back is some =
+    let parts : List ℕ × List ℕ = (take (position_or_len is_colon line) line, drop (position_or_len is_colon line + 1) line) in
+    let cut = some_if (list_any is_colon line) (found parts) (front, back) (sym is ∙ some) in
+    let same = same_Some parts (front, back) cut.1 in
+    record { colon = cut.0; front_is = ap (λ (x : List ℕ × List ℕ). x.0) (sym same); back_is = ap (λ (x : List ℕ × List ℕ). x.1) (sym same) }
 
 -- a label of a text is text
 pub label_text : (line front back : List ℕ) → is_utf8 line ≡ true → WasCut line front back → is_utf8 (drop_last_blanks front) ≡ true
@@ -162,11 +153,8 @@ first_sound t line after is all = subst (AllByRecursion IsSoundLine) is all
 -- a line of which no blank is left has blanks alone
 pub blanks_alone : (line : List ℕ) → skip_blanks line ≡ [] → list_all is_blank line ≡ true
 blanks_alone [] e = refl
-blanks_alone (b ∷ line) e = by_first (is_blank b) refl e (λ e. blanks_alone line e)
-  where
-    by_first : (x : Bool) → is_blank b ≡ x → cond x (skip_blanks line) (b ∷ line) ≡ [] → (skip_blanks line ≡ [] → list_all is_blank line ≡ true) → (x && list_all is_blank line) ≡ true
-    by_first true is e again = again e
-    by_first false is e again = absurd cc
+blanks_alone (b ∷ line) e =
+    elim (cases_Bool (is_blank b)) [ inl is ↦ rw is (blanks_alone line (rw is at e)) | inr is ↦ let wrong = rw is at e in absurd cc ]
 
 -- the same, of the length of what is left
 pub no_rest : (line : List ℕ) → length (skip_blanks line) ≡ 0 → list_all is_blank line ≡ true
@@ -175,11 +163,8 @@ no_rest line e = blanks_alone line (nil_from_length (skip_blanks line) e)
 -- a line of which something is left has more than blanks
 pub more_than_blanks : (line : List ℕ) → 0 < length (skip_blanks line) → list_all is_blank line ≡ false
 more_than_blanks [] h = absurd (omega arith)
-more_than_blanks (b ∷ line) h = by_first (is_blank b) refl h (λ h. more_than_blanks line h)
-  where
-    by_first : (x : Bool) → is_blank b ≡ x → 0 < length (cond x (skip_blanks line) (b ∷ line)) → (0 < length (skip_blanks line) → list_all is_blank line ≡ false) → (x && list_all is_blank line) ≡ false
-    by_first true is h again = again h
-    by_first false is h again = refl
+more_than_blanks (b ∷ line) h =
+    elim (cases_Bool (is_blank b)) [ inl is ↦ rw is (more_than_blanks line (rw is at h)) | inr is ↦ rw is refl ]
 
 -- what a continuation adds
 pub add_continued : (n : ℕ) (before : List Pair) (line : List ℕ) → list_all is_blank line ≡ false → begins_blank line ≡ true → add_info_line n before line ≡ cond (eqb (length before) 0) (Err (StrayContinuation n)) (Ok (extend_last before (skip_blanks line)))
@@ -242,20 +227,16 @@ no_end_drop (suc n) (b ∷ t) e = no_end_drop n t (or_parts (is_end b) (list_any
 -- a line without its first blanks has no end
 no_end_skip : (t : List ℕ) → list_any is_end t ≡ false → list_any is_end (skip_blanks t) ≡ false
 no_end_skip [] e = refl
-no_end_skip (b ∷ t) e = by_first (is_blank b) (no_end_skip t (or_parts (is_end b) (list_any is_end t) e).1)
-  where
-    by_first : (x : Bool) → list_any is_end (skip_blanks t) ≡ false → list_any is_end (cond x (skip_blanks t) (b ∷ t)) ≡ false
-    by_first true again = again
-    by_first false again = e
+no_end_skip (b ∷ t) e =
+    elim (cases_Bool (is_blank b)) [ inl is ↦ rw is (no_end_skip t (or_parts (is_end b) (list_any is_end t) e).1) | inr is ↦ rw is e ]
 
 -- the value of a pair that a line is
 pair_value : (n : ℕ) (line : List ℕ) (p : Pair) → pair_of n line ≡ Ok p → p.value ≡ value_of line
-pair_value n line p e = by_tests (list_any is_colon line) (eqb (length (label_of line)) 0) e
-  where
-    by_tests : (x y : Bool) → cond (not x) (Err (NoColon n)) (cond y (Err (EmptyLabel n)) (Ok (record { label = label_of line; value = value_of line }))) ≡ Ok p → p.value ≡ value_of line
-    by_tests false y e = absurd cc
-    by_tests true true e = absurd cc
-    by_tests true false e = let same : record { label = label_of line; value = value_of line } ≡ p = cc in ap (λ (q : Pair). q.value) (sym same)
+pair_value n line p e =
+    let made : Pair = record { label = label_of line; value = value_of line } in
+    let colon = ok_unless (not (list_any is_colon line)) (NoColon n) (cond (eqb (length (label_of line)) 0) (Err (EmptyLabel n)) (Ok made)) p e in
+    let label = ok_unless (eqb (length (label_of line)) 0) (EmptyLabel n) (Ok made) p colon.1 in
+    ap (λ (q : Pair). q.value) (sym (ok_is made p label.1))
 
 -- a value of one line has no LF, read from its line
 pub pair_feed : (n : ℕ) (line : List ℕ) (p : Pair) → pair_of n line ≡ Ok p → list_any is_end line ≡ false → has_line_feed p.value ≡ false

@@ -28,4 +28,5 @@ pub mod RefusalLemmas
 pub mod ListLemmas
 pub mod BagListLemmas
 pub mod WriteLemmas
+pub mod FirstLemmas
 pub mod Lemmas

@@ -1,6 +1,5 @@
 -- The first line of a text.
-use Rattle.bag_text.proofs.Common.{◌≡◌, one-add, ℕ, subst, ◌<◌, ◌≤◌, Bool, true, false, cond, eqb, ltb, ◌&&◌, ◌||◌, not, List, [], ◌∷◌, ◌++◌, length, drop, refl, sym, ap, ◌∙◌, arith, ◌≢◌, ◌⊎◌, inl, inr, append_assoc, list_any, onto_first, position_or_len, position, Some, None, ltb-false, eqb-true, or_parts, prefix_len-le-length, length-drop, is_end, lines, LF, CR, CRLF, end_bytes, EndsBefore, AreLines, begins_with}
-use Rattle.std.specs.Option.{unwrap_or}
+use Rattle.bag_text.proofs.Common.{cases_Bool, cond_both, ◌≡◌, one-add, ℕ, subst, ◌<◌, ◌≤◌, Bool, true, false, cond, eqb, ltb, ◌&&◌, ◌||◌, not, List, [], ◌∷◌, ◌++◌, length, drop, refl, sym, ap, ◌∙◌, arith, ◌≢◌, ◌⊎◌, inl, inr, append_assoc, list_any, onto_first, position_or_len, position, Some, None, ltb-false, eqb-true, or_parts, prefix_len-le-length, length-drop, is_end, lines, LF, CR, CRLF, end_bytes, EndsBefore, AreLines, begins_with, unwrap_or}
 use Rattle.bag_text.specs.Lines.{End}
 use Rattle.bag_text.specs.LineReading.{first_line, after_first_line, after_end_of}
 
@@ -9,11 +8,9 @@ fits t = prefix_len-le-length (λ b. not (is_end b)) t
 
 after_end_shorter : (t : List ℕ) → 0 < length t → length (after_end_of t) < length t
 after_end_shorter [] h = absurd (omega arith)
-after_end_shorter (b ∷ t) h = let e = by_test (eqb b 13 && begins_with 10 t) t in omega arith
-  where
-    by_test : (x : Bool) (t : List ℕ) → length (cond x (drop 1 t) t) ≤ length t
-    by_test true t = omega (arith, length-drop 1 t)
-    by_test false t = omega arith
+after_end_shorter (b ∷ t) h =
+    let e = cond_both (eqb b 13 && begins_with 10 t) (drop 1 t) t (λ r. length r ≤ length t) (λ _. omega (arith, length-drop 1 t)) (λ _. omega arith) in
+    omega arith
 
 lines_nil : lines [] ≡ []
 unfolding lines
@@ -34,11 +31,7 @@ at_end b t e = unfolded b t ∙ rw e (crlf (eqb b 13) t)
     crlf : (x : Bool) (t : List ℕ) → cond (x && begins_with 10 t) (lines t) ([] ∷ lines t) ≡ [] ∷ lines (cond (x && begins_with 10 t) (drop 1 t) t)
     crlf false t = refl
     crlf true [] = refl
-    crlf true (c ∷ t) = both (eqb c 10) refl
-      where
-        both : (y : Bool) → eqb c 10 ≡ y → cond y (lines (c ∷ t)) ([] ∷ lines (c ∷ t)) ≡ [] ∷ lines (cond y t (c ∷ t))
-        both true h = lf c t h
-        both false h = refl
+    crlf true (c ∷ t) = elim (cases_Bool (eqb c 10)) [ inl h ↦ rw h (lf c t h) | inr h ↦ rw h refl ]
 
 in_line : (b : ℕ) (t : List ℕ) → is_end b ≡ false → lines (b ∷ t) ≡ onto_first b (lines t)
 in_line b t e = unfolded b t ∙ rw (e, (or_parts (eqb b 10) (eqb b 13) e).1) refl
@@ -137,15 +130,12 @@ behind_end b t ls e is = (refl, inr (by_cr (eqb b 13) refl is))
 
 -- one byte more
 one_more : (b : ℕ) (t : List ℕ) → AreLines t (lines t) → AreLines (drop 1 t) (lines (drop 1 t)) → AreLines (b ∷ t) (lines (b ∷ t))
-one_more b t now then = by_first (is_end b) refl
-  where
-    behind : (x : Bool) → AreLines (cond x (drop 1 t) t) (lines (cond x (drop 1 t) t))
-    behind true = then
-    behind false = now
-
-    by_first : (x : Bool) → is_end b ≡ x → AreLines (b ∷ t) (lines (b ∷ t))
-    by_first true e = subst (AreLines (b ∷ t)) (sym (at_end b t e)) (behind_end b t (lines (after_end_of (b ∷ t))) e (behind (eqb b 13 && begins_with 10 t)))
-    by_first false e = subst (AreLines (b ∷ t)) (sym (in_line b t e)) (onto b t (lines t) e now)
+one_more b t now then = elim (cases_Bool (is_end b)) [
+  | inl e ↦
+      let behind = cond_both (eqb b 13 && begins_with 10 t) (drop 1 t) t (λ r. AreLines r (lines r)) (λ _. then) (λ _. now) in
+      subst (AreLines (b ∷ t)) (sym (at_end b t e)) (behind_end b t (lines (after_end_of (b ∷ t))) e behind)
+  | inr e ↦ subst (AreLines (b ∷ t)) (sym (in_line b t e)) (onto b t (lines t) e now)
+]
 
 -- the same of a text and of all but its first byte
 both_are : (t : List ℕ) → AreLines t (lines t) × AreLines (drop 1 t) (lines (drop 1 t))

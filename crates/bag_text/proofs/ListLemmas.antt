@@ -1,6 +1,5 @@
 -- The fault of a list of files that is computed is the one of the table, and none stands exactly in a bag.
-use Rattle.bag_text.proofs.Common.{◌≡◌, ℕ, ◌+◌, ◌<◌, ◌≤◌, Bool, true, false, cond, ltb, leb, not, List, [], ◌∷◌, ◌++◌, length, refl, sym, ap, subst, ◌∙◌, arith, Option, Some, None, option_or, AllByRecursion, nat_tests, same_Some, SetFault, BadOpening, BadEntry, Truncated, OutOfOrder, BadPath, TooManyFiles, TrailingBytes, PathClash, Memory, is_good, comes_before, File, max_content, max_files, Ascends, clashes, Fits, IsBag, last_path, IsFront, FileFault, ListFault, file_fault, fault_from, clash_fault, list_fault}
-use Rattle.std.proofs.Common.{◌↔◌}
+use Rattle.bag_text.proofs.FirstLemmas.{false_from_ne_true, some_if, ◌≡◌, ℕ, ◌+◌, ◌<◌, ◌≤◌, Bool, true, false, cond, ltb, leb, not, List, [], ◌∷◌, ◌++◌, length, refl, sym, ap, subst, ◌∙◌, arith, Option, Some, None, option_or, AllByRecursion, nat_tests, same_Some, SetFault, BadEntry, OutOfOrder, BadPath, TooManyFiles, PathClash, is_good, comes_before, File, max_content, max_files, Ascends, clashes, Fits, IsBag, last_path, IsFront, FileFault, ListFault, file_fault, fault_from, clash_fault, list_fault, ◌↔◌}
 
 abbrev pub some : SetFault → Option SetFault
 some f = Some f
@@ -22,11 +21,8 @@ file_none : (place : ℕ) (before : List ℕ) (f : File) → file_fault place be
 file_none place before f e = by_tests (ltb max_content (length f.content)) (leb max_files place) (is_good f.path) (comes_before before f.path) refl refl refl refl e
   where
     by_tests : (long full good up : Bool) → ltb max_content (length f.content) ≡ long → leb max_files place ≡ full → is_good f.path ≡ good → comes_before before f.path ≡ up → judged place long full good up ≡ None → IsFine place before f
-    by_tests true full good up a b c d e = absurd cc
-    by_tests false true good up a b c d e = absurd cc
-    by_tests false false false up a b c d e = absurd cc
-    by_tests false false true false a b c d e = absurd cc
     by_tests false false true true a b c d e = record { room = grind (arith, nat_tests); fits = record { good = c; small = grind (arith, nat_tests) }; after = d }
+    by_tests _ _ _ _ a b c d e = absurd cc
 
 file_fine : (place : ℕ) (before : List ℕ) (f : File) → IsFine place before f → file_fault place before f ≡ None
 file_fine place before f fine =
@@ -61,11 +57,7 @@ file_stands place before f (OutOfOrder n) (at, short, room, good, order) =
     let a : ltb max_content (length f.content) ≡ false = grind (arith, nat_tests) in
     let b : leb max_files place ≡ false = grind (arith, nat_tests) in
     rw (at, a, b, good, order) refl
-file_stands place before f BadOpening h = absurd h
-file_stands place before f Truncated h = absurd h
-file_stands place before f TrailingBytes h = absurd h
-file_stands place before f PathClash h = absurd h
-file_stands place before f Memory h = absurd h
+file_stands place before f _ h = absurd h
 
 -- ---- one file after the other
 
@@ -160,25 +152,16 @@ from_zero n = omega arith
 -- a fault of one of the files is a fault of the list
 of_file : (files : List File) (g : SetFault) → FaultAt 0 [] files g → ListFault files g
 of_file files PathClash at = absurd at.fault
-of_file files (BadEntry n) at = (at.front, at.file, at.rest, at.is, front_of at.front at.fine, subst (λ (place : ℕ). FileFault place (last_path [] at.front) at.file (BadEntry n)) (from_zero (length at.front)) at.fault)
-of_file files (OutOfOrder n) at = (at.front, at.file, at.rest, at.is, front_of at.front at.fine, subst (λ (place : ℕ). FileFault place (last_path [] at.front) at.file (OutOfOrder n)) (from_zero (length at.front)) at.fault)
-of_file files (BadPath n) at = (at.front, at.file, at.rest, at.is, front_of at.front at.fine, subst (λ (place : ℕ). FileFault place (last_path [] at.front) at.file (BadPath n)) (from_zero (length at.front)) at.fault)
-of_file files TooManyFiles at = (at.front, at.file, at.rest, at.is, front_of at.front at.fine, subst (λ (place : ℕ). FileFault place (last_path [] at.front) at.file TooManyFiles) (from_zero (length at.front)) at.fault)
-of_file files BadOpening at = absurd at.fault
-of_file files Truncated at = absurd at.fault
-of_file files TrailingBytes at = absurd at.fault
-of_file files Memory at = absurd at.fault
+of_file files g at = (at.front, at.file, at.rest, at.is, front_of at.front at.fine, subst (λ (place : ℕ). FileFault place (last_path [] at.front) at.file g) (from_zero (length at.front)) at.fault)
 
 list_some : (files : List File) (g : SetFault) → list_fault files ≡ Some g → ListFault files g
 list_some files g e = by_files (fault_from 0 [] files) refl e
   where
     by_files : (r : Option SetFault) → fault_from 0 [] files ≡ r → option_or r (clash_fault files) ≡ Some g → ListFault files g
     by_files (Some h) is e = of_file files g (from_some 0 [] files g (omega arith) (is ∙ e))
-    by_files None is e = by_clash (clashes files) refl e
-      where
-        by_clash : (r : Bool) → clashes files ≡ r → cond r (Some PathClash) None ≡ Some g → ListFault files g
-        by_clash false so e = absurd cc
-        by_clash true so e = subst (λ (g : SetFault). ListFault files g) (same_Some PathClash g e) (front_of files (from_none 0 [] files (omega arith) is), so)
+    by_files None is e =
+        let clash = some_if (clashes files) (Some PathClash) g e in
+        subst (λ (g : SetFault). ListFault files g) (same_Some PathClash g clash.1) (front_of files (from_none 0 [] files (omega arith) is), clash.0)
 
 listed_stands : (files : List File) (g : SetFault) (front : List File) (f : File) (rest : List File) → files ≡ front ++ f ∷ rest → IsFront front → FileFault (length front) (last_path [] front) f g → list_fault files ≡ Some g
 listed_stands files g front f rest is fine h =
@@ -188,14 +171,7 @@ listed_stands files g front f rest is fine h =
 
 list_stands : (files : List File) (g : SetFault) → ListFault files g → list_fault files ≡ Some g
 list_stands files PathClash (fine, clash) = rw (from_fine 0 [] files (fine_of files fine), clash) refl
-list_stands files (BadEntry n) (front, f, rest, is, fine, h) = listed_stands files (BadEntry n) front f rest is fine h
-list_stands files (OutOfOrder n) (front, f, rest, is, fine, h) = listed_stands files (OutOfOrder n) front f rest is fine h
-list_stands files (BadPath n) (front, f, rest, is, fine, h) = listed_stands files (BadPath n) front f rest is fine h
-list_stands files TooManyFiles (front, f, rest, is, fine, h) = listed_stands files TooManyFiles front f rest is fine h
-list_stands files BadOpening (front, f, rest, is, fine, h) = absurd h
-list_stands files Truncated (front, f, rest, is, fine, h) = absurd h
-list_stands files TrailingBytes (front, f, rest, is, fine, h) = absurd h
-list_stands files Memory (front, f, rest, is, fine, h) = absurd h
+list_stands files g h = listed_stands files g h.0 h.1 h.2 h.3 h.4 h.5
 
 -- The fault that is computed is the first fault of the list.
 pub list_fault_law : (files : List File) (fault : SetFault) → (list_fault files ≡ Some fault) ↔ ListFault files fault
@@ -206,11 +182,10 @@ list_none files e = by_files (fault_from 0 [] files) refl e
   where
     by_files : (r : Option SetFault) → fault_from 0 [] files ≡ r → option_or r (clash_fault files) ≡ None → IsBag files
     by_files (Some h) is e = absurd cc
-    by_files None is e = by_clash (clashes files) refl e
-      where
-        by_clash : (r : Bool) → clashes files ≡ r → cond r (Some PathClash) None ≡ None → IsBag files
-        by_clash true so e = absurd cc
-        by_clash false so e = let front = front_of files (from_none 0 [] files (omega arith) is) in record { few = front.few; each = front.each; ascending = front.ascending; apart = so }
+    by_files None is e =
+        let front = front_of files (from_none 0 [] files (omega arith) is) in
+        let apart = false_from_ne_true (clashes files) (λ clash. let wrong = rw clash at e in absurd cc) in
+        record { few = front.few; each = front.each; ascending = front.ascending; apart = apart }
 
 bag_stands : (files : List File) → IsBag files → list_fault files ≡ None
 bag_stands files bag = rw (from_fine 0 [] files (fine_of files (record { few = bag.few; each = bag.each; ascending = bag.ascending })), bag.apart) refl

@@ -1,10 +1,6 @@
 -- The entries of a manifest, line after line.
-use Rattle.bag_text.proofs.Common.{◌≡◌, ℕ, zero, suc, ◌+◌, ◌-◌, ◌<◌, ◌≤◌, Bool, true, false, cond, List, [], ◌∷◌, ◌++◌, length, refl, sym, ap, subst, ◌∙◌, ◌⊎◌, inl, inr, arith, Some, is_some, slice_get, AllByRecursion, Ordering, Less, Equal, Greater, nat_cmp, match_ordering, is_eq, is_lt, ordering_reverse, slice_cmp, insert_entry, is_at, lookup, cases_lt, bytes_eq-Decides, same_Some, slice_get_within, length_push, comes_before, AscendingPaths, Entries, is_path_listed}
-use Rattle.std.specs.Prelude.{map}
-use Rattle.std.proofs.lemmas.Cmp.{nat_list_cmp_total}
-use Rattle.std.proofs.lemmas.Map.Text.{is_eq-slice_cmp}
+use Rattle.bag_text.proofs.FirstLemmas.{cases_Bool, ◌≡◌, ℕ, zero, suc, ◌+◌, ◌-◌, ◌<◌, ◌≤◌, Bool, true, false, cond, List, [], ◌∷◌, ◌++◌, length, refl, sym, ap, subst, ◌∙◌, ◌⊎◌, inl, inr, arith, Some, is_some, slice_get, AllByRecursion, Ordering, Less, Equal, Greater, nat_cmp, match_ordering, is_eq, is_lt, ordering_reverse, slice_cmp, insert_entry, is_at, lookup, cases_lt, bytes_eq-Decides, same_Some, slice_get_within, length_push, comes_before, AscendingPaths, Entries, is_path_listed, map, nat_list_cmp_total, is_eq-slice_cmp, Has, slice_get-append, slice_get_last}
 use Rattle.bag_text.specs.ManifestReading.{Entry}
-use Rattle.bag_text.proofs.ElementLemmas.{Has, slice_get-append, slice_get_last}
 use Rattle.bag_text.proofs.OrderLemmas.{less}
 
 -- ---- places in a list of lines
@@ -82,11 +78,8 @@ has_listed path entry [] h = absurd h
 has_listed path entry (f ∷ es) (inl e) =
     let is : is_eq (order path f.0) ≡ true = subst (λ (p : List ℕ). is_eq (order path p) ≡ true) (sym (ap (λ (x : List ℕ × Entry). x.0) e)) (itself path) in
     rw is refl
-has_listed path entry (f ∷ es) (inr h) = by_test (is_eq (order path f.0)) (has_listed path entry es h)
-  where
-    by_test : (x : Bool) → is_path_listed path es ≡ true → is_some (cond x (Some f.1) (lookup (is_at (order path)) es)) ≡ true
-    by_test true again = refl
-    by_test false again = again
+has_listed path entry (f ∷ es) (inr h) =
+    elim (cases_Bool (is_eq (order path f.0))) [ inl e ↦ rw e refl | inr e ↦ rw e (has_listed path entry es h) ]
 
 -- ---- putting an entry in its place
 
@@ -109,32 +102,22 @@ pub put_old : (es : Entries) (path : List ℕ) (entry : Entry) (x : List ℕ × 
 put_old [] path entry x new h = absurd h
 put_old (f ∷ es) path entry x new h = by_order (order path f.0) new h (λ n k. put_old es path entry x n k)
   where
-    front : (f ≡ x) ⊎ Has es x → (Has es x → Has (put es path entry) x) → Has (f ∷ put es path entry) x
-    front (inl e) again = inl e
-    front (inr h) again = inr (again h)
-
     by_order : (o : Ordering) → is_some (cond (is_eq o) (Some f.1) (lookup (is_at (order path)) es)) ≡ false → Has (f ∷ es) x → (is_path_listed path es ≡ false → Has es x → Has (put es path entry) x) → Has (match_ordering o ((path, entry) ∷ f ∷ es) ((f.0, entry) ∷ es) (f ∷ put es path entry)) x
     by_order Less new h again = inr h
     by_order Equal new h again = absurd cc
-    by_order Greater new h again = front h (again new)
+    by_order Greater new (inl e) again = inl e
+    by_order Greater new (inr h) again = inr (again new h)
 
 -- each entry is the new one or was there
 pub put_cases : (es : Entries) (path : List ℕ) (entry : Entry) (x : List ℕ × Entry) → is_path_listed path es ≡ false → Has (put es path entry) x → ((path, entry) ≡ x) ⊎ Has es x
 put_cases [] path entry x new h = h
 put_cases (f ∷ es) path entry x new h = by_order (order path f.0) new h (λ n k. put_cases es path entry x n k)
   where
-    behind : ((path, entry) ≡ x) ⊎ Has es x → ((path, entry) ≡ x) ⊎ Has (f ∷ es) x
-    behind (inl e) = inl e
-    behind (inr h) = inr (inr h)
-
-    front : (f ≡ x) ⊎ Has (put es path entry) x → (Has (put es path entry) x → ((path, entry) ≡ x) ⊎ Has es x) → ((path, entry) ≡ x) ⊎ Has (f ∷ es) x
-    front (inl e) again = inr (inl e)
-    front (inr h) again = behind (again h)
-
     by_order : (o : Ordering) → is_some (cond (is_eq o) (Some f.1) (lookup (is_at (order path)) es)) ≡ false → Has (match_ordering o ((path, entry) ∷ f ∷ es) ((f.0, entry) ∷ es) (f ∷ put es path entry)) x → (is_path_listed path es ≡ false → Has (put es path entry) x → ((path, entry) ≡ x) ⊎ Has es x) → ((path, entry) ≡ x) ⊎ Has (f ∷ es) x
     by_order Less new h again = h
     by_order Equal new h again = absurd cc
-    by_order Greater new h again = front h (again new)
+    by_order Greater new (inl e) again = inr (inl e)
+    by_order Greater new (inr h) again = elim (again new h) [ inl e ↦ inl e | inr h ↦ inr (inr h) ]
 
 -- ---- the paths ascend
 

@@ -1,21 +1,12 @@
 -- What is read of a manifest's text is what its lines list, and a refusal is its first fault.
-use Rattle.bag_text.proofs.Common.{◌≡◌, ℕ, suc, ◌-◌, ◌<◌, Bool, true, false, cond, List, [], ◌∷◌, length, refl, sym, ap, subst, ◌∙◌, ◌⊎◌, inl, inr, arith, Option, Some, None, Result, Ok, Err, IfOk, IfErr, IfSome, is_ok, is_some, ◌↔◌, option_map, Contains, result_ok, is_utf8, nat_cmp, is_eq, slice_cmp, is_at, lookup, cow_str_bytes, IsBorrowedStr, false≢true, true≢false, cases_order, same_Some, slice_get_within, slice_get_read, get_or_from_slice_get, decode_sized, FromHexError, Version, Algorithm, Checksum, LineFault, NotUtf8, ByteOrderMark, BadChecksum, NoPath, ListedTwice, AreBlanks, has_mark, begins_with, lines, GoodPath, is_good, Spells, decode, has_coded, size_of, checksum_of, IsEntry, LineIs, as_manifest, ListsOn, LineLists, Lists, IsManifest, AscendingPaths, sum_text, path_text, IsReached, ManifestFault, FailsAs, Gives, Entries, checksum_in, path_spelled, entry_of, manifest_of, is_owned, entry_in, entries_in, paths_of, HasEntry, HasPath, listing_at, is_path_listed, named_line_fault}
-use Rattle.std.specs.Prelude.{map}
-use Rattle.std.specs.Global.{Global}
-use Rattle.std.specs.declared.borrow.CowStr.{CowStr}
-use Rattle.std.specs.declared.borrow.CowStr.TheVariants as text
-use Rattle.bag_text.specs.declared.checksum.Algorithm.TheVariants.{Sha256, Sha512}
-use Rattle.bag_text.specs.declared.listing.Listing.{Listing}
-use Rattle.bag_text.specs.declared.listing.Manifest.{Manifest}
+use Rattle.bag_text.proofs.FirstLemmas.{cases_Bool, ◌≡◌, ℕ, suc, ◌-◌, ◌<◌, Bool, true, false, cond, List, [], ◌∷◌, length, refl, sym, ap, subst, ◌∙◌, ◌⊎◌, inl, inr, arith, Option, Some, None, Result, Ok, Err, IfOk, IfErr, IfSome, is_ok, is_some, ◌↔◌, option_map, Contains, result_ok, is_utf8, nat_cmp, is_eq, slice_cmp, is_at, lookup, cow_str_bytes, IsBorrowedStr, false≢true, true≢false, cases_order, same_Some, slice_get_within, slice_get_read, get_or_from_slice_get, decode_sized, FromHexError, Version, Algorithm, Checksum, LineFault, BadChecksum, NoPath, ListedTwice, AreBlanks, has_mark, begins_with, lines, GoodPath, is_good, Spells, decode, has_coded, size_of, checksum_of, IsEntry, LineIs, as_manifest, ListsOn, LineLists, Lists, IsManifest, AscendingPaths, sum_text, path_text, IsReached, ManifestFault, FailsAs, Gives, Entries, checksum_in, path_spelled, entry_of, manifest_of, is_owned, entry_in, entries_in, paths_of, HasEntry, HasPath, listing_at, named_line_fault, map, Global, CowStr, Sha256, Sha512, Listing, never_both, same_err, good_read, spells_decoded, spelled_is_decoded, Has, contains_has, has_contains, has_map, map_has, NotUtf8, ByteOrderMark}
 use Rattle.bag_text.specs.declared.listing.LineFault.TheVariants.{BadPath, Memory}
-use Rattle.bag_text.proofs.ResultLemmas.{never_both, same_err}
 use Rattle.bag_text.specs.ManifestReading.{Entry}
-use Rattle.bag_text.proofs.PathLemmas.{good_read}
-use Rattle.bag_text.proofs.ManifestLemmas.{spells_decoded, spelled_is_decoded, looked_up}
+use Rattle.std.specs.declared.borrow.CowStr.TheVariants as text
+use Rattle.bag_text.specs.declared.listing.Manifest.{Manifest}
 use Rattle.bag_text.proofs.ManifestLineLemmas.{reads_bad_checksum, reads_no_path, reads_bad_path, entry_reads}
 use Rattle.bag_text.proofs.ManifestEntryLemmas.{At, at_same, same_path, itself}
 use Rattle.bag_text.proofs.ManifestReadLemmas.{IsSomeEntry, one_path_a_line, IsOutcome, manifest_outcome}
-use Rattle.bag_text.proofs.ElementLemmas.{Has, contains_has, has_contains, has_map, map_has}
 
 -- a text spells a path exactly where it is decoded to it
 pub spells_iff : (v : Version) (s p : List ℕ) → Spells v s p ↔ (decode v s ≡ p)
@@ -148,11 +139,8 @@ pub fault_is_refused : (v : Version) (a : Algorithm) (text : List ℕ) (fault : 
 unfolding manifest_of
 fault_is_refused v a text NotUtf8 is = rw is refl
 fault_is_refused v a text ByteOrderMark is = rw (is.0, is.1) refl
-fault_is_refused v a text (BadChecksum n) is = row_is_refused v a text (BadChecksum n) (as_row v a text (BadChecksum n) is.1.utf8 is.1.unmarked is)
-fault_is_refused v a text (NoPath n) is = row_is_refused v a text (NoPath n) (as_row v a text (NoPath n) is.1.utf8 is.1.unmarked is)
-fault_is_refused v a text (BadPath n) is = row_is_refused v a text (BadPath n) (as_row v a text (BadPath n) is.1.utf8 is.1.unmarked is)
-fault_is_refused v a text (ListedTwice n) is = row_is_refused v a text (ListedTwice n) (as_row v a text (ListedTwice n) is.1.utf8 is.1.unmarked is)
 fault_is_refused v a text Memory is = absurd is
+fault_is_refused v a text fault is = row_is_refused v a text fault (as_row v a text fault is.1.utf8 is.1.unmarked is)
 
 -- ---- the entries
 
@@ -244,12 +232,7 @@ lists_iff v a text es path checksum e = (there, back)
 -- a fault is of memory, or what reading gives
 fails : (fault : LineFault) (read : Result Entries LineFault) → FailsAs (named_line_fault fault) read → (fault ≡ Memory) ⊎ (read ≡ Err fault)
 fails Memory read e = inl refl
-fails NotUtf8 read e = inr e
-fails ByteOrderMark read e = inr e
-fails (BadChecksum n) read e = inr e
-fails (NoPath n) read e = inr e
-fails (BadPath n) read e = inr e
-fails (ListedTwice n) read e = inr e
+fails _ read e = inr e
 
 -- an entry of a manifest is one of those that were read
 contains_listed : (m : Manifest) (key : CowStr Global) (listing : Listing) → Contains m.entries.entries (key, listing) → Contains (entries_in m) (entry_in (key, listing))
@@ -319,11 +302,7 @@ module _ (v : Version) (a : Algorithm) (t : List ℕ) where
   -- a refusal is the first fault, memory aside
   pub says_refused : (r : Result Manifest LineFault) → Gives named_line_fault entries_in r (manifest_of v a t) → IfErr r (λ fault. (fault ≡ Memory) ⊎ ManifestFault v a t fault)
   says_refused (Ok m) g = tt
-  says_refused (Err fault) g = by_fault (fails fault (manifest_of v a t) g)
-    where
-      by_fault : (fault ≡ Memory) ⊎ (manifest_of v a t ≡ Err fault) → (fault ≡ Memory) ⊎ ManifestFault v a t fault
-      by_fault (inl e) = inl e
-      by_fault (inr e) = inr (refused_is_fault v a t fault e)
+  says_refused (Err fault) g = elim (fails fault (manifest_of v a t) g) [ inl e ↦ inl e | inr e ↦ inr (refused_is_fault v a t fault e) ]
 
   -- the first fault is the answer, memory aside
   pub says_fault : (r : Result Manifest LineFault) → Gives named_line_fault entries_in r (manifest_of v a t) → (fault : LineFault) → ManifestFault v a t fault → (r ≡ Err fault) ⊎ (r ≡ Err Memory)
@@ -359,11 +338,8 @@ has_found path [] key listing h is = absurd h
 has_found path (x ∷ xs) key listing (inl e) is =
     let same : is_eq (slice_cmp nat_cmp path (cow_str_bytes x.0)) ≡ true = subst (λ (q : List ℕ). is_eq (slice_cmp nat_cmp path q) ≡ true) (sym (ap (λ (y : CowStr Global × Listing). cow_str_bytes y.0) e ∙ is)) (itself path) in
     rw same refl
-has_found path (x ∷ xs) key listing (inr h) is = by_test (is_eq (slice_cmp nat_cmp path (cow_str_bytes x.0))) (has_found path xs key listing h is)
-  where
-    by_test : (t : Bool) → is_some (found path xs) ≡ true → is_some (cond t (Some x.1) (found path xs)) ≡ true
-    by_test true again = refl
-    by_test false again = again
+has_found path (x ∷ xs) key listing (inr h) is =
+    elim (cases_Bool (is_eq (slice_cmp nat_cmp path (cow_str_bytes x.0)))) [ inl e ↦ rw e refl | inr e ↦ rw e (has_found path xs key listing h is) ]
 
 -- what a manifest says of a path is an entry of it
 pub listing_is_entry : (m : Manifest) (path : List ℕ) (r : Option Listing) → r ≡ listing_at path m → IfSome r (λ listing. HasEntry m path listing.checksum listing.line)
@@ -386,7 +362,3 @@ listing_iff m path = (by_option (listing_at path m) refl, there)
 -- the same, of an answer
 pub says_path : (m : Manifest) (path : List ℕ) (b : Bool) → b ≡ is_some (listing_at path m) → (b ≡ true) ↔ HasPath m path
 says_path m path b e = let both = listing_iff m path in (λ h. both.0 (sym e ∙ h), λ h. e ∙ both.1 h)
-
--- a manifest says something of a path exactly where the path is among what was read
-pub listing_is_listed : (m : Manifest) (path : CowStr Global) → is_some (listing_at (cow_str_bytes path) m) ≡ is_path_listed (cow_str_bytes path) (entries_in m)
-listing_is_listed m path = looked_up m.entries.entries path

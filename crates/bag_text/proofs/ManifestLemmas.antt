@@ -1,11 +1,7 @@
 -- Spelled paths.
-use Rattle.bag_text.proofs.Common.{◌≡◌, ℕ, ◌+◌, ◌≤◌, Bool, true, false, cond, not, List, [], ◌∷◌, ◌++◌, length, refl, sym, ap, subst, ◌∙◌, append_assoc, Option, Some, None, list_all, position_or_len, and_parts, or_parts, prefix_len-le-length, append-nil, same_Some, Version, is_none, is_some, Result, Ok, Err, Ordering, Less, Equal, Greater, nat_cmp, match_ordering, is_eq, slice_cmp, insert_entry, is_at, lookup, cow_str_bytes, Algorithm, LineFault, ListedTwice, lines, is_utf8, path_fault, is_good, is_blank, coded_character, coded_front, has_coded, Spells, nothing, triple, itself, decode, FailsAs, next_char, Entries, entry_in, is_path_listed, entry_of, add_line_of, entries_of, named_line_fault}
-use Rattle.std.specs.Prelude.{map}
-use Rattle.std.specs.declared.borrow.CowStr.{CowStr}
-use Rattle.std.specs.Global.{Global}
-use Rattle.bag_text.specs.declared.listing.Listing.{Listing}
+use Rattle.bag_text.proofs.Common.{inl, inr, cases_Bool, ◌≡◌, ℕ, ◌+◌, ◌≤◌, true, false, cond, not, List, [], ◌∷◌, ◌++◌, length, refl, sym, ap, subst, ◌∙◌, append_assoc, Option, Some, None, list_all, position_or_len, and_parts, or_parts, prefix_len-le-length, append-nil, same_Some, Version, is_none, is_some, Result, Ok, Err, Ordering, Less, Equal, Greater, nat_cmp, match_ordering, is_eq, slice_cmp, insert_entry, is_at, lookup, cow_str_bytes, Algorithm, LineFault, ListedTwice, lines, is_utf8, path_fault, is_good, is_blank, coded_character, coded_front, has_coded, Spells, nothing, triple, itself, decode, FailsAs, next_char, Entries, entry_in, is_path_listed, entry_of, add_line_of, entries_of, named_line_fault, map, CowStr, Global, Listing}
+use Rattle.bag_text.proofs.ResultLemmas.{no_value, fails_on}
 use Rattle.bag_text.proofs.LineLemmas.{no_lines}
-use Rattle.bag_text.proofs.ResultLemmas.{fails_on}
 
 pub sum_fits : (line : List ℕ) → position_or_len is_blank line ≤ length line
 sum_fits line = prefix_len-le-length (λ b. not (is_blank b)) line
@@ -61,10 +57,6 @@ decode_none v (a ∷ b ∷ c ∷ s) e = of_code (coded_character v a b c) (sym (
     of_code (Some x) e = absurd cc
     of_code None e = absurd cc
 
-no_code : (o : Option ℕ) → is_some o ≡ false → o ≡ None
-no_code None e = refl
-no_code (Some x) e = absurd cc
-
 -- where no coded triple stands, a text spells itself
 pub plain : (v : Version) (s : List ℕ) → has_coded v s ≡ false → decode v s ≡ s
 unfolding decode
@@ -73,7 +65,7 @@ plain v (a ∷ []) e = refl
 plain v (a ∷ b ∷ []) e = refl
 plain v (a ∷ b ∷ c ∷ s) e =
     let n = or_parts (is_some (coded_character v a b c)) (has_coded v (b ∷ c ∷ s)) e in
-    by_code v a b c s ∙ ap (decode_by v a (b ∷ c ∷ s) s) (no_code (coded_character v a b c) n.0) ∙ ap (λ (t : List ℕ). a ∷ t) (plain v (b ∷ c ∷ s) n.1)
+    by_code v a b c s ∙ ap (decode_by v a (b ∷ c ∷ s) s) (no_value (coded_character v a b c) n.0) ∙ ap (λ (t : List ℕ). a ∷ t) (plain v (b ∷ c ∷ s) n.1)
 
 pub step : (before now : List ℕ) (v : Version) (s : List ℕ) (o : Option (ℕ × List ℕ)) (x : ℕ) (rest total : List ℕ) → o ≡ next_char v s → o ≡ Some (x, rest) → now ≡ before ++ x ∷ [] → before ++ decode v s ≡ total → now ++ decode v rest ≡ total
 step before now v s o x rest total e some is so_far =
@@ -105,11 +97,7 @@ inserted (e ∷ es) k v new = by_order (compare k e.0) new (λ h. inserted es k 
 
 pub looked_up : (es : List (CowStr Global × Listing)) (k : CowStr Global) → is_some (lookup (is_at (compare k)) es) ≡ is_path_listed (cow_str_bytes k) (map entry_in es)
 looked_up [] k = refl
-looked_up (e ∷ es) k = by_test (is_at (compare k) e.0) (looked_up es k)
-  where
-    by_test : (x : Bool) → is_some (lookup (is_at (compare k)) es) ≡ is_path_listed (cow_str_bytes k) (map entry_in es) → is_some (cond x (Some e.1) (lookup (is_at (compare k)) es)) ≡ is_some (cond x (Some (entry_in e).1) (lookup (is_at (slice_cmp nat_cmp (cow_str_bytes k))) (map entry_in es)))
-    by_test true again = refl
-    by_test false again = again
+looked_up (e ∷ es) k = elim (cases_Bool (is_at (compare k) e.0)) [ inl is ↦ rw is refl | inr is ↦ rw is (looked_up es k) ]
 
 pub all_read : (v : Version) (a : Algorithm) (number : ℕ) (before : Entries) (t : List ℕ) (total : Result Entries LineFault) → length t ≡ 0 → entries_of v a number before (lines t) ≡ total → total ≡ Ok before
 unfolding entries_of

@@ -1,12 +1,9 @@
 -- What one line of a manifest lists, read and as a relation.
-use Rattle.bag_text.proofs.Common.{◌≡◌, one-add, ℕ, zero, suc, ◌+◌, ◌*◌, ◌/◌, ◌%◌, Bool, true, false, cond, eqb, not, List, [], ◌∷◌, ◌++◌, length, take, drop, refl, sym, ap, subst, ◌∙◌, ◌⊎◌, inl, inr, append_assoc, Option, Some, None, Result, Ok, Err, option_map, list_any, list_all, position_or_len, result_ok, eqb-true, or_cases, or_parts, and_parts, or_from, take-append-drop, take_at, drop_at, same_Some, drop-nil, decode_sized, decode_pairs, hex_digit_value, digit_or_error, FromHexError, Version, Algorithm, Checksum, BadChecksum, NoPath, is_blank, begins_with, skip_blanks, GoodPath, is_good, Spells, has_coded, decode, size_of, checksum_of, IsEntry, sum_text, path_text, good_of, path_spelled, checksum_in, entry_of}
-use Rattle.std.specs.Prelude.{◌≢◌}
+use Rattle.bag_text.proofs.FirstLemmas.{inl, inr, cases_Bool, false_from_ne_true, ok_if, ok_unless, ◌≡◌, one-add, ℕ, zero, suc, ◌+◌, ◌*◌, ◌/◌, ◌%◌, Bool, true, false, cond, eqb, not, List, [], ◌∷◌, ◌++◌, length, take, drop, refl, sym, ap, subst, ◌∙◌, ◌⊎◌, append_assoc, Option, Some, None, Result, Ok, Err, option_map, list_any, list_all, position_or_len, result_ok, eqb-true, or_cases, or_parts, and_parts, or_from, take-append-drop, take_at, drop_at, same_Some, drop-nil, decode_sized, decode_pairs, hex_digit_value, digit_or_error, FromHexError, Version, Algorithm, Checksum, BadChecksum, NoPath, is_blank, begins_with, skip_blanks, GoodPath, is_good, Spells, has_coded, decode, size_of, checksum_of, IsEntry, sum_text, path_text, good_of, path_spelled, checksum_in, entry_of, ◌≢◌, good_read, good_again, not_empty, spells_decoded, spelled_is_decoded}
 use Rattle.hex.specs.Hex.{◌>>=◌}
-use Rattle.hex.specs.declared.error.FromHexError.TheVariants.{OddLength, InvalidStringLength}
 use Rattle.bag_text.specs.declared.listing.LineFault.TheVariants.{BadPath}
 use Rattle.bag_text.specs.ManifestReading.{Entry}
-use Rattle.bag_text.proofs.PathLemmas.{good_read, good_again, not_empty}
-use Rattle.bag_text.proofs.ManifestLemmas.{spells_decoded, spelled_is_decoded}
+use Rattle.hex.specs.declared.error.FromHexError.TheVariants.{OddLength, InvalidStringLength}
 
 -- ---- the three parts of a line
 
@@ -18,29 +15,18 @@ first_blanks (b ∷ t) = cond (is_blank b) (b ∷ first_blanks t) []
 -- a text is its blanks at the front and the rest
 blanks_then : (t : List ℕ) → t ≡ first_blanks t ++ skip_blanks t
 blanks_then [] = refl
-blanks_then (b ∷ t) = by_test (is_blank b) (blanks_then t)
-  where
-    by_test : (x : Bool) → t ≡ first_blanks t ++ skip_blanks t → b ∷ t ≡ cond x (b ∷ first_blanks t) [] ++ cond x (skip_blanks t) (b ∷ t)
-    by_test true e = ap (λ (r : List ℕ). b ∷ r) e
-    by_test false e = refl
+blanks_then (b ∷ t) =
+    elim (cases_Bool (is_blank b)) [ inl e ↦ rw e (ap (λ (r : List ℕ). b ∷ r) (blanks_then t)) | inr e ↦ rw e refl ]
 
 -- the blanks at the front are blanks
 all_blank : (t : List ℕ) → list_all is_blank (first_blanks t) ≡ true
 all_blank [] = refl
-all_blank (b ∷ t) = by_test (is_blank b) refl (all_blank t)
-  where
-    by_test : (x : Bool) → is_blank b ≡ x → list_all is_blank (first_blanks t) ≡ true → list_all is_blank (cond x (b ∷ first_blanks t) []) ≡ true
-    by_test true e rest = rw (e, rest) refl
-    by_test false e rest = refl
+all_blank (b ∷ t) = elim (cases_Bool (is_blank b)) [ inl e ↦ rw e (rw (e, all_blank t) refl) | inr e ↦ rw e refl ]
 
 -- blanks are skipped once
 skipped_twice : (t : List ℕ) → skip_blanks (skip_blanks t) ≡ skip_blanks t
 skipped_twice [] = refl
-skipped_twice (b ∷ t) = by_test (is_blank b) refl (skipped_twice t)
-  where
-    by_test : (x : Bool) → is_blank b ≡ x → skip_blanks (skip_blanks t) ≡ skip_blanks t → skip_blanks (cond x (skip_blanks t) (b ∷ t)) ≡ cond x (skip_blanks t) (b ∷ t)
-    by_test true e rest = rest
-    by_test false e rest = rw e refl
+skipped_twice (b ∷ t) = elim (cases_Bool (is_blank b)) [ inl e ↦ rw e (skipped_twice t) | inr e ↦ rw e (rw e refl) ]
 
 -- what stands after the digits begins with a blank
 blank_first : (t : List ℕ) → drop (position_or_len is_blank t) t ≢ [] → first_blanks (drop (position_or_len is_blank t) t) ≢ []
@@ -70,15 +56,11 @@ skipped (b ∷ blanks) spelled e =
 
 -- a hex digit is no blank
 is_digit : (b x : ℕ) → hex_digit_value b ≡ Some x → is_blank b ≡ false
-is_digit b x e = by_test (is_blank b) refl
+is_digit b x e = false_from_ne_true (is_blank b) (λ is. no_blank (or_cases (eqb b 32) (eqb b 9) is))
   where
     no_blank : (eqb b 32 ≡ true) ⊎ (eqb b 9 ≡ true) → ⊥
     no_blank (inl is) = let one : hex_digit_value 32 ≡ Some x = subst (λ (c : ℕ). hex_digit_value c ≡ Some x) (eqb-true b 32 is) e in absurd cc
     no_blank (inr is) = let one : hex_digit_value 9 ≡ Some x = subst (λ (c : ℕ). hex_digit_value c ≡ Some x) (eqb-true b 9 is) e in absurd cc
-
-    by_test : (t : Bool) → is_blank b ≡ t → is_blank b ≡ false
-    by_test true is = absurd (no_blank (or_cases (eqb b 32) (eqb b 9) is))
-    by_test false is = is
 
 -- what is read of two digits and of those after them
 abbrev pair_by : ℕ → ℕ → ℕ → Option ℕ → Option ℕ → Result (List ℕ) FromHexError → Result (List ℕ) FromHexError
@@ -96,10 +78,8 @@ record PairRead (first second : Option ℕ) (rest : Result (List ℕ) FromHexErr
 
 -- what was read of two digits
 pair_parts : (h l i : ℕ) (first second : Option ℕ) (rest : Result (List ℕ) FromHexError) (c : List ℕ) → pair_by h l i first second rest ≡ Ok c → PairRead first second rest
-pair_parts h l i None second rest c e = absurd cc
-pair_parts h l i (Some x) None rest c e = absurd cc
-pair_parts h l i (Some x) (Some y) (Err f) c e = absurd cc
 pair_parts h l i (Some x) (Some y) (Ok bytes) c e = record { x = x; y = y; bytes = bytes; is_first = refl; is_second = refl; others = refl }
+pair_parts h l i _ _ _ c e = absurd cc
 
 -- what is read as pairs of digits has no blank
 pairs_no_blank : (i : ℕ) (s c : List ℕ) → decode_pairs i s ≡ Ok c → list_any is_blank s ≡ false
@@ -112,12 +92,9 @@ pairs_no_blank i (h ∷ l ∷ s) c e =
 
 -- no blank stands in the digits of a checksum
 digits_no_blank : (digits : List ℕ) (n : ℕ) (c : List ℕ) → decode_sized digits n ≡ Ok c → list_any is_blank digits ≡ false
-digits_no_blank digits n c e = by_tests (eqb (length digits % 2) 1) (eqb (length digits / 2) n) e
-  where
-    by_tests : (odd sized : Bool) → cond odd (Err OddLength) (cond sized (decode_pairs 0 digits) (Err InvalidStringLength)) ≡ Ok c → list_any is_blank digits ≡ false
-    by_tests true sized e = absurd cc
-    by_tests false true e = pairs_no_blank 0 digits c e
-    by_tests false false e = absurd cc
+digits_no_blank digits n c e =
+    let even = ok_unless (eqb (length digits % 2) 1) OddLength (cond (eqb (length digits / 2) n) (decode_pairs 0 digits) (Err InvalidStringLength)) c e in
+    pairs_no_blank 0 digits c (ok_if (eqb (length digits / 2) n) (decode_pairs 0 digits) InvalidStringLength c even.1).1
 
 -- ---- the parts of an entry's line
 

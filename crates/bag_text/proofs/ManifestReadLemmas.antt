@@ -1,13 +1,9 @@
 -- Reading the lines of a manifest, against what they list.
-use Rattle.bag_text.proofs.Common.{◌≡◌, ℕ, ◌+◌, ◌<◌, Bool, true, false, cond, not, List, [], ◌∷◌, ◌++◌, length, refl, sym, ap, subst, ◌∙◌, ◌⊎◌, inl, inr, arith, append_assoc, Option, Some, None, Result, Ok, Err, is_ok, option_map, list_all, result_ok, is_utf8, insert_entry, nat_cmp, slice_cmp, false≢true, append-nil, length_push, decode_sized, FromHexError, Version, Algorithm, Checksum, LineFault, NotUtf8, ByteOrderMark, BadChecksum, NoPath, ListedTwice, is_blank, AreBlanks, has_mark, begins_with, lines, GoodPath, is_good, Spells, decode, has_coded, size_of, checksum_of, IsEntry, LineIs, as_manifest, ListsOn, IsSoundBefore, AscendingPaths, sum_text, path_text, IsReached, ManifestFault, ◌>>=◌, Entries, checksum_in, path_spelled, entry_of, is_path_listed, add_line_of, entries_of, manifest_of}
+use Rattle.bag_text.proofs.FirstLemmas.{◌≡◌, ℕ, ◌+◌, ◌<◌, Bool, true, false, cond, not, List, [], ◌∷◌, ◌++◌, length, refl, sym, ap, subst, ◌∙◌, ◌⊎◌, inl, inr, arith, append_assoc, Option, Some, None, Result, Ok, Err, is_ok, option_map, list_all, result_ok, is_utf8, insert_entry, nat_cmp, slice_cmp, false≢true, append-nil, length_push, decode_sized, FromHexError, Version, Algorithm, Checksum, LineFault, BadChecksum, NoPath, ListedTwice, is_blank, AreBlanks, has_mark, begins_with, lines, GoodPath, is_good, Spells, decode, has_coded, size_of, checksum_of, IsEntry, LineIs, as_manifest, ListsOn, IsSoundBefore, AscendingPaths, sum_text, path_text, IsReached, ManifestFault, ◌>>=◌, Entries, checksum_in, path_spelled, entry_of, is_path_listed, add_line_of, entries_of, manifest_of, ok_is, good_again, spells_decoded, spelled_is_decoded, Has, NotUtf8, ByteOrderMark}
 use Rattle.bag_text.specs.declared.listing.LineFault.TheVariants.{BadPath}
 use Rattle.bag_text.specs.ManifestReading.{Entry}
-use Rattle.bag_text.proofs.ResultLemmas.{ok_is}
-use Rattle.bag_text.proofs.PathLemmas.{good_again}
-use Rattle.bag_text.proofs.ManifestLemmas.{spells_decoded, spelled_is_decoded}
 use Rattle.bag_text.proofs.ManifestLineLemmas.{LineView, bad_checksum, no_path, bad_path, sound, line_view, reads_bad_checksum, reads_no_path, reads_bad_path, reads_sound, EntryRead, sound_entry, blank_is_no_entry, entry_digits, entry_spelled}
 use Rattle.bag_text.proofs.ManifestEntryLemmas.{At, at_front, at_within, at_back, at_last, at_push, listed_has, has_listed, put_new, put_old, put_cases, put_ascends, paths_in}
-use Rattle.bag_text.proofs.ElementLemmas.{Has}
 
 -- some path and checksum that a line lists
 abbrev pub IsSomeEntry : Version → Algorithm → List ℕ → Type 0

@@ -1,9 +1,7 @@
 -- A number that is read is the number that is spelled, up to the byte that stops it.
-use Rattle.bag_text.proofs.Common.{◌≡◌, ℕ, ◌+◌, ◌-◌, ◌*◌, ◌/◌, ◌%◌, ◌^◌, ◌<◌, ◌≤◌, Bool, true, false, cond, eqb, ltb, leb, ◌&&◌, List, [], ◌∷◌, ◌++◌, refl, sym, ap, subst, ◌∙◌, arith, append_assoc, decimal, nat_tests, eqb-true, append-nil, Short, Bad, digits_at, number_at}
-use Rattle.std.proofs.Common.{Ok, Err}
-use Rattle.std.specs.Char.{is_ascii_digit}
+use Rattle.bag_text.proofs.Common.{◌≡◌, ℕ, ◌+◌, ◌-◌, ◌*◌, ◌/◌, ◌%◌, ◌^◌, ◌<◌, ◌≤◌, Bool, true, false, cond, eqb, ltb, leb, ◌&&◌, List, [], ◌∷◌, ◌++◌, refl, sym, ap, subst, ◌∙◌, arith, append_assoc, decimal, nat_tests, eqb-true, append-nil, Short, Bad, digits_at, number_at, Ok, Err, is_ascii_digit}
+use Rattle.bag_text.proofs.ResultLemmas.{ok_if, ok_is}
 use Rattle.std.proofs.lemmas.Fmt.{decimal_digit, decimal_step, decimal_by_steps}
-use Rattle.bag_text.proofs.ResultLemmas.{ok_is}
 
 -- one more digit
 pub push_digit : (n b : ℕ) → 0 < n → n * 10 + (b - 48) < 2 ^ 64 → is_ascii_digit b ≡ true → decimal (n * 10 + (b - 48)) ≡ decimal n ++ b ∷ []
@@ -144,15 +142,12 @@ one_digit b low high =
 pub number_ok : (stop least most : ℕ) → most < 2 ^ 32 → 9 ≤ most → (t : List ℕ) (m : ℕ) (rest : List ℕ) → number_at stop least most t ≡ Ok (m, rest) → (t ≡ decimal m ++ stop ∷ rest) × InBounds least most m
 unfolding number_at
 number_ok stop least most small nine [] m rest e = absurd cc
-number_ok stop least most small nine (b ∷ t) m rest e = by_start (may_start least b) refl e
-  where
-    by_start : (x : Bool) → may_start least b ≡ x → cond x (digits_at stop most (b - 48) t) (Err Bad) ≡ Ok (m, rest) → (b ∷ t ≡ decimal m ++ stop ∷ rest) × InBounds least most m
-    by_start true is h =
-        let d = first_digit least b is in
-        let r = digits_ok stop most (b - 48) t m rest small (let k = d.1 in omega arith) h in
-        let spelled : decimal m ≡ b ∷ r.0 = r.2.spelled ∙ ap (λ (ds : List ℕ). ds ++ r.0) (one_digit b d.0 d.1) in
-        (ap (λ (x : List ℕ). b ∷ x) r.1 ∙ ap (λ (x : List ℕ). x ++ stop ∷ rest) (sym spelled), record { low = (let j = r.2.low in let k = d.2 in omega arith); high = r.2.high })
-    by_start false is h = absurd cc
+number_ok stop least most small nine (b ∷ t) m rest e =
+    let start = ok_if (may_start least b) (digits_at stop most (b - 48) t) Bad (m, rest) e in
+    let d = first_digit least b start.0 in
+    let r = digits_ok stop most (b - 48) t m rest small (let k = d.1 in omega arith) start.1 in
+    let spelled : decimal m ≡ b ∷ r.0 = r.2.spelled ∙ ap (λ (ds : List ℕ). ds ++ r.0) (one_digit b d.0 d.1) in
+    (ap (λ (x : List ℕ). b ∷ x) r.1 ∙ ap (λ (x : List ℕ). x ++ stop ∷ rest) (sym spelled), record { low = (let j = r.2.low in let k = d.2 in omega arith); high = r.2.high })
 
 pub number_short : (stop least most : ℕ) → most < 2 ^ 32 → 9 ≤ most → least ≤ 1 → (t : List ℕ) → number_at stop least most t ≡ Err Short → (m : ℕ) × (more : List ℕ) × (t ++ more ≡ decimal m) × InBounds least most m
 unfolding number_at

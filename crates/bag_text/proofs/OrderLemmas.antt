@@ -1,10 +1,6 @@
 -- The order of paths, and what a search finds in a list of files that ascends.
-use Rattle.bag_text.proofs.Common.{◌≡◌, ℕ, zero, suc, ◌<◌, ◌≤◌, ◌≢◌, Bool, true, false, cond, eqb, ltb, not, ◌&&◌, ◌||◌, List, [], ◌∷◌, ◌++◌, length, get_or, take, drop, map, refl, sym, ap, subst, ◌∙◌, arith, Option, Some, None, option_map, find, bytes_eq, nat_eq, slice_get, Contains, is_some, IsNone, MatchOption, list_any, AllWithin, HoldsAt, starts_with, nat_cmp, is_lt, is_eq, ordering_then, ordering_reverse, Ordering, Less, Equal, Greater, slice_cmp, and_right, nat_tests, take-append-drop, bytes_eq-Decides, comes_before, File, Ascends, content_at, file_of, files_of, IsPlaceOf}
-use Rattle.std.proofs.Common.{◌↔◌}
+use Rattle.bag_text.proofs.Common.{ltb-true, ltb-false, eqb-true, eqb-false, inl, inr, cases_Bool, false_from_ne_true, false≢true, ◌≡◌, ℕ, zero, suc, ◌<◌, ◌≤◌, ◌≢◌, Bool, true, false, cond, eqb, ltb, not, ◌&&◌, List, [], ◌∷◌, ◌++◌, length, get_or, take, drop, map, refl, sym, ap, subst, ◌∙◌, arith, Option, Some, None, option_map, find, bytes_eq, eqb as nat_eq, slice_get, Contains, is_some, IsNone, MatchOption, list_any, AllWithin, HoldsAt, starts_with, nat_cmp, is_lt, is_eq, ordering_then, ordering_reverse, Ordering, Less, Equal, Greater, slice_cmp, and_right, nat_tests, take-append-drop, bytes_eq-Decides, comes_before, File, Ascends, content_at, file_of, files_of, IsPlaceOf, ◌↔◌, nat_list_cmp_total, is_eq-slice_cmp, Bor}
 use Rattle.std.specs.List.Sorted.{IsPartitionedBy}
-use Rattle.std.proofs.lemmas.Cmp.{nat_list_cmp_total}
-use Rattle.std.proofs.lemmas.Map.Text.{is_eq-slice_cmp}
-use denote.Ref.{Bor}
 
 -- ---- the order of two paths
 
@@ -41,8 +37,7 @@ then x y o = ordering_then (nat_cmp x y) o
 
 regroup : (o p q : Ordering) → ordering_then o (ordering_then p q) ≡ ordering_then (ordering_then o p) q
 regroup Less p q = refl
-regroup Equal p q = refl
-regroup Greater p q = refl
+regroup _ p q = refl
 
 -- What has as many bytes decides, and else what follows.
 pub cmp_append : (a b rest tail : List ℕ) → length a ≡ length b → path_cmp (a ++ rest) (b ++ tail) ≡ ordering_then (path_cmp a b) (path_cmp rest tail)
@@ -60,29 +55,14 @@ not_longer (x ∷ a) (y ∷ b) e = by_first (ltb x y) (eqb x y) (ltb y x) (eqb y
   where
     by_first : (lt eq gt qe : Bool) → ltb x y ≡ lt → eqb x y ≡ eq → ltb y x ≡ gt → eqb y x ≡ qe → comes_before a (b ++ 47 ∷ []) ≡ not (comes_before b a)
         → is_lt (ordering_then (cond lt Less (cond eq Equal Greater)) (path_cmp a (b ++ 47 ∷ []))) ≡ not (is_lt (ordering_then (cond gt Less (cond qe Equal Greater)) (path_cmp b a)))
-    by_first true eq true qe l e g q again = absurd (clash x y l g)
-      where
-        clash : (x y : ℕ) → ltb x y ≡ true → ltb y x ≡ true → ⊥
-        clash x y l g = grind (arith, nat_tests)
-    by_first true eq false true l e g q again = absurd (clash x y l q)
-      where
-        clash : (x y : ℕ) → ltb x y ≡ true → eqb y x ≡ true → ⊥
-        clash x y l q = grind (arith, nat_tests)
+    by_first true eq true qe l e g q again = let under = ltb-true _ _ l in let over = ltb-true _ _ g in absurd (omega arith)
+    by_first true eq false true l e g q again = let under = ltb-true _ _ l in let same = eqb-true _ _ q in absurd (omega arith)
     by_first true eq false false l e g q again = refl
-    by_first false true true qe l e g q again = absurd (clash x y e g)
-      where
-        clash : (x y : ℕ) → eqb x y ≡ true → ltb y x ≡ true → ⊥
-        clash x y e g = grind (arith, nat_tests)
+    by_first false true true qe l e g q again = let same = eqb-true _ _ e in let over = ltb-true _ _ g in absurd (omega arith)
     by_first false true false true l e g q again = again
-    by_first false true false false l e g q again = absurd (clash x y e q)
-      where
-        clash : (x y : ℕ) → eqb x y ≡ true → eqb y x ≡ false → ⊥
-        clash x y e q = grind (arith, nat_tests)
+    by_first false true false false l e g q again = absurd (eqb-false _ _ q (sym (eqb-true _ _ e)))
     by_first false false true qe l e g q again = refl
-    by_first false false false qe l e g q again = absurd (clash x y l e g)
-      where
-        clash : (x y : ℕ) → ltb x y ≡ false → eqb x y ≡ false → ltb y x ≡ false → ⊥
-        clash x y l e g = grind (arith, nat_tests)
+    by_first false false false qe l e g q again = let up = ltb-false _ _ l in let down = ltb-false _ _ g in absurd (eqb-false _ _ e (omega arith))
 
 -- A longer path comes before what lies in a folder as its front decides, and else what follows.
 pub longer : (path folder front rest : List ℕ) (o : Ordering) → front ≡ take (length folder) path → rest ≡ drop (length folder) path → length front ≡ length folder → path_cmp front folder ≡ o
@@ -180,11 +160,8 @@ module _ {X : Type 0} (g : X → File) where
   none_behind q test at b [] up e h = refl
   none_behind q test at b (x ∷ xs) up e h =
       let not_it = at.high b (g x).path e h up.0 in
-      rw not_it (none_behind q test at (g x).path xs up.1 (by_place (comes_before (g x).path q) refl) not_it)
-    where
-      by_place : (r : Bool) → comes_before (g x).path q ≡ r → r ≡ false
-      by_place false is = refl
-      by_place true is = absurd (let k = before_chain b (g x).path q up.0 is in let j = sym e ∙ k in cc)
+      let behind = false_from_ne_true (comes_before (g x).path q) (λ is. false≢true (sym e ∙ before_chain b (g x).path q up.0 is)) in
+      rw not_it (none_behind q test at (g x).path xs up.1 behind not_it)
 
   -- What a search for the first place that isn't before q finds is what a search through the whole list finds.
   pub found_at : (q : List ℕ) (test : List ℕ → Bool) → StandsAt q test → (before : List ℕ) (xs : List X) → Ascends before (map g xs) → (n : ℕ)
@@ -202,11 +179,8 @@ module _ {X : Type 0} (g : X → File) where
 
 -- texts that differ do so the other way round
 pub other_way : (x y : List ℕ) → bytes_eq y x ≡ false → bytes_eq x y ≡ false
-other_way x y e = by_test (bytes_eq x y) refl
-  where
-    by_test : (r : Bool) → bytes_eq x y ≡ r → r ≡ false
-    by_test false is = refl
-    by_test true is = absurd (let same = (bytes_eq-Decides x y).0 is in let k = sym e ∙ (bytes_eq-Decides y x).1 (sym same) in cc)
+other_way x y e =
+    false_from_ne_true (bytes_eq x y) (λ is. false≢true (sym e ∙ (bytes_eq-Decides y x).1 (sym ((bytes_eq-Decides x y).0 is))))
 
 -- a path stands where those before it end
 pub path_stands : {X : Type 0} (g : X → File) (q : List ℕ) → StandsAt g q (λ path. bytes_eq path q)
@@ -242,11 +216,7 @@ content_is files path n r up point at =
 -- a test passes where it finds something
 any_is_found : {A : Type 0} (test : A → Bool) (xs : List A) → list_any test xs ≡ is_some (find test xs)
 any_is_found test [] = refl
-any_is_found test (x ∷ xs) = by_test (test x) (any_is_found test xs)
-  where
-    by_test : (r : Bool) → list_any test xs ≡ is_some (find test xs) → (r || list_any test xs) ≡ is_some (cond r (Some x) (find test xs))
-    by_test true again = refl
-    by_test false again = again
+any_is_found test (x ∷ xs) = elim (cases_Bool (test x)) [ inl is ↦ rw is refl | inr is ↦ rw is (any_is_found test xs) ]
 
 -- What stands where the paths before a text end decides whether a path begins with it.
 pub begins_is : (files : List (Bor (List ℕ) × Bor (List ℕ))) (q : List ℕ) (n : ℕ) (r : Option (Bor (Bor (List ℕ) × Bor (List ℕ)))) → Ascends [] (files_of files)
@@ -321,8 +291,4 @@ none_copied (Some x) o e = ap is_some e
 
 -- what is found passes the test
 pub found_is : (x : Bor (List ℕ) × Bor (List ℕ)) (q : List ℕ) → is_some (tried file_of (λ p. starts_with nat_eq p q) (Some x)) ≡ starts_with nat_eq x.0.now q
-found_is x q = by_test (starts_with nat_eq x.0.now q)
-  where
-    by_test : (r : Bool) → is_some (cond r (Some (file_of x)) None) ≡ r
-    by_test true = refl
-    by_test false = refl
+found_is x q = elim (cases_Bool (starts_with nat_eq x.0.now q)) [ inl is ↦ rw is refl | inr is ↦ rw is refl ]

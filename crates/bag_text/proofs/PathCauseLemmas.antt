@@ -1,12 +1,8 @@
 -- A cause is found exactly where a path isn't good.
-use Rattle.bag_text.proofs.Common.{◌≡◌, ℕ, Bool, true, false, cond, List, [], ◌∷◌, length, refl, sym, ap, subst, ◌∙◌, not, Option, Some, None, IsSome, codes, bytes_eq, find, ◌↔◌, ◌==◌, inl, inr, list_any, is_utf8, false≢true, or_parts, or_from, Version, V0_97, same_Some, is_some, begins_with, GoodPath, segments, IsNoGoodPath, Spells, nothing, triple, itself, coded_character, coded_front, decode, has_coded}
-use Rattle.std.specs.Prelude.{◌||◌, ◌⊎◌}
-use Rattle.std.specs.Prelude.{◌&&◌}
+use Rattle.bag_text.proofs.FirstLemmas.{◌≡◌, ℕ, Bool, true, false, cond, List, [], ◌∷◌, length, refl, sym, ap, subst, ◌∙◌, not, Option, Some, None, IsSome, codes, bytes_eq, find, ◌↔◌, ◌==◌, inl, inr, list_any, is_utf8, false≢true, or_parts, or_from, Version, V0_97, same_Some, is_some, begins_with, GoodPath, segments, IsNoGoodPath, Spells, nothing, triple, itself, coded_character, coded_front, decode, has_coded, ◌||◌, ◌⊎◌, ◌&&◌, spells_decoded, spelled_is_decoded, no_fault, none_rows, not_empty, rows_none, without_fault}
 use Rattle.bag_text.specs.declared.causes.PathCause.{PathCause}
 use Rattle.bag_text.specs.declared.causes.PathCause.TheVariants.{NotUtf8, TooLong, EmptySegment, DotSegment, DotDotSegment, Nul}
 use Rattle.bag_text.specs.PathCauses.{own_causes, stands_for}
-use Rattle.bag_text.proofs.ManifestLemmas.{spells_decoded, spelled_is_decoded}
-use Rattle.bag_text.proofs.PathLemmas.{no_fault, none_rows, not_empty, rows_none, without_fault}
 
 -- ---- no segment passes either of two tests exactly where none passes the first and none the second
 
@@ -49,13 +45,8 @@ no_cause path e = by_tests (is_utf8 path) (stands_for [] path TooLong) (stands_f
   where
     by_tests : (a b c d f g : Bool) → is_utf8 path ≡ a → stands_for [] path TooLong ≡ b → stands_for [] path EmptySegment ≡ c → stands_for [] path DotSegment ≡ d → stands_for [] path DotDotSegment ≡ f → stands_for [] path Nul ≡ g
         → cond (not a) (Some NotUtf8) (cond b (Some TooLong) (cond c (Some EmptySegment) (cond d (Some DotSegment) (cond f (Some DotDotSegment) (cond g (Some Nul) None))))) ≡ None → NoCause path
-    by_tests false b c d f g p q r s t u e = absurd cc
-    by_tests true true c d f g p q r s t u e = absurd cc
-    by_tests true false true d f g p q r s t u e = absurd cc
-    by_tests true false false true f g p q r s t u e = absurd cc
-    by_tests true false false false true g p q r s t u e = absurd cc
-    by_tests true false false false false true p q r s t u e = absurd cc
     by_tests true false false false false false p q r s t u e = record { utf8 = p; short = q; full = r; no_dot = s; no_dot_dot = t; no_nul = u }
+    by_tests _ _ _ _ _ _ p q r s t u e = absurd cc
 
 -- an empty path has an empty segment
 some_path : (path : List ℕ) → stands_for [] path EmptySegment ≡ false → (length path == 0) ≡ false
@@ -126,29 +117,17 @@ free_first x is (b ∷ []) = refl
 free_first x (inl is) (b ∷ c ∷ path) = rw is refl
 free_first x (inr is) (b ∷ c ∷ path) = rw is refl
 
+none_coded : (p : Bool) → ◌≡◌ {A = Option ℕ} (cond p None None) None
+none_coded true = refl
+none_coded false = refl
+
 free_second : (a x : ℕ) → (x ≡ 10) ⊎ (x ≡ 13) → (path : List ℕ) → IsFree (a ∷ x ∷ path)
 free_second a x is [] = refl
-free_second a x (inl is) (c ∷ path) = rw is (by_test (not (a == 37)))
-  where
-    by_test : (p : Bool) → ◌≡◌ {A = Option ℕ} (cond p None None) None
-    by_test true = refl
-    by_test false = refl
-free_second a x (inr is) (c ∷ path) = rw is (by_test (not (a == 37)))
-  where
-    by_test : (p : Bool) → ◌≡◌ {A = Option ℕ} (cond p None None) None
-    by_test true = refl
-    by_test false = refl
+free_second a x (inl is) (c ∷ path) = rw is (none_coded (not (a == 37)))
+free_second a x (inr is) (c ∷ path) = rw is (none_coded (not (a == 37)))
 
 free_third : (a b x : ℕ) → (x ≡ 10) ⊎ (x ≡ 13) → (path : List ℕ) → IsFree (a ∷ b ∷ x ∷ path)
-free_third a b x (inl is) path = rw is (by_tests (not (a == 37)) (b == 48) (b == 50))
-  where
-    by_tests : (p q r : Bool) → ◌≡◌ {A = Option ℕ} (cond p None (cond (q && false) (Some 10) (cond (q && false) (Some 13) (cond (r && false) None None)))) None
-    by_tests true q r = refl
-    by_tests false true true = refl
-    by_tests false true false = refl
-    by_tests false false true = refl
-    by_tests false false false = refl
-free_third a b x (inr is) path = rw is (by_tests (not (a == 37)) (b == 48) (b == 50))
+free_third a b x is path = elim is [ inl is ↦ rw is (by_tests (not (a == 37)) (b == 48) (b == 50)) | inr is ↦ rw is (by_tests (not (a == 37)) (b == 48) (b == 50)) ]
   where
     by_tests : (p q r : Bool) → ◌≡◌ {A = Option ℕ} (cond p None (cond (q && false) (Some 10) (cond (q && false) (Some 13) (cond (r && false) None None)))) None
     by_tests true q r = refl

@@ -1,6 +1,5 @@
 -- Good paths.
-use Rattle.bag_text.proofs.Common.{◌≡◌, ℕ, suc, zero, Bool, true, false, cond, eqb, ltb, List, [], ◌∷◌, length, refl, sym, ap, subst, ◌∙◌, arith, ◌≢◌, Some, None, is_none, codes, bytes_eq, Contains, IsUtf8, ◌↔◌, list_any, is_utf8, ltb-false, or_parts, or_from, and_parts, and_from, false_from_ne_true, nat_tests, bytes_eq-Decides, is_utf8-from_IsUtf8, GoodPath, is_good, path_fault, path_has, segments, is_dots_of, max_path}
-use Rattle.bag_text.specs.declared.path.PathFault.{PathFault}
+use Rattle.bag_text.proofs.Common.{◌≡◌, ℕ, suc, zero, Bool, true, false, cond, eqb, ltb, List, [], ◌∷◌, length, refl, sym, ap, subst, ◌∙◌, arith, ◌≢◌, Some, None, is_none, codes, bytes_eq, Contains, IsUtf8, ◌↔◌, list_any, is_utf8, ltb-false, or_parts, or_from, and_parts, and_from, false_from_ne_true, nat_tests, bytes_eq-Decides, is_utf8-from_IsUtf8, GoodPath, is_good, path_fault, path_has, segments, is_dots_of, max_path, PathFault}
 use Rattle.bag_text.specs.declared.path.PathFault.TheVariants.{Empty, TooLong, EmptySegment, DotSegment, Nul}
 use Rattle.bag_text.proofs.ResultLemmas.{is_nothing}
 
@@ -28,12 +27,8 @@ rows_none path e = by_rows (path_has path Empty) (path_has path TooLong) (path_h
   where
     by_rows : (a b c d f : Bool) → path_has path Empty ≡ a → path_has path TooLong ≡ b → path_has path EmptySegment ≡ c → path_has path DotSegment ≡ d → path_has path Nul ≡ f
         → cond a (Some Empty) (cond b (Some TooLong) (cond c (Some EmptySegment) (cond d (Some DotSegment) (cond f (Some Nul) None)))) ≡ None → NoRow path
-    by_rows true b c d f p q r s t e = absurd cc
-    by_rows false true c d f p q r s t e = absurd cc
-    by_rows false false true d f p q r s t e = absurd cc
-    by_rows false false false true f p q r s t e = absurd cc
-    by_rows false false false false true p q r s t e = absurd cc
     by_rows false false false false false p q r s t e = record { some = p; short = q; full = r; no_dots = s; no_nul = t }
+    by_rows _ _ _ _ _ p q r s t e = absurd cc
 
 pub none_rows : (path : List ℕ) → NoRow path → path_fault path ≡ None
 none_rows path h = rw (h.some, h.short, h.full, h.no_dots, h.no_nul) refl

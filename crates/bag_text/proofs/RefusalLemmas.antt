@@ -1,8 +1,5 @@
 -- A row of the table that stands is the fault that reading gives.
-use Rattle.bag_text.proofs.Common.{◌≡◌, ℕ, zero, suc, ◌+◌, ◌-◌, ◌<◌, ◌≤◌, ◌≢◌, ◌⊎◌, inl, inr, true, false, cond, eqb, ltb, not, List, [], ◌∷◌, ◌++◌, length, refl, sym, ap, subst, ◌∙◌, arith, append_assoc, flat_map, AllByRecursion, nat_tests, lt-ltb, le-ltb, append-nil, take_at, drop_at, length-append, Flaw, Short, Bad, SetFault, BadOpening, BadEntry, Truncated, OutOfOrder, BadPath, TooManyFiles, TrailingBytes, PathClash, Memory, is_good, comes_before, File, Head, header, entry, opening, ending, set_text, max_files, Ascends, clashes, Fits, IsBag, BeginsWith, IsProperBeginning, IsOpening, IsEndOrHeader, IsHeaded, EntryFault, PlaceFault, last_path, GoOn, FaultIs, Place, End, Entry, literal_at, place_at, file_at, result_at, entry_at, files_at, after_opening, set_of}
-use Rattle.std.proofs.Common.{Result, Ok, Err}
-use Rattle.bag_text.proofs.ResultLemmas.{same_ok, same_err, never_both}
-use Rattle.bag_text.proofs.HeaderLemmas.{literal_ok, literal_again, literal_ends, literal_bad}
+use Rattle.bag_text.proofs.FirstLemmas.{◌≡◌, ℕ, zero, suc, ◌+◌, ◌-◌, ◌<◌, ◌≤◌, ◌≢◌, ◌⊎◌, inl, inr, true, false, cond, eqb, ltb, not, List, [], ◌∷◌, ◌++◌, length, refl, sym, ap, subst, ◌∙◌, arith, append_assoc, flat_map, AllByRecursion, nat_tests, lt-ltb, le-ltb, append-nil, take_at, drop_at, length-append, Flaw, Short, Bad, SetFault, BadOpening, BadEntry, Truncated, OutOfOrder, BadPath, TooManyFiles, TrailingBytes, PathClash, is_good, comes_before, File, Head, header, entry, opening, ending, set_text, max_files, Ascends, clashes, Fits, IsBag, BeginsWith, IsProperBeginning, IsOpening, IsEndOrHeader, IsHeaded, EntryFault, PlaceFault, last_path, GoOn, FaultIs, Place, End, Entry, literal_at, place_at, file_at, result_at, entry_at, files_at, after_opening, set_of, Result, Ok, Err, same_ok, same_err, never_both, literal_ok, literal_again, literal_ends, literal_bad}
 use Rattle.bag_text.proofs.FormLemmas.{place_ok, place_header, end_trails, entry_again, files_again, set_ok, set_again}
 use Rattle.bag_text.proofs.FaultLemmas.{sized, fit, place_end, short_place, bad_place}
 use Rattle.bag_text.proofs.SetLemmas.{at_fault, at_file}
@@ -127,11 +124,7 @@ file_refused offset before head (BadPath n) (at, (path, content, more, pl, cl, i
     entry_judged offset before path content 10 more head.path_len head.content_len head.rest pl cl is ∙ rw (at, bad) refl
 file_refused offset before head (OutOfOrder n) (at, (path, content, more, pl, cl, is, good, order)) =
     entry_judged offset before path content 10 more head.path_len head.content_len head.rest pl cl is ∙ rw (at, good, order) refl
-file_refused offset before head BadOpening h = absurd h
-file_refused offset before head TooManyFiles h = absurd h
-file_refused offset before head TrailingBytes h = absurd h
-file_refused offset before head PathClash h = absurd h
-file_refused offset before head Memory h = absurd h
+file_refused offset before head _ h = absurd h
 
 -- ---- a fault at an entry's place
 
@@ -162,11 +155,7 @@ entry_refused offset left before t (BadEntry n) (inl (at, begins, proper)) = let
 entry_refused offset left before t (BadEntry n) (inr (head, is, lt, h)) = header_refused offset left before t head (BadEntry n) is lt h
 entry_refused offset left before t TooManyFiles (full, (head, is)) = rw full (too_many offset before t head is)
 entry_refused offset left before t TrailingBytes (more, some, is) = trails offset left before t more some is
-entry_refused offset left before t (BadPath n) (head, is, lt, h) = header_refused offset left before t head (BadPath n) is lt h
-entry_refused offset left before t (OutOfOrder n) (head, is, lt, h) = header_refused offset left before t head (OutOfOrder n) is lt h
-entry_refused offset left before t BadOpening (head, is, lt, h) = absurd h
-entry_refused offset left before t PathClash (head, is, lt, h) = absurd h
-entry_refused offset left before t Memory (head, is, lt, h) = absurd h
+entry_refused offset left before t f h = header_refused offset left before t h.0 f h.1 h.2 h.3
 
 -- A fault after files without fault is the one that reading them all gives.
 files_refused : (whole : ℕ) (fs : List File) (left : ℕ) (before rest : List ℕ) (f : SetFault) → length fs ≤ left → AllByRecursion Fits fs → Ascends before fs
@@ -207,12 +196,7 @@ refuses t Truncated (inl proper) = opening_refused t Truncated (rw (opening_shor
 refuses t Truncated (inr (files, rest, on, h)) = going_refused t Truncated files rest on h
 refuses t PathClash (files, on, clash) =
     clash_refused t (flat_map entry files ++ ending) files (on.text ∙ append_assoc opening (flat_map entry files) ending) (files_again (length t) files max_files [] on.few on.each on.ascending) clash
-refuses t (BadEntry n) (files, rest, on, h) = going_refused t (BadEntry n) files rest on h
-refuses t (OutOfOrder n) (files, rest, on, h) = going_refused t (OutOfOrder n) files rest on h
-refuses t (BadPath n) (files, rest, on, h) = going_refused t (BadPath n) files rest on h
-refuses t TooManyFiles (files, rest, on, h) = going_refused t TooManyFiles files rest on h
-refuses t TrailingBytes (files, rest, on, h) = going_refused t TrailingBytes files rest on h
-refuses t Memory (files, rest, on, h) = going_refused t Memory files rest on h
+refuses t f h = going_refused t f h.0 h.1 h.2 h.3
 
 -- ---- the laws of the table
 

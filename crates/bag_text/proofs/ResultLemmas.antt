@@ -1,6 +1,5 @@
 -- Steps that may fail, one after the other, and what is answered of them.
-use Rattle.bag_text.proofs.Common.{◌≡◌, ◌⊎◌, inl, inr, true, List, [], ◌∷◌, ◌++◌, refl, sym, ap, append_assoc, Option, Some, None, Result, Ok, Err, append-nil, ◌>>=◌, FailsAs}
-use Rattle.std.proofs.Common.{is_none}
+use Rattle.bag_text.proofs.Common.{is_some, Bool, false, cond, ◌≡◌, ◌⊎◌, inl, inr, true, List, [], ◌∷◌, ◌++◌, refl, sym, ap, append_assoc, Option, Some, None, Result, Ok, Err, append-nil, ◌>>=◌, FailsAs, is_none}
 
 -- where two steps succeed each does
 pub bind_ok : {A B F : Type 0} (r : Result A F) (k : A → Result B F) (b : B) → (r >>= k) ≡ Ok b → (x : A) × (r ≡ Ok x) × (k x ≡ Ok b)
@@ -11,6 +10,32 @@ bind_ok (Err f) k b e = absurd cc
 pub bind_err : {A B F : Type 0} (r : Result A F) (k : A → Result B F) (f : F) → (r >>= k) ≡ Err f → (r ≡ Err f) ⊎ ((x : A) × (r ≡ Ok x) × (k x ≡ Err f))
 bind_err (Ok x) k f e = inr (x, refl, e)
 bind_err (Err g) k f e = inl cc
+
+-- where a test lets one answer through alone, it came out so
+pub some_if : {A : Type 0} (b : Bool) (o : Option A) (x : A) → cond b o None ≡ Some x → (b ≡ true) × (o ≡ Some x)
+some_if true o x e = (refl, e)
+some_if false o x e = absurd cc
+
+pub ok_if : {A F : Type 0} (b : Bool) (r : Result A F) (f : F) (x : A) → cond b r (Err f) ≡ Ok x → (b ≡ true) × (r ≡ Ok x)
+ok_if true r f x e = (refl, e)
+ok_if false r f x e = absurd cc
+
+pub ok_unless : {A F : Type 0} (b : Bool) (f : F) (r : Result A F) (x : A) → cond b (Err f) r ≡ Ok x → (b ≡ false) × (r ≡ Ok x)
+ok_unless true f r x e = absurd cc
+ok_unless false f r x e = (refl, e)
+
+pub err_if : {A F : Type 0} (b : Bool) (f : F) (x : A) (g : F) → cond b (Err f) (Ok x) ≡ Err g → (b ≡ true) × (f ≡ g)
+err_if true f x g e = (refl, cc)
+err_if false f x g e = absurd cc
+
+pub err_unless : {A F : Type 0} (b : Bool) (x : A) (f g : F) → cond b (Ok x) (Err f) ≡ Err g → (b ≡ false) × (f ≡ g)
+err_unless true x f g e = absurd cc
+err_unless false x f g e = (refl, cc)
+
+-- what is made of a step's value has the step's fault
+pub err_through : {A B F : Type 0} (r : Result A F) (h : A → B) (f : F) → (r >>= λ x. Ok (h x)) ≡ Err f → r ≡ Err f
+err_through (Ok x) h f e = absurd cc
+err_through (Err g) h f e = cc
 
 -- a step has one value
 pub same_ok : {A E : Type 0} (x y : A) (r : Result A E) → r ≡ Ok x → r ≡ Ok y → x ≡ y
@@ -40,6 +65,10 @@ fails_on None step total on e = tt
 fails_on (Some f) step total on e = on f e
 
 -- what is none
+pub no_value : {A : Type 0} (o : Option A) → is_some o ≡ false → o ≡ None
+no_value None e = refl
+no_value (Some x) e = absurd cc
+
 pub is_nothing : {A : Type 0} (o : Option A) → is_none o ≡ true → o ≡ None
 is_nothing None e = refl
 is_nothing (Some x) e = absurd cc

@@ -1,7 +1,5 @@
 -- Reading the transfer form.
-use Rattle.bag_text.proofs.Common.{◌≡◌, ℕ, zero, suc, ◌+◌, ◌-◌, ◌<◌, List, [], ◌∷◌, ◌++◌, length, get_or, drop, refl, sym, ap, ◌∙◌, arith, drop_more, Option, Some, None, Short, SetFault, BadOpening, BadEntry, Truncated, OutOfOrder, BadPath, TooManyFiles, TrailingBytes, PathClash, Memory, ◌>>=◌, FailsAs, literal_at, files_at, entry_at, named_set_fault, File}
-use Rattle.std.proofs.Common.{Result, Ok, Err}
-use Rattle.bag_text.proofs.ResultLemmas.{fronted, again_onto, nothing_onto}
+use Rattle.bag_text.proofs.FirstLemmas.{◌≡◌, ℕ, zero, suc, ◌+◌, ◌-◌, ◌<◌, List, [], ◌∷◌, ◌++◌, length, get_or, drop, refl, sym, ap, ◌∙◌, arith, drop_more, Option, Some, None, Short, SetFault, Memory, ◌>>=◌, FailsAs, literal_at, files_at, entry_at, named_set_fault, File, Result, Ok, Err, fronted, again_onto, nothing_onto}
 
 literal_nil : (w : List ℕ) → 0 < length w → literal_at w [] ≡ Err Short
 unfolding literal_at
@@ -55,11 +53,4 @@ ends front whole offset left before text fault total at e so_far =
   where
     is_that : (f : SetFault) → total ≡ Err f → FailsAs (named_set_fault f) total
     is_that Memory h = tt
-    is_that BadOpening h = h
-    is_that (BadEntry n) h = h
-    is_that Truncated h = h
-    is_that (OutOfOrder n) h = h
-    is_that (BadPath n) h = h
-    is_that TooManyFiles h = h
-    is_that TrailingBytes h = h
-    is_that PathClash h = h
+    is_that _ h = h

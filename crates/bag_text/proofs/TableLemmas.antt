@@ -1,14 +1,8 @@
 -- A fault that reading gives is the one of the table.
-use Rattle.bag_text.proofs.Common.{◌≡◌, ℕ, zero, suc, ◌+◌, ◌-◌, ◌<◌, ◌≤◌, ◌≢◌, inl, inr, Bool, true, false, cond, eqb, ltb, not, List, [], ◌∷◌, ◌++◌, length, get_or, take, drop, refl, sym, ap, subst, ◌∙◌, arith, append_assoc, Option, Some, None, IfErr, flat_map, AllByRecursion, nat_tests, eqb-true, ltb-true, ltb-false, append-nil, take-append-drop, length-take, length-drop, drop_more, Flaw, Short, Bad, SetFault, BadOpening, BadEntry, Truncated, OutOfOrder, BadPath, TooManyFiles, TrailingBytes, PathClash, Memory, ◌>>=◌, Gives, Place, End, Entry, literal_at, place_at, file_at, result_at, entry_at, files_at, after_opening, set_of, named_set_fault, File, Head, entry, opening, ending, max_files, Ascends, clashes, Fits, is_good, comes_before, IsHeaded, EntryFault, PlaceFault, last_path, GoOn, FaultIs}
-use Rattle.std.proofs.Common.{Result, Ok, Err}
+use Rattle.bag_text.proofs.FirstLemmas.{not-true, err_if, err_unless, err_through, never_both, ◌≡◌, ℕ, zero, suc, ◌+◌, ◌-◌, ◌<◌, ◌≤◌, ◌≢◌, inl, inr, Bool, true, false, cond, eqb, ltb, not, List, [], ◌∷◌, ◌++◌, length, get_or, take, drop, refl, sym, ap, subst, ◌∙◌, arith, append_assoc, Option, Some, None, IfErr, flat_map, AllByRecursion, nat_tests, eqb-true, ltb-true, ltb-false, append-nil, take-append-drop, length-take, length-drop, drop_more, Flaw, Short, Bad, SetFault, BadOpening, BadEntry, Truncated, OutOfOrder, BadPath, TooManyFiles, TrailingBytes, PathClash, Memory, ◌>>=◌, Gives, Place, End, Entry, literal_at, place_at, file_at, result_at, entry_at, files_at, after_opening, set_of, named_set_fault, File, Head, entry, opening, ending, max_files, Ascends, clashes, Fits, is_good, comes_before, IsHeaded, EntryFault, PlaceFault, last_path, GoOn, FaultIs, Result, Ok, Err, err_is, literal_ok, literal_again, literal_ends, literal_bad}
 use Rattle.bag_text.specs.TransferReading.{entry_of}
-use Rattle.bag_text.proofs.ResultLemmas.{err_is}
-use Rattle.bag_text.proofs.HeaderLemmas.{literal_ok, literal_again, literal_ends, literal_bad}
 use Rattle.bag_text.proofs.FormLemmas.{place_ok, entry_ok, files_ok}
 use Rattle.bag_text.proofs.FaultLemmas.{sized, short_place, bad_place}
-
-abbrev wrong : {A : Type 0} → SetFault → Result A SetFault
-wrong f = Err f
 
 pub file_fault : (offset : ℕ) (before : List ℕ) (head : Head) (f : SetFault) → file_at offset before head ≡ Err f → EntryFault offset before head f
 unfolding file_at
@@ -57,22 +51,16 @@ file_fault offset before head f e = by_length (ltb (length head.rest) (head.path
           where
             by_path : (x : Bool) → is_good path ≡ x → cond (not x) (Err (BadPath offset)) (cond (not (comes_before before path)) (Err (OutOfOrder offset)) (Ok made)) ≡ Err f → Is f
             by_path false is3 e = subst Is (err_is (BadPath offset) f e) (refl, (path, content, drop 1 behind, path_len, content_len, whole 10 (eqb-true _ _ is2), is3))
-            by_path true is3 e = by_order (comes_before before path) refl e
-              where
-                by_order : (x : Bool) → comes_before before path ≡ x → cond (not x) (Err (OutOfOrder offset)) (Ok made) ≡ Err f → Is f
-                by_order false is4 e = subst Is (err_is (OutOfOrder offset) f e) (refl, (path, content, drop 1 behind, path_len, content_len, whole 10 (eqb-true _ _ is2), is3, is4))
-                by_order true is4 e = absurd cc
+            by_path true is3 e =
+                let order = err_if (not (comes_before before path)) (OutOfOrder offset) made f e in
+                subst Is order.1 (refl, (path, content, drop 1 behind, path_len, content_len, whole 10 (eqb-true _ _ is2), is3, not-true _ order.0))
 
 of_entry : (offset left : ℕ) (before t : List ℕ) (head : Head) (f : SetFault) → IsHeaded head t → 0 < left → EntryFault offset before head f → PlaceFault offset left before t f
 of_entry offset left before t head Truncated is lt h = inr (head, is, lt, h)
 of_entry offset left before t head (BadEntry n) is lt h = inr (head, is, lt, h)
-of_entry offset left before t head (BadPath n) is lt h = (head, is, lt, h)
-of_entry offset left before t head (OutOfOrder n) is lt h = (head, is, lt, h)
-of_entry offset left before t head BadOpening is lt h = absurd h
 of_entry offset left before t head TooManyFiles is lt h = absurd h
 of_entry offset left before t head TrailingBytes is lt h = absurd h
-of_entry offset left before t head PathClash is lt h = absurd h
-of_entry offset left before t head Memory is lt h = absurd h
+of_entry offset left before t head _ is lt h = (head, is, lt, h)
 
 pub entry_fault : (offset left : ℕ) (before t : List ℕ) (f : SetFault) → entry_at offset left before t ≡ Err f → PlaceFault offset left before t f
 unfolding entry_at
@@ -82,21 +70,14 @@ entry_fault offset left before t f e = by_place left (place_at t) refl e
     by_place left (Err Short) is e = subst (λ (f : SetFault). PlaceFault offset left before t f) (err_is Truncated f e) (inl (short_place t is))
     by_place left (Err Bad) is e = let b = bad_place t is in subst (λ (f : SetFault). PlaceFault offset left before t f) (err_is (BadEntry offset) f e) (inl (refl, b.0, b.1))
     by_place left (Ok (End [])) is e = absurd cc
-    by_place left (Ok (End (b ∷ rest))) is e = by_rest (eqb (length (b ∷ rest)) 0) refl e
-      where
-        by_rest : (x : Bool) → eqb (length (b ∷ rest)) 0 ≡ x → cond x (Ok None) (wrong {A = Option (File × List ℕ)} TrailingBytes) ≡ Err f → PlaceFault offset left before t f
-        by_rest true is2 e = absurd cc
-        by_rest false is2 e = subst (λ (f : SetFault). PlaceFault offset left before t f) (err_is TrailingBytes f e) (b ∷ rest, (λ none. absurd cc), (place_ok t (End (b ∷ rest)) is).at_end (b ∷ rest) refl)
+    by_place left (Ok (End (b ∷ rest))) is e =
+        subst (λ (f : SetFault). PlaceFault offset left before t f) (err_unless (eqb (length (b ∷ rest)) 0) None TrailingBytes f e).1 (b ∷ rest, (λ none. absurd cc), (place_ok t (End (b ∷ rest)) is).at_end (b ∷ rest) refl)
     by_place zero (Ok (Entry head)) is e =
         let h = (place_ok t (Entry head) is).at_entry head refl in
         subst (λ (f : SetFault). PlaceFault offset zero before t f) (err_is TooManyFiles f e) (refl, (head, record { sizes = sized head.path_len head.content_len h.1; text = h.0 }))
-    by_place (suc more) (Ok (Entry head)) is e = by_file (file_at offset before head) refl e
-      where
-        by_file : (r : Result (File × List ℕ) SetFault) → file_at offset before head ≡ r → (r >>= λ file. Ok (Some file)) ≡ Err f → PlaceFault offset (suc more) before t f
-        by_file (Ok x) is2 e = absurd cc
-        by_file (Err g) is2 e =
-            let h = (place_ok t (Entry head) is).at_entry head refl in
-            of_entry offset (suc more) before t head f (record { sizes = sized head.path_len head.content_len h.1; text = h.0 }) (omega arith) (file_fault offset before head f (is2 ∙ (let k : g ≡ f = cc in rw k refl)))
+    by_place (suc more) (Ok (Entry head)) is e =
+        let h = (place_ok t (Entry head) is).at_entry head refl in
+        of_entry offset (suc more) before t head f (record { sizes = sized head.path_len head.content_len h.1; text = h.0 }) (omega arith) (file_fault offset before head f (err_through (file_at offset before head) (λ file. Some file) f e))
 
 -- files without fault, and a fault in what follows them
 pub record Later (whole left : ℕ) (before t : List ℕ) (f : SetFault) : Type 0 where
@@ -129,11 +110,8 @@ after_one whole more before t x f e later =
 
 pub files_fault : (whole left : ℕ) (before t : List ℕ) (f : SetFault) → files_at whole left before t ≡ Err f → Later whole left before t f
 unfolding files_at
-files_fault whole zero before t f e = by_entry (entry_at (whole - length t) zero before t) refl e
-  where
-    by_entry : (r : Result (Option (File × List ℕ)) SetFault) → entry_at (whole - length t) zero before t ≡ r → (r >>= λ found. Ok []) ≡ wrong {A = List File} f → Later whole zero before t f
-    by_entry (Ok o) is e = absurd cc
-    by_entry (Err g) is e = here whole zero before t f (is ∙ (let k : g ≡ f = cc in rw k refl))
+files_fault whole zero before t f e =
+    here whole zero before t f (err_through {B = List File} (entry_at (whole - length t) zero before t) (λ found. []) f e)
 files_fault whole (suc more) before t f e = by_entry (entry_at (whole - length t) (suc more) before t) refl e (λ x g. files_fault whole more x.0.path x.1 f g)
   where
     by_entry : (r : Result (Option (File × List ℕ)) SetFault) → entry_at (whole - length t) (suc more) before t ≡ r
@@ -142,11 +120,7 @@ files_fault whole (suc more) before t f e = by_entry (entry_at (whole - length t
         → Later whole (suc more) before t f
     by_entry (Err g) is e again = here whole (suc more) before t f (is ∙ (let k : g ≡ f = cc in rw k refl))
     by_entry (Ok None) is e again = absurd cc
-    by_entry (Ok (Some x)) is e again = by_rest (files_at whole more x.0.path x.1) refl e
-      where
-        by_rest : (r : Result (List File) SetFault) → files_at whole more x.0.path x.1 ≡ r → (r >>= λ files. Ok (x.0 ∷ files)) ≡ Err f → Later whole (suc more) before t f
-        by_rest (Ok fs) is2 e = absurd cc
-        by_rest (Err g) is2 e = after_one whole more before t x f is (again x (is2 ∙ (let k : g ≡ f = cc in rw k refl)))
+    by_entry (Ok (Some x)) is e again = after_one whole more before t x f is (again x (err_through (files_at whole more x.0.path x.1) (λ files. x.0 ∷ files) f e))
 
 going_on : (t body : List ℕ) (f : SetFault) (later : Later (length t) max_files [] body f) → t ≡ opening ++ body → GoOn later.files t later.rest
 going_on t body f later is = record { text = is ∙ ap (λ (r : List ℕ). opening ++ r) later.text ∙ sym (append_assoc opening (flat_map entry later.files) later.rest); few = later.few; each = later.each; ascending = later.up }
@@ -155,19 +129,10 @@ of_later : (t body : List ℕ) (f : SetFault) (later : Later (length t) max_file
 of_later t body BadOpening later is = absurd later.fault.3
 of_later t body PathClash later is = absurd later.fault.3
 of_later t body Truncated later is = inr (later.files, later.rest, going_on t body Truncated later is, later.fault)
-of_later t body (BadEntry n) later is = (later.files, later.rest, going_on t body (BadEntry n) later is, later.fault)
-of_later t body (OutOfOrder n) later is = (later.files, later.rest, going_on t body (OutOfOrder n) later is, later.fault)
-of_later t body (BadPath n) later is = (later.files, later.rest, going_on t body (BadPath n) later is, later.fault)
-of_later t body TooManyFiles later is = (later.files, later.rest, going_on t body TooManyFiles later is, later.fault)
-of_later t body TrailingBytes later is = (later.files, later.rest, going_on t body TrailingBytes later is, later.fault)
-of_later t body Memory later is = (later.files, later.rest, going_on t body Memory later is, later.fault)
+of_later t body f later is = (later.files, later.rest, going_on t body f later is, later.fault)
 
 not_both : (t rest : List ℕ) (flaw : Flaw) → literal_at opening t ≡ Err flaw → t ≡ opening ++ rest → ⊥
-not_both t rest flaw e is = apart (literal_at opening t) e (ap (literal_at opening) is ∙ literal_again opening rest)
-  where
-    apart : (r : Result (List ℕ) Flaw) → r ≡ Err flaw → r ≡ Ok rest → ⊥
-    apart (Ok x) e g = absurd cc
-    apart (Err h) e g = absurd cc
+not_both t rest flaw e is = never_both rest flaw (literal_at opening t) (ap (literal_at opening) is ∙ literal_again opening rest) e
 
 -- The fault of a text is a row of the table.
 pub set_fault : (t : List ℕ) (f : SetFault) → set_of t ≡ Err f → FaultIs t f
@@ -187,22 +152,12 @@ set_fault t f e = by_opening (literal_at opening t) refl e
       where
         by_files : (r : Result (List File) SetFault) → files_at (length t) max_files [] rest ≡ r → (r >>= λ files. cond (clashes files) (Err PathClash) (Ok files)) ≡ Err f → FaultIs t f
         by_files (Err g) is2 e = of_later t rest f (files_fault (length t) max_files [] rest f (is2 ∙ (let k : g ≡ f = cc in rw k refl))) (literal_ok opening t rest is)
-        by_files (Ok files) is2 e = by_clash (clashes files) refl e
-          where
-            by_clash : (x : Bool) → clashes files ≡ x → cond x (wrong PathClash) (Ok files) ≡ Err f → FaultIs t f
-            by_clash false is3 e = absurd cc
-            by_clash true is3 e =
-                let r = files_ok (length t) max_files [] rest files is2 in
-                subst (λ (f : SetFault). FaultIs t f) (err_is PathClash f e) (files, record { text = literal_ok opening t rest is ∙ ap (λ (x : List ℕ). opening ++ x) r.text ∙ sym (append_assoc opening (flat_map entry files) ending); few = r.few; each = r.each; ascending = r.up }, is3)
+        by_files (Ok files) is2 e =
+            let clash = err_if (clashes files) PathClash files f e in
+            let r = files_ok (length t) max_files [] rest files is2 in
+            subst (λ (f : SetFault). FaultIs t f) clash.1 (files, record { text = literal_ok opening t rest is ∙ ap (λ (x : List ℕ). opening ++ x) r.text ∙ sym (append_assoc opening (flat_map entry files) ending); few = r.few; each = r.each; ascending = r.up }, clash.0)
 
 pub is_fault : {X : Type 0} (t : List ℕ) (view : X → List File) (r : Result X SetFault) → Gives named_set_fault view r (set_of t) → IfErr r (λ f. f ≢ Memory → FaultIs t f)
 is_fault t view (Ok x) e = tt
 is_fault t view (Err Memory) e = λ other. absurd (other refl)
-is_fault t view (Err BadOpening) e = λ other. set_fault t BadOpening e
-is_fault t view (Err (BadEntry n)) e = λ other. set_fault t (BadEntry n) e
-is_fault t view (Err Truncated) e = λ other. set_fault t Truncated e
-is_fault t view (Err (OutOfOrder n)) e = λ other. set_fault t (OutOfOrder n) e
-is_fault t view (Err (BadPath n)) e = λ other. set_fault t (BadPath n) e
-is_fault t view (Err TooManyFiles) e = λ other. set_fault t TooManyFiles e
-is_fault t view (Err TrailingBytes) e = λ other. set_fault t TrailingBytes e
-is_fault t view (Err PathClash) e = λ other. set_fault t PathClash e
+is_fault t view (Err f) e = λ other. set_fault t f e

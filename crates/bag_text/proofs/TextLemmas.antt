@@ -1,5 +1,5 @@
 -- Blanks at the end.
-use Rattle.bag_text.proofs.Common.{◌≡◌, ℕ, ◌+◌, ◌-◌, ◌<◌, Bool, true, false, cond, eqb, ◌&&◌, List, [], ◌∷◌, ◌++◌, length, get_or, take, refl, sym, ap, ◌∙◌, arith, take_all, take_more, length_push, result_ok, Option, Some, None, option_copied, Result, Ok, Err, MatchResult, is_ok, IsUtf8, is_utf8, IsValidUpTo, valid_up_to, Bor, nat_tests, IsUtf8-from_is_utf8, is_utf8-from_IsUtf8, is_blank, drop_last_blanks}
+use Rattle.bag_text.proofs.Common.{false_from_ne_true, and_right, ◌≡◌, ℕ, ◌+◌, ◌-◌, ◌<◌, true, false, cond, eqb, List, [], ◌∷◌, ◌++◌, length, get_or, take, refl, sym, ap, ◌∙◌, arith, take_all, take_more, length_push, result_ok, Option, Some, None, option_copied, Result, Ok, Err, MatchResult, is_ok, IsUtf8, is_utf8, IsValidUpTo, valid_up_to, Bor, nat_tests, IsUtf8-from_is_utf8, is_utf8-from_IsUtf8, is_blank, drop_last_blanks}
 use Rattle.std.specs.declared.str.Utf8Error.{Utf8Error}
 
 pub drop_last_blank : (t : List ℕ) (b : ℕ) → is_blank b ≡ true → drop_last_blanks (t ++ b ∷ []) ≡ drop_last_blanks t
@@ -11,11 +11,7 @@ not_empty t b = grind (arith, nat_tests, length_push t b)
 
 pub keep_last : (t : List ℕ) (b : ℕ) → is_blank b ≡ false → drop_last_blanks (t ++ b ∷ []) ≡ t ++ b ∷ []
 keep_last [] b e = rw e refl
-keep_last (a ∷ t) b e = rw (keep_last t b e, not_empty t b) (both (is_blank a) (a ∷ (t ++ b ∷ [])))
-  where
-    both : (x : Bool) (r : List ℕ) → cond (x && false) [] r ≡ r
-    both true r = refl
-    both false r = refl
+keep_last (a ∷ t) b e = rw (keep_last t b e, not_empty t b, and_right (is_blank a) false refl) refl
 
 ends_so : (t : List ℕ) → 0 < length t → t ≡ take (length t - 1) t ++ get_or t (length t - 1) 0 ∷ []
 ends_so t lt =
@@ -29,11 +25,7 @@ pub no_blank_at_end : (t : List ℕ) → 0 < length t → is_blank (get_or t (le
 no_blank_at_end t lt e = ap drop_last_blanks (ends_so t lt) ∙ keep_last (take (length t - 1) t) (get_or t (length t - 1) 0) e ∙ sym (ends_so t lt)
 
 not_text : (bs : List ℕ) → (IsUtf8 bs → ⊥) → is_utf8 bs ≡ false
-not_text bs h = by_test (is_utf8 bs) refl
-  where
-    by_test : (x : Bool) → is_utf8 bs ≡ x → is_utf8 bs ≡ false
-    by_test true e = absurd (h (IsUtf8-from_is_utf8 bs e))
-    by_test false e = e
+not_text bs h = false_from_ne_true (is_utf8 bs) (λ e. h (IsUtf8-from_is_utf8 bs e))
 
 pub utf8_answer : (r : Result (Bor (List ℕ)) Utf8Error) (bs : List ℕ) → MatchResult r (λ s. (s.now ≡ bs) × IsUtf8 bs) (λ e. ¬ (IsUtf8 bs) × IsValidUpTo bs (valid_up_to e)) → is_ok r ≡ is_utf8 bs
 utf8_answer (Ok s) bs h = sym (is_utf8-from_IsUtf8 bs h.1)

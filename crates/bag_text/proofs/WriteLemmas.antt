@@ -1,6 +1,5 @@
 -- Writing the transfer form.
-use Rattle.bag_text.proofs.Common.{◌≡◌, ℕ, ◌+◌, ◌<◌, ◌≤◌, List, ◌++◌, length, get_or, drop, map, sym, ap, ◌∙◌, append_assoc, IfOk, flat_map, drop_more, at_drop_all, append-nil, File, entry, set_text, IsBag, set_of}
-use Rattle.std.proofs.Common.{Result, Ok, Err}
+use Rattle.bag_text.proofs.Common.{◌≡◌, ℕ, ◌+◌, ◌<◌, ◌≤◌, List, ◌++◌, length, get_or, drop, map, sym, ap, ◌∙◌, append_assoc, IfOk, flat_map, drop_more, at_drop_all, append-nil, File, entry, set_text, IsBag, set_of, Result, Ok, Err}
 use Rattle.std.proofs.lemmas.List.Concat.{flat_map-cons}
 use Rattle.bag_text.proofs.FormLemmas.{set_ok, set_again}
 

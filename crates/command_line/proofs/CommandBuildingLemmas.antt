@@ -1,21 +1,11 @@
 -- What a command that takes arguments has, once it is built.
-use Rattle.std.proofs.Common.{zero, suc, ◌≡◌, ◌∙◌, ◌<◌, ◌++◌, ap, ap₂, sym, subst, ℕ, Bool, true, false, List, [], ◌∷◌, length, is_some, refl, inl, inr, arith, fold, take, get_or, ◌+◌, codes, Ok, Err, Result, IfOk}
-use Rattle.std.specs.List.{All, list_any, slice_index_or}
-use Rattle.std.specs.Str.{bytes_eq}
-use Rattle.std.proofs.lemmas.Bool.{and_parts, not-true, false≢true}
+use Rattle.command_line.proofs.Common.{zero, suc, ◌≡◌, ◌∙◌, ◌<◌, ◌++◌, ap, ap₂, sym, subst, ℕ, Bool, true, false, List, [], ◌∷◌, length, is_some, refl, inl, inr, arith, fold, take, get_or, ◌+◌, codes, Ok, Err, Result, IfOk, All, list_any, get_or as slice_index_or, bytes_eq, and_parts, not-true, false≢true, AddsArg, AddsInTurn, App, FailsBy, HasMatchesOf, IsParsedFrom, Rule, Text, app_of, fault_of, first_of, first_value, found_of, is_simple, is_simple_and_free, matches_of, with_rule, Error, Arg, Command, ArgMatches, command_of, value_under, AreReadBy, IsReadBy, TakesArguments, are_names, is_own_name, names_of, needed_names, rule_for, rules_for}
 use Rattle.std.proofs.lemmas.List.{map-append, take_more}
 use Rattle.std.proofs.lemmas.List.Elements.{All-cons, All-nil}
 use Rattle.std.proofs.lemmas.Slice.Eq.{bytes_eq-Decides}
-use Rattle.clap.specs.Words.{AddsArg, AddsInTurn, App, FailsBy, HasMatchesOf, IsParsedFrom, Rule, Text, app_of, fault_of, first_of, first_value, found_of, is_simple, is_simple_and_free, matches_of, with_rule}
-use Rattle.clap.specs.declared.error.Error.{Error}
 use Rattle.clap.specs.Built.{FitsChain, HasDistinctIds, IsAuto}
-use Rattle.clap.specs.declared.builder.arg.Arg.{Arg}
-use Rattle.clap.specs.declared.builder.command.Command.{Command}
-use Rattle.clap.specs.declared.parser.matches.ArgMatches.{ArgMatches}
 use Rattle.clap.proofs.CallerLemmas.{required_in_chain}
 use Rattle.clap.proofs.WalkLemmas.{first_value-rows}
-use Rattle.command_line.specs.Lines.{command_of, value_under}
-use Rattle.command_line.specs.CommandBuilding.{AreReadBy, IsReadBy, TakesArguments, are_names, is_own_name, names_of, needed_names, rule_for, rules_for}
 use Rattle.command_line.specs.declared.words.Argument.{Argument}
 
 -- ---- the rules that clap reads

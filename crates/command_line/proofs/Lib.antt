@@ -1,3 +1,4 @@
+pub mod Common
 pub mod CommandBuildingLemmas
 pub mod LineLemmas
 pub mod OneLineLemmas

@@ -1,24 +1,10 @@
 -- From what clap finds in the words to the line that they ask for.
-use Rattle.std.proofs.Common.{◌≡◌, ◌∙◌, ◌⊎◌, ◌∷◌, [], List, Option, Some, None, Result, Ok, Err, IfErr, IfOk, if◌then◌else◌, ap, ap₂, codes, false, inl, inr, refl, slice_get, subst, sym, true, unwrap_or}
+use Rattle.command_line.proofs.Common.{◌≡◌, ◌∙◌, ◌⊎◌, ◌∷◌, [], List, Option, Some, None, Result, Ok, Err, IfErr, IfOk, if◌then◌else◌, ap, ap₂, codes, false, inl, inr, refl, slice_get, subst, sym, true, unwrap_or, list_any, bytes_eq, HasKind, IsAmong, App, Text, fault_of, first_value, found_of, kind_of, Error, ArgMatches, texts, IsLineOf, MakesNoLine, are_names, command_for, names_of, rules_for, AskNothing, Asks, HasValues, Names, command_of, command_of_subcommand, name_text, subcommand_rules, subcommand_of, value_under, values_for, Line, Subcommand, Ask, Check, Explain, Pack, Policy, Replay, Serve, Unpack, UseFault, Memory}
 use Rattle.std.specs.Borrow.{Bor}
-use Rattle.std.specs.List.{list_any}
-use Rattle.std.specs.Str.{bytes_eq}
 use Rattle.std.proofs.Math.Path.{fun_ext}
 use Rattle.std.proofs.lemmas.Option.{none-some}
-use Rattle.clap.specs.Kinds.{HasKind, IsAmong}
-use Rattle.clap.specs.Words.{App, Text, fault_of, first_value, found_of, is_simple_and_free, kind_of}
-use Rattle.clap.specs.declared.error.Error.{Error}
 use Rattle.clap.specs.declared.error.kind.ErrorKind.TheVariants.{OutOfMemory}
-use Rattle.clap.specs.declared.parser.matches.ArgMatches.{ArgMatches}
-use Rattle.bag_text.specs.Text.{texts}
-use Rattle.command_line.specs.CommandBuilding.{IsLineOf, MakesNoLine, are_names, command_for, names_of, rules_for}
-use Rattle.command_line.specs.Lines.{AskNothing, Asks, FindsText, HasValues, Names, command_of, command_of_subcommand, name_text, subcommand_rules, subcommand_of, value_under, values_for}
-use Rattle.command_line.specs.Usage.{NamesNone, help_words, no_subcommand_text, uses_text, usage_for, usage_for_word}
-use Rattle.command_line.specs.declared.line.Line.{Line}
-use Rattle.command_line.specs.declared.subcommand.Subcommand.{Subcommand}
-use Rattle.command_line.specs.declared.subcommand.Subcommand.TheVariants.{Ask, Check, Explain, Pack, Policy, Replay, Serve, Unpack}
-use Rattle.command_line.specs.declared.use_fault.UseFault.{UseFault}
-use Rattle.command_line.specs.declared.use_fault.UseFault.TheVariants.{Memory}
+use Rattle.command_line.specs.Usage.{help_words, no_subcommand_text, uses_text, usage_for_word}
 use Rattle.command_line.specs.declared.words.Usage.{Usage}
 
 -- ---- values
@@ -27,34 +13,12 @@ use Rattle.command_line.specs.declared.words.Usage.{Usage}
 pub same_some : {X : Type 0} (o : Option X) (x y : X) → o ≡ Some x → o ≡ Some y → x ≡ y
 same_some o x y is is_too = ap (λ p. unwrap_or p x) (sym is ∙ is_too)
 
--- where the text that is found is no such value, none is found
-pub not_found : (values : Text → Option Text) (name word : Text) (P : Text → Type 0) → values name ≡ Some word → (P word → ⊥) → FindsText values name P → ⊥
-not_found values name word P is bad found = bad (subst P (same_some _ found.0 word found.1 is) found.2)
-
 -- ---- the subcommands
-
--- clap's function for simple commands speaks of each
-pub is_simple_command : (subcommand : Subcommand) → is_simple_and_free (command_of_subcommand subcommand) ≡ true
-unfolding command_of_subcommand
-is_simple_command Check = refl
-is_simple_command Pack = refl
-is_simple_command Unpack = refl
-is_simple_command Explain = refl
-is_simple_command Policy = refl
-is_simple_command Ask = refl
-is_simple_command Replay = refl
-is_simple_command Serve = refl
 
 -- and none takes two arguments of one name
 pub has_names : (subcommand : Subcommand) → are_names (names_of (subcommand_rules subcommand)) ≡ true
 has_names Check = refl
-has_names Pack = refl
-has_names Unpack = refl
-has_names Explain = refl
-has_names Policy = refl
-has_names Ask = refl
-has_names Replay = refl
-has_names Serve = refl
+has_names _ = refl
 
 -- the subcommand of a name
 of_name : Text → Option Subcommand
@@ -72,13 +36,7 @@ of_name name =
 own_name : (subcommand : Subcommand) → of_name (name_text subcommand) ≡ Some subcommand
 unfolding of_name
 own_name Check = refl
-own_name Pack = refl
-own_name Unpack = refl
-own_name Explain = refl
-own_name Policy = refl
-own_name Ask = refl
-own_name Replay = refl
-own_name Serve = refl
+own_name _ = refl
 
 -- words name one subcommand
 pub one_name : (words : List Text) (a b : Subcommand) → Names words a → Names words b → a ≡ b
@@ -91,32 +49,6 @@ one_name words a b is is_too =
 pub first_text : (words : List (Bor Text)) (word : Bor Text) → slice_get words 0 ≡ Some word → slice_get (texts words) 0 ≡ Some word.now
 first_text [] word first = absurd (none-some word first)
 first_text (x ∷ words) word first = ap (λ o. Some (unwrap_or o word).now) first
-
-pub first_named : (words : List (Bor Text)) (word : Bor Text) (name : Text) → slice_get words 0 ≡ Some word → word.now ≡ name → slice_get (texts words) 0 ≡ Some name
-first_named words word name first is = first_text words word first ∙ ap Some is
-
--- where it is the name of no subcommand the words name none
-pub names_none : (words : List (Bor Text)) (word : Bor Text) → slice_get words 0 ≡ Some word → ((subcommand : Subcommand) → word.now ≡ name_text subcommand → ⊥)
-    → NamesNone (texts words)
-names_none words word first other subcommand names = other subcommand (same_some _ word.now (name_text subcommand) (first_text words word first) names)
-
-pub no_word : (words : List (Bor Text)) → slice_get words 0 ≡ None → NamesNone (texts words)
-no_word [] none subcommand names = none-some (name_text subcommand) names
-no_word (x ∷ words) none subcommand names = none-some x (sym none)
-
--- words that name no subcommand ask for nothing
-pub none_asked : (words : List Text) → NamesNone words → AskNothing words
-none_asked words none line asks = none (subcommand_of line) asks.first
-
--- what is said of them
-pub no_word_usage : (version : Text) (words : List (Bor Text)) → slice_get words 0 ≡ None → uses_text version ≡ usage_for version (texts words)
-no_word_usage version [] none = refl
-no_word_usage version (x ∷ words) none = absurd (none-some x (sym none))
-
-pub first_usage : (version : Text) (words : List (Bor Text)) (word : Bor Text) → slice_get words 0 ≡ Some word
-    → usage_for_word version word.now ≡ usage_for version (texts words)
-first_usage version [] word first = absurd (none-some word first)
-first_usage version (x ∷ words) word first = ap (λ o. usage_for_word version (unwrap_or o word).now) (sym first)
 
 -- ---- lines
 

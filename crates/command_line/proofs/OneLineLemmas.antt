@@ -1,15 +1,6 @@
 -- Words ask for one line.
-use Rattle.std.proofs.Common.{◌≡◌, ◌∙◌, ◌∷◌, [], ℕ, List, Option, Some, None, Result, Ok, Err, IfOk, ap, ap₂, codes, decimal, refl, sym, unwrap_or}
-use Rattle.std.specs.Str.Parse.{digits_value}
-use Rattle.clap.specs.Words.{Text}
-use Rattle.jiff.specs.Types.{Date}
-use Rattle.office_core.specs.Days.{day_text}
-use Rattle.command_line.specs.Lines.{Asks, FindsText, FindsDay, HasValues, IsDayText, IsNameOrNone, WritesNumber, name_word, subcommand_of, values_for, with_day, words_of}
-use Rattle.command_line.specs.declared.line.Line.{Line}
+use Rattle.command_line.proofs.Common.{◌≡◌, ◌∙◌, ◌∷◌, [], ℕ, List, Option, Some, None, Result, Ok, Err, IfOk, ap, ap₂, codes, decimal, refl, sym, unwrap_or, digits_value, Text, Date, day_text, Asks, FindsText, FindsDay, HasValues, IsDayText, IsNameOrNone, WritesNumber, name_word, subcommand_of, values_for, with_day, words_of, Line, Subcommand, Ask, Check, Explain, Pack, Policy, Replay, Serve, Unpack, UseFault}
 use Rattle.command_line.specs.declared.line.Line.TheVariants as lines
-use Rattle.command_line.specs.declared.subcommand.Subcommand.{Subcommand}
-use Rattle.command_line.specs.declared.subcommand.Subcommand.TheVariants.{Ask, Check, Explain, Pack, Policy, Replay, Serve, Unpack}
-use Rattle.command_line.specs.declared.use_fault.UseFault.{UseFault}
 use Rattle.command_line.proofs.LineLemmas.{one_name}
 
 -- ---- the words that values write

@@ -1,10 +1,5 @@
 -- What clap makes of plain words after options.
-use Rattle.std.proofs.Common.{◌≡◌, ◌∷◌, [], ℕ, List, None, false, inl, inr, refl}
-use Rattle.clap.specs.Words.{Rule, Text}
-use Rattle.clap.specs.Simple.{Shape}
-use Rattle.clap.specs.Walk.{Held, Walk, arg_by_id, option, option_word, walked}
-use Rattle.clap.specs.Faults.{walk_fault}
-use Rattle.command_line.specs.Lines.{IsPlainWord}
+use Rattle.command_line.proofs.Common.{◌≡◌, ◌∷◌, [], ℕ, List, None, false, inl, inr, refl, Rule, Text, Shape, Held, Walk, arg_by_id, option, option_word, walked, walk_fault, IsPlainWord}
 use Rattle.command_line.proofs.PlainWordLemmas.{single}
 
 -- the walk where the option with this id waits for its value

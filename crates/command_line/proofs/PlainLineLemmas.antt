@@ -1,21 +1,11 @@
 -- Lines that are written in plain words.
-use Rattle.std.proofs.Common.{◌≡◌, ◌⊎◌, ◌∷◌, ◌∙◌, ◌^◌, ◌<◌, ◌==◌, [], ℕ, List, Option, Some, None, Result, Ok, Err, IfErr, IfSome, ap, arith, codes, decimal, false, inl, inr, refl, subst, sym, true, unwrap_or}
-use Rattle.std.specs.Str.Parse.{IsNumeral}
-use Rattle.std.proofs.lemmas.Bool.{false≢true}
+use Rattle.command_line.proofs.Common.{◌≡◌, ◌⊎◌, ◌∷◌, ◌∙◌, ◌^◌, ◌<◌, ◌==◌, [], ℕ, List, Option, Some, None, Result, Ok, Err, IfErr, IfSome, ap, arith, codes, decimal, false, inl, inr, refl, subst, sym, true, unwrap_or, IsNumeral, false≢true, Text, Date, IsDay, day_text, AskNothing, Asks, FindsDay, IsPlainLine, IsPlainQuestion, IsPlainWord, IsQuestion, WritesNumber, command_of_subcommand, name_word, values_for, with_day, words_of, Line, Explain, UseFault, Memory}
 use Rattle.std.proofs.lemmas.Fmt.{decimal_is_IsNumeral}
-use Rattle.clap.specs.Words.{Text}
-use Rattle.jiff.specs.Types.{Date}
 use Rattle.commands.specs.declared.asked.Asked.{Asked}
 use Rattle.office_core.specs.Actions.{action_text}
-use Rattle.office_core.specs.Days.{IsDay, day_text}
 use Rattle.office_core.specs.declared.action.Action.{Action}
-use Rattle.office_core.specs.declared.action.Action.TheVariants.{Class, Collection, Deposit, List as Listing, Record, Holds, Download, Audit, Hold, Release, Dispose}
-use Rattle.command_line.specs.Lines.{AskNothing, Asks, FindsDay, IsPlainLine, IsPlainQuestion, IsPlainWord, IsQuestion, WritesNumber, command_of_subcommand, name_word, values_for, with_day, words_of}
-use Rattle.command_line.specs.declared.line.Line.{Line}
+use Rattle.office_core.specs.declared.action.Action.TheVariants.{Class}
 use Rattle.command_line.specs.declared.line.Line.TheVariants as lines
-use Rattle.command_line.specs.declared.subcommand.Subcommand.TheVariants.{Explain}
-use Rattle.command_line.specs.declared.use_fault.UseFault.{UseFault}
-use Rattle.command_line.specs.declared.use_fault.UseFault.TheVariants.{Memory}
 use Rattle.command_line.proofs.ExplainWordLemmas.{explain_with_finds}
 use Rattle.command_line.proofs.PositionalLemmas.{ask_finds, check_finds, explain_finds, pack_finds, policy_finds, replay_finds, unpack_finds}
 use Rattle.command_line.proofs.ReplayWordLemmas.{replay_with_finds}
@@ -47,16 +37,7 @@ starts_otherwise x rest other = inr (λ e. let same : x ≡ 45 = ap (λ o. unwra
 
 action_is_plain : (action : Action) → IsPlainWord (action_text action)
 action_is_plain Class = starts_otherwise _ _ refl
-action_is_plain Collection = starts_otherwise _ _ refl
-action_is_plain Deposit = starts_otherwise _ _ refl
-action_is_plain Listing = starts_otherwise _ _ refl
-action_is_plain Record = starts_otherwise _ _ refl
-action_is_plain Holds = starts_otherwise _ _ refl
-action_is_plain Download = starts_otherwise _ _ refl
-action_is_plain Audit = starts_otherwise _ _ refl
-action_is_plain Hold = starts_otherwise _ _ refl
-action_is_plain Release = starts_otherwise _ _ refl
-action_is_plain Dispose = starts_otherwise _ _ refl
+action_is_plain _ = starts_otherwise _ _ refl
 
 -- ---- lines
 

@@ -1,12 +1,5 @@
 -- What clap makes of plain words.
-use Rattle.std.proofs.Common.{◌≡◌, ◌∷◌, [], ℕ, List, Bool, Some, None, true, false, refl, inl, inr, ap, fold, slice_get, ◌==◌, is_some}
-use Rattle.std.proofs.lemmas.Bool.{eqb-true}
-use Rattle.clap.specs.Words.{Rule, Text}
-use Rattle.clap.specs.Kinds.{Kinds, or_else}
-use Rattle.clap.specs.Simple.{Shape, entered}
-use Rattle.clap.specs.Walk.{Held, Walk, finished, idle, settled, value, arg_by_index, to_positional, walked}
-use Rattle.clap.specs.Faults.{check_fault, defaults_fault, entered_fault, settle_fault, step_fault, walk_fault}
-use Rattle.command_line.specs.Lines.{IsPlainWord}
+use Rattle.command_line.proofs.Common.{◌≡◌, ◌∷◌, [], ℕ, List, Bool, Some, None, true, false, refl, inl, inr, ap, fold, slice_get, ◌==◌, is_some, eqb-true, Rule, Text, Kinds, or_else, Shape, entered, Held, Walk, finished, idle, settled, value, arg_by_index, to_positional, walked, check_fault, defaults_fault, entered_fault, settle_fault, step_fault, walk_fault, IsPlainWord}
 
 -- a byte that doesn't begin an option
 pub single : (x : ℕ) (rest : Text) → (slice_get (x ∷ rest) 0 ≡ Some 45 → ⊥) → (x == 45) ≡ false

@@ -1,11 +1,5 @@
 -- What clap makes of plain words in their places: of one, of two and of five.
-use Rattle.std.proofs.Common.{◌∷◌, [], List, refl}
-use Rattle.clap.specs.Words.{Text}
-use Rattle.clap.specs.Walk.{Held, nothing_held}
-use Rattle.clap.specs.Faults.{defaults_fault}
-use Rattle.command_line.specs.Lines.{IsPlainWord, command_of_subcommand}
-use Rattle.command_line.specs.declared.subcommand.Subcommand.{Subcommand}
-use Rattle.command_line.specs.declared.subcommand.Subcommand.TheVariants.{Ask, Check, Explain, Pack, Policy, Replay, Unpack}
+use Rattle.command_line.proofs.Common.{◌∷◌, [], List, refl, Text, Held, nothing_held, defaults_fault, IsPlainWord, command_of_subcommand, Subcommand, Ask, Check, Explain, Pack, Policy, Replay, Unpack}
 use Rattle.command_line.proofs.WordWalkLemmas.{FindsHeld, held_after, shape_of, words_find}
 
 -- what is held after plain words alone

@@ -1,10 +1,5 @@
 -- What clap makes of the words of `replay` with a policy, where they are plain.
-use Rattle.std.proofs.Common.{◌≡◌, ◌∷◌, ◌∙◌, [], List, Some, fold, refl, ap, codes}
-use Rattle.clap.specs.Words.{Text}
-use Rattle.clap.specs.Walk.{Held, Walk, nothing_held, pushed, settled, walk, walk_from, walked}
-use Rattle.clap.specs.Faults.{defaults_fault, walk_fault}
-use Rattle.command_line.specs.Lines.{IsPlainWord, command_of_subcommand}
-use Rattle.command_line.specs.declared.subcommand.Subcommand.TheVariants.{Replay}
+use Rattle.command_line.proofs.Common.{◌≡◌, ◌∷◌, ◌∙◌, [], List, Some, fold, refl, ap, codes, Text, Held, Walk, nothing_held, pushed, settled, walk, walk_from, walked, defaults_fault, walk_fault, IsPlainWord, command_of_subcommand, Replay}
 use Rattle.command_line.proofs.PlainWordLemmas.{before}
 use Rattle.command_line.proofs.OptionWordLemmas.{awaiting, option_fault, option_step}
 use Rattle.command_line.proofs.WordWalkLemmas.{Ends, FindsHeld, Takes, finds_held, held_after, shape_of, words_pass, words_walk}

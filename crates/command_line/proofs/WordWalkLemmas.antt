@@ -1,14 +1,5 @@
 -- What clap makes of a subcommand's words, from where its walk over them ends.
-use Rattle.std.proofs.Common.{◌≡◌, ◌+◌, ◌∷◌, ◌∙◌, [], ℕ, List, length, ap, fold, refl, arith}
-use Rattle.std.specs.List.{AllByRecursion}
-use Rattle.clap.specs.Words.{Rule, Text, built, fault_of, first_of}
-use Rattle.clap.specs.Kinds.{Kinds, or_else}
-use Rattle.clap.specs.Simple.{Shape}
-use Rattle.clap.specs.Walk.{Held, Walk, finished, nothing_held, value, walk, walk_from, walked}
-use Rattle.clap.specs.Faults.{step_fault, walk_fault}
-use Rattle.command_line.specs.Lines.{IsPlainWord, command_of_subcommand, name_text, values_for}
-use Rattle.command_line.specs.declared.subcommand.Subcommand.{Subcommand}
-use Rattle.command_line.specs.declared.subcommand.Subcommand.TheVariants.{Ask, Check, Explain, Pack, Policy, Replay, Serve, Unpack}
+use Rattle.command_line.proofs.Common.{◌≡◌, ◌+◌, ◌∷◌, ◌∙◌, [], ℕ, List, length, ap, fold, refl, arith, AllByRecursion, Rule, Text, built, fault_of, first_of, Kinds, or_else, Shape, Held, Walk, finished, nothing_held, value, walk, walk_from, walked, step_fault, walk_fault, IsPlainWord, command_of_subcommand, name_text, values_for, Subcommand, Check}
 use Rattle.command_line.proofs.PlainWordLemmas.{after, before, faults_after, plain_fault, plain_walk}
 
 -- the walk over the words ends with this held, before the positional with this number, and nothing fails
@@ -43,13 +34,7 @@ pub record FindsHeld (subcommand : Subcommand) (rest : List Text) (held : Held) 
 pub finds_held : (subcommand : Subcommand) (rest : List Text) (held : Held) (position : ℕ) → Ends (shape_of subcommand) rest held position → FindsHeld subcommand rest held
 unfolding command_of_subcommand
 finds_held Check rest held position ends = record { taken = nothing_fails (shape_of Check) rest held position ends; at = is_found (shape_of Check) rest held position ends }
-finds_held Pack rest held position ends = record { taken = nothing_fails (shape_of Pack) rest held position ends; at = is_found (shape_of Pack) rest held position ends }
-finds_held Unpack rest held position ends = record { taken = nothing_fails (shape_of Unpack) rest held position ends; at = is_found (shape_of Unpack) rest held position ends }
-finds_held Explain rest held position ends = record { taken = nothing_fails (shape_of Explain) rest held position ends; at = is_found (shape_of Explain) rest held position ends }
-finds_held Policy rest held position ends = record { taken = nothing_fails (shape_of Policy) rest held position ends; at = is_found (shape_of Policy) rest held position ends }
-finds_held Ask rest held position ends = record { taken = nothing_fails (shape_of Ask) rest held position ends; at = is_found (shape_of Ask) rest held position ends }
-finds_held Replay rest held position ends = record { taken = nothing_fails (shape_of Replay) rest held position ends; at = is_found (shape_of Replay) rest held position ends }
-finds_held Serve rest held position ends = record { taken = nothing_fails (shape_of Serve) rest held position ends; at = is_found (shape_of Serve) rest held position ends }
+finds_held subcommand rest held position ends = record { taken = nothing_fails (shape_of subcommand) rest held position ends; at = is_found (shape_of subcommand) rest held position ends }
 
 -- ---- plain words, each of which goes to the next positional
 

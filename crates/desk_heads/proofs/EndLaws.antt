@@ -1,11 +1,5 @@
 -- The head that is found is the shortest front that ends with an empty line.
-use Rattle.std.proofs.Common.{◌≡◌, ◌≢◌, ℕ, suc, zero, ◌<◌, ◌≤◌, ◌⊎◌, inl, inr, List, [], ◌∷◌, ◌++◌, length, take, drop, Option, Some, None, refl, sym, ap, ◌∙◌, subst, arith, true, false, cond, Bool, length-append, length-take-le, take_all, ◌==◌}
-use Rattle.std.proofs.lemmas.List.{length-take, take-append-le, take-append-drop}
-use Rattle.std.proofs.lemmas.Bool.{cases_lt, eqb-true}
-use Rattle.std.specs.Prelude.{option_map}
-use Rattle.desk_heads.specs.declared.place.HeadPlace.TheVariants.{Short, TooLarge, Found}
-use Rattle.desk_heads.specs.Bounds.{max_head}
-use Rattle.desk_heads.specs.Ends.{head_at, head_end, end_after_line_feed, or_later, head_place, EndsWithEmptyLine, IsHeadEnd, HasNoHead}
+use Rattle.desk_heads.proofs.Common.{◌≡◌, ◌≢◌, ℕ, suc, zero, ◌<◌, ◌≤◌, ◌⊎◌, inl, inr, List, [], ◌∷◌, ◌++◌, length, take, drop, Option, Some, None, refl, sym, ap, ◌∙◌, subst, arith, true, false, cond, Bool, length-append, length-take-le, take_all, ◌==◌, length-take, take-append-le, take-append-drop, cases_lt, eqb-true, option_map, Short, TooLarge, Found, max_head, head_at, head_end, end_after_line_feed, or_later, head_place, EndsWithEmptyLine, IsHeadEnd, HasNoHead}
 use Rattle.desk_heads.proofs.EndLemmas.{place_short, place_within, place_large, low_short, high_large, ends_here_more, suc_some, end_within, found_within}
 
 -- bytes that end so are two or more

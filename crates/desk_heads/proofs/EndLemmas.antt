@@ -1,16 +1,7 @@
 -- Where a head ends, and what more bytes change.
-use Rattle.std.proofs.Common.{◌≡◌, ◌≢◌, ℕ, suc, ◌+◌, ◌-◌, ◌<◌, ◌≤◌, List, [], ◌∷◌, ◌++◌, length, take, drop, Option, Some, None, refl, sym, ap, ◌∙◌, arith, true, false, get_or, add-one, drop-cons, cond, Bool, nat_lt, length-append, take_all, min, length-take-le, ◌==◌}
-use Rattle.std.proofs.lemmas.Grind.{common_steps}
-use Rattle.std.proofs.lemmas.List.{length-take, take-append-le, append-nil}
+use Rattle.desk_heads.proofs.Common.{◌≡◌, ◌≢◌, ℕ, suc, ◌+◌, ◌-◌, ◌<◌, ◌≤◌, List, [], ◌∷◌, ◌++◌, length, take, drop, Option, Some, None, refl, sym, ap, ◌∙◌, arith, true, false, get_or, add-one, drop-cons, cond, Bool, nat_lt, length-append, take_all, min, length-take-le, ◌==◌, common_steps, length-take, take-append-le, append-nil, inl, inr, cases_lt, option_map, IfSome, Consumes, Short, TooLarge, Found, max_head, head_at, head_end, end_after_line_feed, or_later, head_place, empty_line_length}
 use Rattle.std.proofs.Math.Seq.{take-append-add}
-use Rattle.std.proofs.Common.{inl, inr}
-use Rattle.std.proofs.lemmas.Bool.{cases_lt}
-use Rattle.std.specs.Prelude.{option_map, IfSome}
-use Rattle.std.specs.Io.KnownBytes.{Consumes}
 use Rattle.desk_heads.specs.declared.place.HeadPlace.{HeadPlace}
-use Rattle.desk_heads.specs.declared.place.HeadPlace.TheVariants.{Short, TooLarge, Found}
-use Rattle.desk_heads.specs.Bounds.{max_head}
-use Rattle.desk_heads.specs.Ends.{head_at, head_end, end_after_line_feed, or_later, head_place, empty_line_length}
 
 -- a head that is short has room
 pub place_short : (e : Option ℕ) (n : ℕ) → head_place e n ≡ Short → n < max_head

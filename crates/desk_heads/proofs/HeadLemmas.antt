@@ -1,13 +1,8 @@
 -- The parts of a head that are texts, and what is found of its fields.
-use Rattle.std.proofs.Common.{◌≡◌, ℕ, ◌<◌, List, true, arith, IsUtf8}
-use Rattle.std.proofs.lemmas.Bool.Decides.{nat_tests}
-use Rattle.std.proofs.lemmas.List.Elements.{All-weaker}
-use Rattle.std.proofs.lemmas.List.Sums.{AllPass-from_list_all}
+use Rattle.desk_heads.proofs.Common.{◌≡◌, ℕ, ◌<◌, List, true, arith, IsUtf8, nat_tests, All-weaker, AllPass-from_list_all, list_all, IsName, is_name_byte}
 use Rattle.std.proofs.lemmas.Str.{IsUtf8-from_ascii}
 use Rattle.std.proofs.lemmas.Str.Ascii.{IsAscii-from_all}
-use Rattle.std.specs.List.{list_all}
 use Rattle.httparse.specs.Grammar.{is_token_byte, IsToken}
-use Rattle.office_core.specs.Names.{IsName, is_name_byte}
 
 token_byte_is_ascii : (b : ℕ) → is_token_byte b ≡ true → b < 128
 unfolding is_token_byte

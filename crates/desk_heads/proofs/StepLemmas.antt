@@ -1,17 +1,7 @@
 -- The refusals of a head, step by step.
-use Rattle.std.proofs.Common.{◌≡◌, ℕ, ◌<◌, ◌⊎◌, inl, inr, List, [], ◌∷◌, length, Bool, true, false, Option, Some, None, Ok, Err, refl, sym, ap, ◌∙◌, subst, arith, codes}
-use Rattle.std.specs.Prelude.{Result, nat_lt, if◌then◌else◌}
-use Rattle.std.proofs.lemmas.Bool.Decides.{nat_tests}
-use Rattle.std.proofs.lemmas.List.Elements.{All-weaker}
-use Rattle.std.proofs.lemmas.List.Sums.{AllPass-from_list_all, list_all-from_AllPass}
-use Rattle.std.specs.Char.{is_ascii_digit, IsAsciiDigit}
-use Rattle.std.specs.Str.Parse.{digits_value}
+use Rattle.desk_heads.proofs.Common.{◌≡◌, ℕ, ◌<◌, ◌⊎◌, inl, inr, List, [], ◌∷◌, length, Bool, true, false, Option, Some, None, Ok, Err, refl, sym, ap, ◌∙◌, subst, arith, codes, Result, nat_lt, if◌then◌else◌, nat_tests, All-weaker, AllPass-from_list_all, list_all-from_AllPass, is_ascii_digit, IsAsciiDigit, digits_value, first_some, answer_if, is_name, max_body, Occurrence, once, occurrence_of, values_among, values_of, fields_of}
 use Rattle.httparse.specs.Grammar.{RequestHead}
 use Rattle.httparse.proofs.GrammarLemmas.{request_unique}
-use Rattle.office_core.specs.FirstOf.{first_some, answer_if}
-use Rattle.office_core.specs.Names.{is_name}
-use Rattle.desk_heads.specs.Bounds.{max_body}
-use Rattle.desk_heads.specs.Fields.{Occurrence, once, occurrence_of, values_among, values_of, fields_of}
 use Rattle.desk_heads.specs.Heads.{SpellsHead, IsHead, HeadContents, occurrence_in, encoding_refusal, length_refusal, caller_refusal, is_length_text, body_length_of, caller_of, head_contents, unless_refused, judgement_of, Judges}
 use Rattle.desk_heads.specs.Steps.{IsLengthText, StandsOfHead, RefusalStands, step_of, StandsFirst, NamesCaller, AnnouncesBody, SaysContents}
 use Rattle.desk_heads.specs.declared.refusal.HeadRefusal.{HeadRefusal}
@@ -202,10 +192,7 @@ never front head refusal found spells none finds h =
 
 before_1 : (front : List ℕ) (earlier : HeadRefusal) → step_of earlier < 1 → RefusalStands front earlier → ⊥
 before_1 front BadHead low h = omega arith
-before_1 front Chunked low h = omega arith
-before_1 front BadLength low h = omega arith
-before_1 front TooLarge low h = omega arith
-before_1 front TwoCallers low h = omega arith
+before_1 front _ low h = omega arith
 
 -- nor does a refusal of a step before this one, where what was asked before found none
 before : (front : List ℕ) (head : RequestHead) (step : ℕ) → SpellsHead front head → (2 < step → encoding head ≡ None) → (3 < step → content_length head ≡ None) → (4 < step → caller head ≡ None)
@@ -218,10 +205,7 @@ before front head step spells none no_length no_caller TwoCallers low h = never 
 
 step_is_small : (refusal : HeadRefusal) → step_of refusal < 5
 step_is_small BadHead = omega arith
-step_is_small Chunked = omega arith
-step_is_small BadLength = omega arith
-step_is_small TooLarge = omega arith
-step_is_small TwoCallers = omega arith
+step_is_small _ = omega arith
 
 none_stands : (front : List ℕ) (head : RequestHead) → SpellsHead front head → encoding head ≡ None → content_length head ≡ None → caller head ≡ None → (refusal : HeadRefusal) → RefusalStands front refusal → ⊥
 none_stands front head spells none no_length no_caller refusal h = before front head 5 spells (λ _. none) (λ _. no_length) (λ _. no_caller) refusal (step_is_small refusal) h

@@ -3,18 +3,16 @@ use Rattle.std.proofs.Common.{◌≡◌, ◌+◌, ◌++◌, ◌∷◌, [], List,
 use Rattle.desk_log.specs.Watching.{IsCounted, lines_at, lines_from, one_more, streak_after, streak_of, watch_after, watch_from, with_streak}
 use Rattle.desk_log.specs.declared.note.OfficeNote.{OfficeNote}
 use Rattle.desk_log.specs.declared.note.OfficeOutcome.{OfficeOutcome}
-use Rattle.desk_log.specs.declared.note.OfficeOutcome.TheVariants.{Failed, Refused, Succeeded}
+use Rattle.desk_log.specs.declared.note.OfficeOutcome.TheVariants.{Failed}
 use Rattle.desk_log.specs.declared.note.RequestKind.{RequestKind}
 use Rattle.desk_log.specs.declared.note.RequestKind.TheVariants.{Change, Reading}
 use Rattle.desk_log.specs.declared.watch.Watch.{Watch}
 
 pub still_counted : (watch : Watch) (kind : RequestKind) (outcome : OfficeOutcome) → IsCounted watch → IsCounted (with_streak kind (streak_after (streak_of kind watch) outcome) (one_more watch))
 still_counted watch Change (Failed failure) is = record { changes = omega arith; readings = omega arith }
-still_counted watch Change Refused is = record { changes = omega arith; readings = omega arith }
-still_counted watch Change Succeeded is = record { changes = omega arith; readings = omega arith }
 still_counted watch Reading (Failed failure) is = record { changes = omega arith; readings = omega arith }
-still_counted watch Reading Refused is = record { changes = omega arith; readings = omega arith }
-still_counted watch Reading Succeeded is = record { changes = omega arith; readings = omega arith }
+still_counted watch Change _ is = record { changes = omega arith; readings = omega arith }
+still_counted watch Reading _ is = record { changes = omega arith; readings = omega arith }
 
 pub one_after : (watch : Watch) (notes : List (Option OfficeNote)) (last : Option OfficeNote) → watch_from watch (notes ++ last ∷ []) ≡ watch_after (watch_from watch notes) last
 one_after watch [] last = refl

@@ -1,10 +1,7 @@
 -- Where a line of a bag's manifest lists no good path, its cause is found from the bag.
-use Rattle.std.proofs.Common.{◌≡◌, ◌∙◌, ℕ, Bool, true, false, cond, List, [], arith, refl, sym, ap, subst, ◌==◌}
-use Rattle.std.specs.Prelude.{Option, Some, None, IsSome, find, option_and_then}
+use Rattle.fault_words.proofs.Common.{◌≡◌, ◌∙◌, ℕ, Bool, true, false, cond, List, [], arith, refl, sym, ap, subst, ◌==◌, Option, Some, None, IsSome, find, option_and_then, false≢true, nat_tests}
 use Rattle.std.specs.Option.{option_map_or}
 use Rattle.std.specs.Result.{result_ok}
-use Rattle.std.proofs.lemmas.Bool.{false≢true}
-use Rattle.std.proofs.lemmas.Bool.Decides.{nat_tests}
 use Rattle.bag_text.specs.Text.{begins_with}
 use Rattle.bag_text.specs.Lines.{numbered_line}
 use Rattle.bag_text.specs.Manifest.{IsNoGoodPath, LineIs, decode, path_text}

@@ -1,4 +1,6 @@
+pub mod Common
 mod CauseLemmas
 pub mod FormLemmas
 mod RulePlaces
 mod TomlLines
+pub mod Lemmas

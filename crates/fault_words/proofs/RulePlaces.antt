@@ -1,12 +1,5 @@
 -- The value of the rule with a number.
-use Rattle.std.proofs.Common.{◌≡◌, ◌∙◌, ℕ, suc, Bool, List, [], ◌∷◌, Option, map, option_and_then, option_map, slice_get, refl, sym, ap}
-use Rattle.std.specs.Prelude.{Some}
-use Rattle.std.proofs.lemmas.Option.{slice_get-map}
-use Rattle.toml.specs.Data.{Data}
-use Rattle.toml.specs.View.{items_of, items_view, view}
-use Rattle.toml.specs.declared.value.Value.{Value}
-use Rattle.office_core.specs.Policies.{elements}
-use Rattle.fault_words.specs.PolicyReasons.{numbered_key, value_at, value_key}
+use Rattle.fault_words.proofs.Common.{◌≡◌, ◌∙◌, ℕ, suc, Bool, List, [], ◌∷◌, Option, map, option_and_then, option_map, slice_get, refl, sym, ap, Some, slice_get-map, Data, items_of, items_view, view, Value, elements, numbered_key, value_at, value_key}
 
 elements-items_of : (values : List Data) → elements (items_of values) ≡ values
 elements-items_of [] = refl

@@ -1,12 +1,7 @@
 -- The first lines of a text, and whether they are TOML.
-use Rattle.std.proofs.Common.{◌≡◌, ◌∙◌, ◌<◌, ◌≤◌, ◌==◌, ℕ, zero, suc, Bool, true, false, List, [], ◌∷◌, length, Some, None, is_some, IsUtf8, refl, sym, ap, arith, if◌then◌else◌}
+use Rattle.fault_words.proofs.Common.{◌≡◌, ◌∙◌, ◌<◌, ◌≤◌, ◌==◌, ℕ, zero, suc, Bool, true, false, List, [], ◌∷◌, length, Some, None, is_some, IsUtf8, refl, sym, ap, arith, if◌then◌else◌, false_from_ne_true, true≢false, IsUtf8-from_is_utf8, is_utf8-from_IsUtf8, Members, no_members, parse_document, first_lines, is_toml, tree_in}
 use Rattle.std.specs.Str.{is_utf8}
-use Rattle.std.proofs.lemmas.Bool.{false_from_ne_true, true≢false}
-use Rattle.std.proofs.lemmas.Str.{IsUtf8-from_is_utf8, is_utf8-from_IsUtf8}
-use Rattle.toml.specs.Data.{Members, no_members}
-use Rattle.toml.specs.Parse.{parse_document}
 use Rattle.toml.proofs.OnLiterals.{toml_on_literals}
-use Rattle.fault_words.specs.PolicyReasons.{first_lines, is_toml, tree_in}
 
 -- ---- trees
 

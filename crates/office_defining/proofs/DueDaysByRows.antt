@@ -1,15 +1,8 @@
 -- The due days of the deposits of a class, by the rows, whichever they are.
-use Rattle.std.proofs.Common.{◌≡◌, ℕ, zero, suc, ℤ, pos, ◌+ℤ◌, ◌≤ℤ◌, Bool, true, false, ◌&&◌, ◌||◌, List, [], ◌∷◌, ◌++◌, map, Option, Some, None, option_map, refl, sym, ap, ap₂, ◌∙◌, if◌then◌else◌, append_assoc, arith}
-use Rattle.std.proofs.lemmas.Int.{ints}
+use Rattle.office_defining.proofs.Common.{◌≡◌, ℕ, zero, suc, ℤ, pos, ◌+ℤ◌, ◌≤ℤ◌, Bool, true, false, ◌&&◌, ◌||◌, List, [], ◌∷◌, ◌++◌, map, Option, Some, None, option_map, refl, sym, ap, ap₂, ◌∙◌, if◌then◌else◌, append_assoc, arith, ints, due_number, due_of, DueRow, Tables, has_class, is_due_between, is_due_of, with_class, with_due, with_dues, with_new_class, with_years, ClosingRow, class_closings, with_due_days, day_numbered}
 use Rattle.std.specs.Ordering.{int_cmp, int_eq, is_ge, is_le}
 use Rattle.jiff.specs.Types.{Date}
 use Rattle.office_core.specs.FirstOf.{◌>>=◌}
-use Rattle.office_core.specs.Retention.{due_number}
-use Rattle.office_core.specs.RetentionReading.{due_of}
-use Rattle.office_rows.specs.Rows.{DueRow, Tables, has_class, is_due_between, is_due_of, with_class, with_due, with_dues, with_new_class, with_years}
-use Rattle.office_rows.specs.Told.{ClosingRow, class_closings}
-use Rattle.office_by_rows.specs.Changes.{with_due_days}
-use Rattle.office_by_rows.specs.Values.{day_numbered}
 
 -- ---- a series: rows whose numbers follow one another, with one closing day
 

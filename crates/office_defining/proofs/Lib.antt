@@ -1,2 +1,3 @@
+pub mod Common
 pub mod RuleRows
 pub mod DueDaysByRows

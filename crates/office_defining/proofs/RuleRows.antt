@@ -1,7 +1,6 @@
 -- The rows of rules, made one after another.
-use Rattle.std.proofs.Common.{◌≡◌, ℕ, zero, suc, ◌+◌, ◌<◌, List, [], ◌∷◌, ◌++◌, length, take, get_or, sym, ap, ◌∙◌, arith}
+use Rattle.office_defining.proofs.Common.{◌≡◌, ℕ, zero, suc, ◌+◌, ◌<◌, List, [], ◌∷◌, ◌++◌, length, take, get_or, sym, ap, ◌∙◌, arith, rule_row, rule_rows}
 use Rattle.office_core.specs.declared.rule.Rule.{Rule}
-use Rattle.office_history.specs.Pictures.{rule_row, rule_rows}
 
 next_row : (start : ℕ) (rules : List Rule) (i : ℕ) (x : Rule) → i < length rules → x ≡ get_or rules i x → rule_rows start (take (suc i) rules) ≡ rule_rows start (take i rules) ++ rule_row (start + i) x ∷ []
 next_row start [] i x low e = absurd (omega (arith, low))

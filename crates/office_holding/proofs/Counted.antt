@@ -1,19 +1,10 @@
 -- The number of the next hold, and the counts of live holds, by the rows that were read.
-use Rattle.std.proofs.Common.{◌≡◌, ℕ, ℤ, pos, ◌+ℤ◌, ◌&&◌, Bool, true, false, List, Option, Some, None, Result, Ok, Err, IfOk, refl, sym, subst, ◌∙◌, if◌then◌else◌}
+use Rattle.office_holding.proofs.Common.{◌≡◌, ℕ, ℤ, pos, ◌+ℤ◌, ◌&&◌, Bool, true, false, List, Option, Some, None, Result, Ok, Err, IfOk, refl, sym, subst, ◌∙◌, if◌then◌else◌, epoch_day, ◌>>=◌, Refusal, DueRow, Limits, Tables, due_numbered, limits_of, with_holds, TableFault, Store, counted_on, new_hold, full_after, full_of_holds, highest_hold, held_target}
 use Rattle.jiff.specs.Types.{Date}
-use Rattle.jiff.specs.Words.{epoch_day}
-use Rattle.office_core.specs.FirstOf.{◌>>=◌}
-use Rattle.office_core.specs.declared.refusal.Refusal.{Refusal}
-use Rattle.office_rows.specs.Rows.{DueRow, Limits, Tables, due_numbered, limits_of, with_holds}
 use Rattle.office_tables.specs.ShownHolds.{placed_row}
-use Rattle.office_tables.specs.declared.fault.TableFault.{TableFault}
-use Rattle.office_tables.specs.declared.fault.TableFault.TheVariants.{Store}
 use Rattle.office_tables.specs.declared.holds.HoldTarget.{HoldTarget}
 use Rattle.office_tables.specs.declared.holds.HoldTarget.TheVariants as targets
-use Rattle.office_by_rows.specs.Changes.{counted_on, new_hold}
-use Rattle.office_by_rows.specs.Refusals.{full_after, full_of_holds, highest_hold}
 use Rattle.office_by_rows.specs.Values.{is_between}
-use Rattle.office_asking.specs.Told.{held_target}
 
 -- whether the office is full, by the limits and the highest number that were read
 pub full_told : (t : Tables) (limits : Limits) → limits_of t ≡ Some limits → (highest : Option ℤ) → highest ≡ highest_hold t → (full : Option Refusal) → full_after limits.max_holds highest ≡ Some full → full_of_holds t ≡ Some full
@@ -22,8 +13,7 @@ full_told t limits are highest is full told = (λ i. are i >>= λ (limits : Limi
 -- the row that is put is that of the new hold
 pub put_row : (k : ℕ) (day : Date) (target : HoldTarget) (matter : List ℕ) → placed_row target (pos k) matter (epoch_day day) ≡ new_hold k (held_target target) matter day
 put_row k day (targets.Deposit n) matter = refl
-put_row k day (targets.Collection name) matter = refl
-put_row k day (targets.Class name) matter = refl
+put_row k day _ matter = refl
 
 -- what is counted over a deposit, by the limits and the row that were read
 module _ (t : Tables) (n : ℕ) (by : ℤ) (limits : Limits) (are : limits_of t ≡ Some limits) (row : DueRow) (there : due_numbered (pos n) t.dues ≡ Some row) where

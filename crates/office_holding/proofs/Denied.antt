@@ -1,28 +1,18 @@
 -- What stands first against a hold or a release, and what is answered and written where nothing does, by the rows that were read.
-use Rattle.std.proofs.Common.{◌≡◌, ℕ, pos, negsuc, not, Bool, true, false, List, [], ◌∷◌, Option, Some, None, option_map, unwrap_or, refl, sym, ap, ◌∙◌, if◌then◌else◌}
+use Rattle.office_holding.proofs.Common.{◌≡◌, ℕ, pos, negsuc, not, Bool, true, false, List, [], ◌∷◌, Option, Some, None, option_map, unwrap_or, refl, sym, ap, ◌∙◌, if◌then◌else◌, epoch_day, ◌>>=◌, answer_if, Refusal, HoldRow, Tables, has_collection, hold_numbered, with_hold, with_released, held_deposit, Visit, denial_in, target_of, allowed_rows, counted_over, new_hold, first_told, full_of_holds, highest_hold, hold_denials, hold_refusals, number_after, of_hold, refusal, release_denial, release_denial_on, released_refusal, none_first, denial_of_name, hold_request, is_there_in, name_denial, subject_of}
 use Rattle.std.specs.Borrow.{MutBor}
 use Rattle.std.proofs.lemmas.Option.{same_Some}
-use Rattle.jiff.specs.Words.{epoch_day}
 use Rattle.sqlite.specs.Held.{Held, state}
 use Rattle.sqlite.specs.Store.{Ghosts}
-use Rattle.office_core.specs.FirstOf.{◌>>=◌, answer_if}
 use Rattle.office_core.specs.declared.action.Action.{Action}
 use Rattle.office_core.specs.declared.action.Action.TheVariants as acts
 use Rattle.office_core.specs.declared.answer.Answer.TheVariants as answers
-use Rattle.office_core.specs.declared.refusal.Refusal.{Refusal}
 use Rattle.office_core.specs.declared.refusal.Refusal.TheVariants.{NoSuch}
 use Rattle.office_core.specs.declared.refusal.Subject.TheVariants as subjects
 use Rattle.office_core.specs.declared.request.Request.TheVariants as requests
-use Rattle.office_rows.specs.Rows.{HoldRow, Tables, has_collection, hold_numbered, with_hold, with_released}
 use Rattle.office_tables.specs.Tables.{tables_of}
 use Rattle.office_history.specs.Histories.{Target, OnDeposit, OnCollection, OnClass}
-use Rattle.office_history.specs.Pictures.{held_deposit}
-use Rattle.office_by_rows.specs.Asking.{Visit, denial_in, target_of}
 use Rattle.office_by_rows.specs.Answers.{allowed_answer}
-use Rattle.office_by_rows.specs.Changes.{allowed_rows, counted_over, new_hold}
-use Rattle.office_by_rows.specs.Refusals.{first_told, full_of_holds, highest_hold, hold_denials, hold_refusals, number_after, of_hold, refusal, release_denial, release_denial_on, released_refusal}
-use Rattle.office_asking.proofs.FirstTold.{none_first}
-use Rattle.office_holding.specs.Targets.{denial_of_name, hold_request, is_there_in, name_denial, subject_of}
 
 -- the tables before a call, by the connection that it was given
 abbrev pub tables_before : {S : Type 0} → Ghosts S → MutBor (Held S) → Tables
@@ -69,14 +59,12 @@ module _ (t : Tables) (visit : Visit) where
   -- the request for a hold meets what stands against a hold of its target
   pub hold_refused : (target : Target) (matter : List ℕ) → refusal t visit (hold_request target matter) ≡ first_told (hold_refusals t visit target)
   hold_refused (OnDeposit n) matter = refl
-  hold_refused (OnCollection name) matter = refl
-  hold_refused (OnClass name) matter = refl
+  hold_refused _ matter = refl
 
   -- where the next number is known
   pub hold_answered : (target : Target) (matter : List ℕ) (k : ℕ) → number_after (highest_hold t) ≡ Some k → allowed_answer t visit (hold_request target matter) ≡ Some (answers.HoldPlaced k)
   hold_answered (OnDeposit n) matter k is = ap (option_map answers.HoldPlaced) is
-  hold_answered (OnCollection name) matter k is = ap (option_map answers.HoldPlaced) is
-  hold_answered (OnClass name) matter k is = ap (option_map answers.HoldPlaced) is
+  hold_answered _ matter k is = ap (option_map answers.HoldPlaced) is
 
   pub hold_rows : (target : Target) (matter : List ℕ) (k : ℕ) → number_after (highest_hold t) ≡ Some k
       → counted_over target (pos 1) (with_hold (new_hold k target matter visit.day) t) ≡ allowed_rows t visit (hold_request target matter)
@@ -87,8 +75,7 @@ module _ (t : Tables) (visit : Visit) where
 
       by : (on : Target) → (number_after (highest_hold t) >>= λ k. counted_over on (pos 1) (with_hold (new_hold k on matter visit.day) t)) ≡ allowed_rows t visit (hold_request on matter)
       by (OnDeposit n) = refl
-      by (OnCollection name) = refl
-      by (OnClass name) = refl
+      by _ = refl
 
   -- ---- a release
 

@@ -1,2 +1,4 @@
+pub mod Common
 pub mod Denied
 pub mod Counted
+pub mod Lemmas

@@ -1,40 +1,6 @@
 -- What the statements on classes do to the rows of an office.
-use Rattle.std.proofs.Common.{IsTrue, if◌then◌else◌, ◌≡◌, ◌≢◌, ◌⊎◌, ℕ, ℤ, List, [], ◌∷◌, map, filter, slice_get, option_map, true, Ok, refl, ap, subst, sym, ◌∙◌, inl, inr, arith}
-use Rattle.std.specs.List.{AllByRecursion, list_any}
-use Rattle.std.proofs.lemmas.Bool.{cases_Bool}
-use Rattle.std.proofs.lemmas.List.{map-append}
-use Rattle.sqlite.specs.declared.types.Value.TheVariants.{Null, Int, Text}
-use Rattle.sqlite.specs.Order.{Row, column}
-use Rattle.sqlite.specs.Edit.{id_in, edit_of}
-use Rattle.sqlite.specs.Rowids.TheVariants.{Chosen, Given}
-use Rattle.sqlite.specs.Tree.{rowid}
+use Rattle.office_tables.proofs.FirstLemmas.{IsTrue, if◌then◌else◌, ◌≡◌, ◌≢◌, ◌⊎◌, ℕ, ℤ, List, [], ◌∷◌, map, filter, slice_get, option_map, true, Ok, refl, ap, subst, sym, ◌∙◌, inl, inr, arith, AllByRecursion, list_any, cases_Bool, map-append, Null, Int, Text, Row, column, id_in, edit_of, Chosen, Given, rowid, cast, cast_row, Database, State, Shown, Executes, Datatype, NotNull, Unique, Has, ids_of, all_has, all_from, int_is, is_int, int_at, bytes_at, inserts, updates, as_program, scan, shown_of, has_text, by_text, each_passes, few_named, typed_at, all_both, appended, decoded, counted, cast_null, cast_int, none_revised, keeps_rule, revises, office_schema, class_table, class_tree, Tables, ClassRow, is_class, class_named, with_years, with_new_class, with_class, IsOffice, Becomes, tables_of, class_in, HasSameContents, of_classes, idle, becomes, same_contents, years_text, revise_text, revised_columns, add_class_text, class_meanings, all_given, finds_named}
 use Rattle.sqlite.specs.Kind.TheVariants as kind
-use Rattle.sqlite.specs.Cast.{cast, cast_row}
-use Rattle.sqlite.specs.Effect.{Database}
-use Rattle.sqlite.specs.State.{State, Shown, Executes}
-use Rattle.sqlite_schema.specs.declared.schema.Constraint.TheVariants.{Datatype, NotNull, Unique}
-use Rattle.sqlite_rules.specs.Lists.{Has}
-use Rattle.sqlite_rules.specs.Calls.{ids_of}
-use Rattle.sqlite_rules.proofs.ListLemmas.{all_has, all_from}
-use Rattle.sqlite_rules.proofs.TableLemmas.{int_is}
-use Rattle.sqlite_trees.specs.View.{is_int}
-use Rattle.sql_meaning.specs.Columns.{int_at, bytes_at}
-use Rattle.sql_meaning.proofs.Writing.{inserts, updates}
-use Rattle.sql_meaning.proofs.Scanning.{as_program, scan, shown_of}
-use Rattle.sql_meaning.proofs.TextKeys.{has_text, by_text, each_passes, few_named}
-use Rattle.sql_meaning.proofs.Typed.{typed_at, all_both}
-use Rattle.sql_meaning.proofs.Edits.{appended, decoded, counted, cast_null, cast_int, none_revised}
-use Rattle.sql_meaning.proofs.Whole.{keeps_rule}
-use Rattle.sql_meaning.proofs.Changing.{revises}
-use Rattle.office_tables.specs.Schema.{office_schema, class_table, class_tree}
-use Rattle.office_rows.specs.Rows.{Tables, ClassRow, is_class, class_named, with_years, with_new_class, with_class}
-use Rattle.office_tables.specs.Tables.{IsOffice, Becomes, tables_of, class_in}
-use Rattle.office_tables.specs.Contents.{HasSameContents}
-use Rattle.office_tables.proofs.TablePlaces.{of_classes}
-use Rattle.office_tables.proofs.Frames.{idle, becomes, same_contents}
-use Rattle.office_tables.proofs.ClassTexts.{years_text, revise_text, revised_columns, add_class_text, class_meanings}
-use Rattle.office_tables.proofs.Columns.{all_given}
-use Rattle.office_tables.proofs.RowsRead.{finds_named}
 
 -- a stored class, as the rules of its table leave it
 abbrev pub IsClassRow : Row → Type 0

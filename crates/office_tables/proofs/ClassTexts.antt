@@ -1,15 +1,5 @@
 -- What the statements on classes and collections mean under the schema of an office.
-use Rattle.std.proofs.Common.{ℕ, List, [], ◌∷◌, codes, refl}
-use Rattle.sqlite.specs.Term.{Term, col}
-use Rattle.sqlite.specs.Command.TheVariants.{Insert, Update}
-use Rattle.sqlite.specs.Source.TheVariants.{Values}
-use Rattle.sqlite.specs.Listing.{understood}
-use Rattle.sqlite_tied.specs.Compute.{everything}
-use Rattle.sql_meaning.proofs.Scanning.{scan, as_program}
-use Rattle.sql_meaning.proofs.Reading.{Asks}
-use Rattle.sql_meaning.proofs.TextKeys.{by_text}
-use Rattle.sql_meaning.proofs.Writing.{Means}
-use Rattle.office_tables.specs.Schema.{office_schema, class_tree, collection_tree}
+use Rattle.office_tables.proofs.Common.{ℕ, List, [], ◌∷◌, codes, refl, Term, col, Insert, Update, Values, understood, everything, scan, as_program, Asks, by_text, Means, office_schema, class_tree, collection_tree}
 use Rattle.office_tables.proofs.Columns.{only, all_given}
 
 abbrev pub years_text : List ℕ

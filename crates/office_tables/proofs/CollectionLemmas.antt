@@ -1,34 +1,5 @@
 -- What the statements on collections do to the rows of an office.
-use Rattle.std.proofs.Common.{◌≡◌, ◌⊎◌, ℕ, List, [], ◌∷◌, map, filter, length, ◌==◌, not, true, Ok, refl, ap, sym, ◌∙◌, inl, inr, arith}
-use Rattle.std.proofs.lemmas.Bool.{cases_Bool}
-use Rattle.std.proofs.lemmas.List.{map-append}
-use Rattle.std.proofs.lemmas.Bool.Decides.{nat_tests}
-use Rattle.std.specs.List.{AllByRecursion, list_any}
-use Rattle.sqlite.specs.declared.types.Value.TheVariants.{Null, Text}
-use Rattle.sqlite.specs.Order.{Row, column}
-use Rattle.sqlite.specs.Edit.{edit_of}
-use Rattle.sqlite.specs.Rowids.TheVariants.{Chosen}
-use Rattle.sqlite.specs.Cast.{cast_row}
-use Rattle.sqlite.specs.Effect.{Database}
-use Rattle.sqlite.specs.State.{State, Shown, Executes}
-use Rattle.sqlite_schema.specs.declared.schema.Constraint.TheVariants.{Datatype, NotNull, Unique}
-use Rattle.sqlite_rules.specs.Lists.{Has}
-use Rattle.sql_meaning.specs.Columns.{bytes_at}
-use Rattle.sql_meaning.proofs.Writing.{inserts}
-use Rattle.sql_meaning.proofs.Scanning.{shown_of}
-use Rattle.sql_meaning.proofs.Reading.{finds_any}
-use Rattle.sql_meaning.proofs.TextKeys.{has_text, few_named}
-use Rattle.sql_meaning.proofs.Typed.{typed_at, all_both}
-use Rattle.sql_meaning.proofs.Edits.{appended, cast_null}
-use Rattle.sql_meaning.proofs.Whole.{keeps_rule}
-use Rattle.office_tables.specs.Schema.{office_schema, collection_table, collection_tree}
-use Rattle.office_rows.specs.Rows.{has_collection, is_collection, with_new_collection}
-use Rattle.office_tables.specs.Tables.{IsOffice, Becomes, tables_of, collection_in}
-use Rattle.office_tables.proofs.TablePlaces.{of_collections}
-use Rattle.office_tables.proofs.Frames.{idle, becomes}
-use Rattle.office_tables.proofs.ClassTexts.{find_text, add_collection_text, class_meanings}
-use Rattle.office_tables.proofs.Columns.{only, all_given}
-use Rattle.office_tables.proofs.RowsRead.{reads_named}
+use Rattle.office_tables.proofs.FirstLemmas.{◌≡◌, ◌⊎◌, ℕ, List, [], ◌∷◌, map, filter, length, ◌==◌, not, true, Ok, refl, ap, sym, ◌∙◌, inl, inr, arith, cases_Bool, map-append, nat_tests, AllByRecursion, list_any, Null, Text, Row, column, edit_of, Chosen, cast_row, Database, State, Shown, Executes, Datatype, NotNull, Unique, Has, bytes_at, inserts, shown_of, finds_any, has_text, few_named, typed_at, all_both, appended, cast_null, keeps_rule, office_schema, collection_table, collection_tree, has_collection, is_collection, with_new_collection, IsOffice, Becomes, tables_of, collection_in, of_collections, idle, becomes, find_text, add_collection_text, class_meanings, only, all_given, reads_named}
 
 pub collection_rows : (db : Database) → IsOffice db → AllByRecursion (λ r. column r 1 ≡ Text (bytes_at r 1)) (db.trees collection_tree)
 collection_rows db office = all_both (λ r typed present. typed_at office_schema db.trees collection_table r typed present 0 refl)

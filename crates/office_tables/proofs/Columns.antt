@@ -1,7 +1,5 @@
 -- The terms that statements have in common: which columns a query shows, and what an INSERT takes of its parameters.
-use Rattle.std.proofs.Common.{ℕ, zero, suc, List, [], ◌∷◌}
-use Rattle.sqlite.specs.declared.types.Value.TheVariants.{Null}
-use Rattle.sqlite.specs.Term.{Term, lit, col}
+use Rattle.office_tables.proofs.Common.{ℕ, zero, suc, List, [], ◌∷◌, Null, Term, lit, col}
 
 -- this column alone
 abbrev pub only : ℕ → List Term

@@ -1,62 +1,9 @@
 -- What the statements on contents do to the rows of an office.
-use Rattle.std.proofs.Common.{arith, ◌≡◌, ◌&&◌, ◌||◌, ◌⊎◌, ◌==◌, ap₂, not, bytes_eq, ℕ, ℤ, pos, ◌+ℤ◌, List, [], ◌∷◌, ◌++◌, map, filter, find, fold, length, slice_get, option_map, unwrap_or, Bool, true, false, Option, None, Some, Ok, refl, sym, ap, subst, subst₂, ◌∙◌, inl, inr, if◌then◌else◌}
-use Rattle.std.specs.List.{AllByRecursion, IsDistinct, list_any}
-use Rattle.std.proofs.lemmas.Slice.Eq.{bytes_eq-Decides}
-use Rattle.sha2.specs.Sha256.{sha256}
-use Rattle.std.specs.Ordering.{int_eq}
-use Rattle.std.proofs.lemmas.List.{map-append}
-use Rattle.std.proofs.lemmas.Option.{same_Some}
-use Rattle.std.proofs.Math.Bool.{and-true}
-use Rattle.std.proofs.lemmas.Bool.{cases_Bool, and_parts, or_parts}
-use Rattle.std.proofs.lemmas.Bool.Decides.{nat_tests}
-use Rattle.sqlite.specs.declared.types.Value.TheVariants.{Null, Int, Blob}
-use Rattle.sqlite.specs.Order.{Row, column}
-use Rattle.sqlite.specs.Edit.{Edit, edit_of, id_in}
-use Rattle.sqlite.specs.Rowids.TheVariants.{Chosen, Given}
-use Rattle.sqlite.specs.Cast.{cast_row}
-use Rattle.sqlite.specs.Ops.{binary, is_true, is_null}
-use Rattle.sqlite.specs.Collation.TheVariants.{Binary}
-use Rattle.sqlite.specs.Tree.{rowid}
-use Rattle.sqlite.specs.Effect.{Database}
-use Rattle.sqlite.specs.State.{State, Shown, Executes}
-use Rattle.sqlite_sql.specs.declared.ops.BinaryOp.TheVariants.{Compare}
-use Rattle.sqlite_sql.specs.declared.ops.CompareOp.TheVariants.{Eq}
-use Rattle.sqlite_value.specs.Keys.{first_key, plain, joined}
-use Rattle.sqlite_keyed.proofs.ListLemmas.{ascending_weaker, map-map, filter-map}
+use Rattle.office_tables.proofs.FirstLemmas.{arith, ◌≡◌, ◌&&◌, ◌||◌, ◌⊎◌, ◌==◌, ap₂, not, bytes_eq, ℕ, ℤ, pos, ◌+ℤ◌, List, [], ◌∷◌, ◌++◌, map, filter, find, fold, length, slice_get, option_map, unwrap_or, Bool, true, false, Option, None, Some, Ok, refl, sym, ap, subst, subst₂, ◌∙◌, inl, inr, if◌then◌else◌, AllByRecursion, IsDistinct, list_any, bytes_eq-Decides, sha256, int_eq, map-append, same_Some, and-true, cases_Bool, and_parts, or_parts, nat_tests, Null, Int, Blob, Row, column, Edit, edit_of, id_in, Chosen, Given, cast_row, binary, is_true, is_null, Binary, rowid, Database, State, Shown, Executes, Compare, Eq, first_key, plain, joined, ascending_weaker, map-map, filter-map, filter_all, Has, ids_of, all_has, all_from, has_filtered, has_found, has_kept, some_has, some_from, has_mapped, mapped_has, int_is, Datatype, NotNull, ForeignKey, same_name, agree, has_null, filter_same, IsShaped, int_at, bytes_at, Changes, inserts, passes, shown_of, reads_same, reads_rising, finds_part, reads_some, found_by, int_itself, same_int, same_blob, by_number, has_number, each_numbered, few_numbered, one_numbered, rising, typed_at, all_both, appended, cast_null, cast_int, map_alike, keeps_rule, drops, office_schema, content_table, file_table, file_tree, content_tree, FileRow, ContentRow, is_content, content_numbered, bytes_under, is_alike, next_id, last_number, with_content, with_file, file_at, Tables, IsOffice, tables_of, contents_of, content_in, file_in, references_of, StandOnce, IsMarked, AreUsed, KeepsOnce, KeepsFiles, content_after, IsContentAdded, IsNewContent, number_alike, content_number, IsContentKept, IsFileAdded, IsMarkedPut, AreFilesDropped, AreUsedOr, IsTidied, is_among, is_intact, without_unused, references_within, references_without, contents_without, of_files, of_contents, idle, becomes, with_edit, contents_after, references_after, file_rows_after, reads_last, only, reads_numbered}
+use mathlib.Core.Bool.{or-true}
 use Rattle.sqlite_keyed.proofs.KeyedLemmas.{same_int as same_number}
-use Rattle.sqlite_catalog.proofs.ListFacts.{filter_all}
-use Rattle.sqlite_rules.specs.Lists.{Has}
-use Rattle.sqlite_rules.specs.Calls.{ids_of}
-use Rattle.sqlite_rules.proofs.ListLemmas.{all_has, all_from, has_filtered, has_found, has_kept, some_has, some_from}
-use Rattle.sqlite_rules.proofs.ProbeLemmas.{has_mapped, mapped_has}
-use Rattle.sqlite_rules.proofs.TableLemmas.{int_is}
-use Rattle.sqlite_schema.specs.declared.schema.Constraint.TheVariants.{Datatype, NotNull, ForeignKey}
-use Rattle.sqlite_schema.specs.Names.{same_name}
-use Rattle.sqlite_schema.specs.Rules.{agree, has_null}
-use Rattle.sqlite_trees.proofs.ListLemmas.{filter_same}
-use Rattle.sqlite_trees.specs.View.{IsShaped}
 use Rattle.sqlite_trees.specs.declared.store.Shape.TheVariants as shape
-use Rattle.sql_meaning.specs.Columns.{int_at, bytes_at}
-use Rattle.sql_meaning.proofs.Writing.{Changes, inserts}
-use Rattle.sql_meaning.proofs.Scanning.{passes, shown_of}
-use Rattle.sql_meaning.proofs.Reading.{reads_same, reads_rising, finds_part}
-use Rattle.sql_meaning.proofs.Limited.{reads_some}
-use Rattle.sql_meaning.proofs.Keys.{found_by, int_itself, same_int, same_blob}
-use Rattle.sql_meaning.proofs.RowidKeys.{by_number, has_number, each_numbered, few_numbered, one_numbered, rising}
-use Rattle.sql_meaning.proofs.Typed.{typed_at, all_both}
-use Rattle.sql_meaning.proofs.Edits.{appended, cast_null, cast_int, map_alike}
-use Rattle.sql_meaning.proofs.Whole.{keeps_rule}
-use Rattle.sql_meaning.proofs.Changing.{drops}
-use Rattle.office_tables.specs.Schema.{office_schema, content_table, file_table, file_tree, content_tree}
-use Rattle.office_rows.specs.Rows.{FileRow, ContentRow, is_content, content_numbered, bytes_under, is_alike, next_id, last_number, with_content, with_file, file_at, Tables}
-use Rattle.office_tables.specs.Tables.{IsOffice, tables_of, contents_of, content_in, file_in}
-use Rattle.office_tables.specs.Contents.{references_of, StandOnce, IsMarked, AreUsed, KeepsOnce, KeepsFiles, content_after, IsContentAdded, IsNewContent, number_alike, content_number, IsContentKept, IsFileAdded, IsMarkedPut, AreFilesDropped, AreUsedOr, IsTidied, is_among, is_intact, without_unused, references_within, references_without, contents_without}
-use Rattle.office_tables.proofs.TablePlaces.{of_files, of_contents}
-use Rattle.office_tables.proofs.Frames.{idle, becomes, with_edit, contents_after, references_after, file_rows_after}
-use Rattle.office_tables.proofs.LastRow.{reads_last}
 use Rattle.office_tables.proofs.ContentTexts.{content_text, content_columns, by_likeness, alike_text, last_text, contents_text, size_columns, by_content, users_text, add_text, add_terms, remove_text, content_meanings}
-use Rattle.office_tables.proofs.Columns.{only}
-use Rattle.office_tables.proofs.RowsRead.{reads_numbered}
 
 -- a stored content, as the rules of its table leave it
 abbrev IsContentRow : Row → Type 0
@@ -451,17 +398,13 @@ any_mapped : (p : ℤ → Bool) (rows : List Row) → list_any p (map (λ row. i
 any_mapped p [] = refl
 any_mapped p (r ∷ rows) = ap (λ b. p (int_at r 3) || b) (any_mapped p rows)
 
-or_true : (b : Bool) → (b || true) ≡ true
-or_true true = refl
-or_true false = refl
-
 -- whether a file has the content of that number
 among_is : (id : ℤ) (db : Database) (used : Bool) → list_any (refers_to id) (db.trees file_tree) ≡ used → (c : ContentRow) → is_content id c ≡ true → is_among (references_of db) c ≡ used
 among_is id db used some c is = any_mapped (λ k. int_eq k c.id) (db.trees file_tree) ∙ ap (λ k. list_any (λ r. int_eq (int_at r 3) k) (db.trees file_tree)) (same_number c.id id is) ∙ some
 
 -- a content of another number stays
 others_stay : (id : ℤ) (refs : List ℤ) (c : ContentRow) → is_content id c ≡ false → (is_among refs c || not (is_content id c)) ≡ true
-others_stay id refs c isnt = ap (λ b. is_among refs c || not b) isnt ∙ or_true (is_among refs c)
+others_stay id refs c isnt = ap (λ b. is_among refs c || not b) isnt ∙ or-true (is_among refs c)
 
 -- a content that some file has stays
 pub tidies_used : (id : ℤ) (ids : List ℤ) (old new : Database) → IsOffice old → new ≡ old → list_any (λ r. int_eq (int_at r 3) id) (old.trees file_tree) ≡ true → IsTidied (id ∷ ids) ids old new
@@ -551,7 +494,7 @@ stays_twice false true y = refl
 stays_twice false false y = refl
 
 without_each : (ids refs : List ℤ) (cs : List ContentRow) → without_unused ids refs cs ≡ filter (λ c. is_among refs c || not (list_any (λ id. is_content id c) ids)) cs
-without_each [] refs cs = sym (filter_all (λ (c : ContentRow). is_among refs c || true) cs (λ c there. or_true (is_among refs c)))
+without_each [] refs cs = sym (filter_all (λ (c : ContentRow). is_among refs c || true) cs (λ c there. or-true (is_among refs c)))
 without_each (id ∷ ids) refs cs =
     without_each ids refs (filter (λ c. is_among refs c || not (is_content id c)) cs)
     ∙ filtered_twice (λ c. is_among refs c || not (is_content id c)) (λ c. is_among refs c || not (list_any (λ k. is_content k c) ids)) (λ c. is_among refs c || not (is_content id c || list_any (λ k. is_content k c) ids))

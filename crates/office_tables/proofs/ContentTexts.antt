@@ -1,22 +1,5 @@
 -- What the statements on contents, and on which files refer to one, mean under the schema of an office.
-use Rattle.std.proofs.Common.{ℕ, List, [], ◌∷◌, codes, refl}
-use Rattle.sqlite.specs.declared.types.Value.TheVariants.{Null}
-use Rattle.sqlite.specs.Collation.TheVariants.{Binary}
-use Rattle.sqlite.specs.Term.{Term, lit, col, op2}
-use Rattle.sqlite.specs.Command.TheVariants.{Insert, Delete}
-use Rattle.sqlite.specs.Source.TheVariants.{Values}
-use Rattle.sqlite.specs.Listing.{understood}
-use Rattle.sqlite_tied.specs.Compute.{everything}
-use Rattle.sqlite_sql.specs.declared.ops.BinaryOp.TheVariants.{Compare}
-use Rattle.sqlite_sql.specs.declared.ops.CompareOp.TheVariants.{Eq}
-use Rattle.sql_meaning.proofs.Scanning.{scan, as_program}
-use Rattle.sql_meaning.proofs.RowidKeys.{by_number, rising}
-use Rattle.sql_meaning.proofs.Reading.{Asks}
-use Rattle.sql_meaning.proofs.Limited.{AsksSome}
-use Rattle.sql_meaning.proofs.Writing.{Means}
-use Rattle.office_tables.proofs.LastRow.{AsksLast}
-use Rattle.office_tables.specs.Schema.{office_schema, file_tree, content_tree}
-use Rattle.office_tables.proofs.Columns.{only}
+use Rattle.office_tables.proofs.FirstLemmas.{ℕ, List, [], ◌∷◌, codes, refl, Null, Binary, Term, lit, col, op2, Insert, Delete, Values, understood, everything, Compare, Eq, scan, as_program, by_number, rising, Asks, AsksSome, Means, AsksLast, office_schema, file_tree, content_tree, only}
 
 -- ---- reads
 

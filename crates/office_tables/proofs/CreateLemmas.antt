@@ -1,25 +1,5 @@
 -- The first row of an office whose tables were just made.
-use Rattle.std.proofs.Common.{IsTrue, ◌≡◌, ℕ, ℤ, pos, [], ◌∷◌, map, Ok, refl, sym, ap, subst₂, ◌∙◌}
-use Rattle.sqlite.specs.declared.types.Value.TheVariants.{Null, Int}
-use Rattle.sqlite.specs.Order.{Row}
-use Rattle.sqlite.specs.Edit.{edit_of, edited}
-use Rattle.sqlite.specs.Rowids.TheVariants.{Chosen}
-use Rattle.sqlite.specs.Tree.{Trees, put_row}
-use Rattle.sqlite.specs.Effect.{Database}
-use Rattle.sqlite.specs.Cast.{cast_row}
-use Rattle.sqlite.specs.State.{State, Executes}
-use Rattle.sql_meaning.specs.Whole.{IsBlank}
-use Rattle.sql_meaning.proofs.Writing.{inserts}
-use Rattle.sql_meaning.proofs.Whole.{blank_shaped}
-use Rattle.sql_meaning.proofs.Edits.{inserted, cast_null, cast_int}
-use Rattle.office_tables.specs.Schema.{office_schema, office_table}
-use Rattle.office_rows.specs.Rows.{OfficeRow, Tables, empty_office}
-use Rattle.office_tables.specs.Opening.{IsMade, IsMadeLeft}
-use Rattle.std.specs.List.{IsDistinct}
-use Rattle.sql_meaning.specs.Columns.{int_at}
-use Rattle.office_tables.specs.Contents.{AreKeptOnce, KeepsOnce}
-use Rattle.office_tables.specs.Tables.{Becomes, tables_of, content_in, office_in}
-use Rattle.office_tables.proofs.Frames.{idle, becomes_shaped, same_contents, kept_once}
+use Rattle.office_tables.proofs.FirstLemmas.{IsTrue, ◌≡◌, ℕ, ℤ, pos, [], ◌∷◌, map, Ok, refl, sym, ap, subst₂, ◌∙◌, Null, Int, Row, edit_of, edited, Chosen, Trees, put_row, Database, cast_row, State, Executes, IsBlank, inserts, blank_shaped, inserted, cast_null, cast_int, office_schema, office_table, OfficeRow, Tables, empty_office, IsMade, IsMadeLeft, IsDistinct, int_at, AreKeptOnce, KeepsOnce, Becomes, tables_of, content_in, office_in, idle, becomes_shaped, same_contents, kept_once}
 use Rattle.office_tables.proofs.CreateTexts.{start_text, start_terms, start_means}
 
 pub starts_office : (old new : State) (deposits holds : ℤ) (count : ℕ) → IsBlank office_schema old.now → Executes start_text (Int deposits ∷ Int holds ∷ []) old new (Ok count)

@@ -1,24 +1,9 @@
 -- What the CREATE texts make, one after another, and what the first INSERT means.
-use Rattle.std.proofs.Common.{◌≡◌, false, inl, inr, ℕ, pos, List, [], ◌∷◌, ◌++◌, map, codes, Ok, Some, slice_get, refl, subst, sym}
+use Rattle.office_tables.proofs.Common.{◌≡◌, false, inl, inr, ℕ, pos, List, [], ◌∷◌, ◌++◌, map, codes, Ok, Some, slice_get, refl, subst, sym, Null, Int, Term, lit, col, Command, CreateTable, CreateIndex, Insert, Values, Table, Schema, understood, IsPlain, command_of, statement_of, everything, same_name, Index, Builds, Means, office_schema, no_schema, stage, office_table, caller_table, rule_table, class_table, collection_table, deposit_table, file_table, hold_table, content_table, hold_4_table, rule_5_table, plain_index}
 use Rattle.std.specs.Fmt.{digits}
-use Rattle.sqlite.specs.declared.types.Value.TheVariants.{Null, Int}
-use Rattle.sqlite.specs.Term.{Term, lit, col}
 use Rattle.sqlite.specs.Compile.{table_defined_by, index_defined_by}
-use Rattle.sqlite.specs.Command.{Command}
-use Rattle.sqlite.specs.Command.TheVariants.{CreateTable, CreateIndex, Insert}
-use Rattle.sqlite.specs.Source.TheVariants.{Values}
 use Rattle.sqlite.specs.Change.{created, indexed}
 use Rattle.sqlite.specs.Does.{lacks_sequence}
-use Rattle.sqlite.specs.Table.{Table}
-use Rattle.sqlite.specs.Schema.{Schema}
-use Rattle.sqlite.specs.Listing.{understood}
-use Rattle.sqlite.proofs.Callers.{IsPlain, command_of, statement_of}
-use Rattle.sqlite_tied.specs.Compute.{everything}
-use Rattle.sqlite_schema.specs.Names.{same_name}
-use Rattle.sqlite_schema.specs.declared.schema.Index.{Index}
-use Rattle.sql_meaning.specs.Making.{Builds}
-use Rattle.sql_meaning.proofs.Writing.{Means}
-use Rattle.office_tables.specs.Schema.{office_schema, no_schema, stage, office_table, caller_table, rule_table, class_table, collection_table, deposit_table, file_table, hold_table, content_table, hold_4_table, rule_5_table, plain_index}
 
 -- the text is that command, under the schema of the moment
 abbrev IsCommand : Schema → List ℕ → Command → Type 0

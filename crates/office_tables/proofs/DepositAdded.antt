@@ -1,40 +1,8 @@
 -- What a deposit that was put tells of the rows before it: its number and its accession are new, and its collection and its class are there.
-use Rattle.std.proofs.Common.{◌≡◌, ℕ, ℤ, [], ◌∷◌, filter, slice_get, option_map, Bool, true, Option, Some, None, Ok, IsTrue, map, refl, sym, ap, ap₂, subst, ◌∙◌}
-use Rattle.std.specs.List.{AllByRecursion, list_any}
-use Rattle.std.proofs.lemmas.Bool.{and_parts}
-use Rattle.sqlite.specs.declared.types.Value.TheVariants.{Null, Int, Text}
-use Rattle.sqlite.specs.Order.{Row}
-use Rattle.sqlite.specs.Edit.{with_rowid}
-use Rattle.sqlite.specs.Rowids.TheVariants.{Chosen}
-use Rattle.sqlite.specs.Values.{or_null, bound_value}
-use Rattle.sqlite.specs.Cast.{cast_row}
-use Rattle.sqlite.specs.State.{State, Executes}
-use Rattle.sqlite_schema.specs.declared.schema.Keys.TheVariants.{Enforced}
-use Rattle.sqlite_schema.specs.Rules.{agree}
-use Rattle.sqlite_schema.specs.declared.schema.Constraint.TheVariants.{Unique, ForeignKey}
-use Rattle.sqlite_value.specs.Keys.{plain, joined}
-use Rattle.sqlite_schema.specs.Names.{same_name}
-use Rattle.sqlite_rules.specs.Lists.{Has}
-use Rattle.sqlite_rules.proofs.ListLemmas.{all_has, all_from}
-use Rattle.sql_meaning.proofs.Keys.{found_by, bytes_itself, int_itself}
-use Rattle.sql_meaning.proofs.Writing.{Changes, inserts}
-use Rattle.sql_meaning.proofs.Inserts.{put, was_put, none_before}
-use Rattle.sql_meaning.proofs.TextKeys.{IsText, has_text, one_named, any_parent}
-use Rattle.sql_meaning.proofs.RowidKeys.{has_number, one_numbered}
-use Rattle.sql_meaning.proofs.Edits.{any_mapped, cast_null, cast_int}
-use Rattle.sql_meaning.proofs.Whole.{keeps_rule}
-use Rattle.office_tables.specs.Schema.{office_schema, deposit_table, class_tree, collection_tree, deposit_tree}
-use Rattle.office_rows.specs.Rows.{DepositRow, DueRow, put_by, kept_row, with_kept, is_deposit, deposit_numbered, has_accession, deposit_by, is_class, has_class, is_collection, has_collection}
-use Rattle.office_tables.specs.Tables.{IsOffice, Becomes, tables_of, deposit_in, due_in, class_in, collection_in}
-use Rattle.office_tables.specs.Deposits.{IsAdded}
-use Rattle.office_tables.proofs.TablePlaces.{of_deposits}
-use Rattle.office_tables.proofs.Frames.{idle, becomes, adding}
-use Rattle.office_tables.proofs.InOrder.{placed}
-use Rattle.office_tables.proofs.MaybeEmpty.{cast_maybe, maybe_back}
+use Rattle.office_tables.proofs.FirstLemmas.{◌≡◌, ℕ, ℤ, [], ◌∷◌, filter, slice_get, option_map, Bool, true, Option, Some, None, Ok, IsTrue, map, refl, sym, ap, ap₂, subst, ◌∙◌, AllByRecursion, list_any, and_parts, Null, Int, Text, Row, with_rowid, Chosen, or_null, bound_value, cast_row, State, Executes, Enforced, agree, Unique, ForeignKey, plain, joined, same_name, Has, all_has, all_from, found_by, bytes_itself, int_itself, Changes, inserts, put, was_put, none_before, IsText, has_text, one_named, any_parent, has_number, one_numbered, any_mapped, cast_null, cast_int, keeps_rule, office_schema, deposit_table, class_tree, collection_tree, deposit_tree, DepositRow, DueRow, put_by, kept_row, with_kept, is_deposit, deposit_numbered, has_accession, deposit_by, is_class, has_class, is_collection, has_collection, IsOffice, Becomes, tables_of, deposit_in, due_in, class_in, collection_in, IsAdded, of_deposits, idle, becomes, adding, placed, cast_maybe, maybe_back, put_text, put_terms, deposit_meanings}
 use Rattle.office_tables.proofs.ClassLemmas.{IsClassRow, class_rows}
 use Rattle.office_tables.proofs.CollectionLemmas.{collection_rows}
 use Rattle.office_tables.proofs.DepositLemmas.{accessions}
-use Rattle.office_tables.proofs.DepositTexts.{put_text, put_terms, deposit_meanings}
 
 abbrev pub params_of : DepositRow → Option ℤ → ℤ → Row
 params_of d due holds = Int d.number ∷ Text d.accession ∷ Text d.collection ∷ Text d.class ∷ Int d.closed ∷ Int d.deposited ∷ Int d.files ∷ Int d.bytes ∷ or_null Int due ∷ Int holds ∷ []

@@ -1,40 +1,6 @@
 -- What the statements on deposits do to the rows of an office.
-use Rattle.std.proofs.Common.{IsTrue, Bool, false, ap₂, if◌then◌else◌, ◌≡◌, ◌⊎◌, ℕ, ℤ, List, [], ◌∷◌, map, filter, drop, slice_get, option_map, true, Some, Ok, refl, sym, ap, subst, ◌∙◌}
-use Rattle.std.specs.List.{AllByRecursion}
-use Rattle.sqlite.specs.declared.types.Value.TheVariants.{Null, Int, Text}
-use Rattle.sqlite.specs.Order.{Row, column}
-use Rattle.sqlite.specs.Edit.{id_in, edit_of, edited}
-use Rattle.sqlite.specs.Rowids.TheVariants.{Given}
-use Rattle.sqlite.specs.Cast.{cast, cast_row}
+use Rattle.office_tables.proofs.FirstLemmas.{IsTrue, Bool, false, ap₂, if◌then◌else◌, ◌≡◌, ◌⊎◌, ℕ, ℤ, List, [], ◌∷◌, map, filter, drop, slice_get, option_map, true, Some, Ok, refl, sym, ap, subst, ◌∙◌, AllByRecursion, Null, Int, Text, Row, column, id_in, edit_of, edited, Given, cast, cast_row, rowid, Database, State, Shown, Executes, is_int, Has, ids_of, all_has, all_from, int_is, Datatype, NotNull, Unique, int_at, bytes_at, shown_of, finds_one, has_text, few_named, by_number, has_number, each_numbered, few_numbered, typed_at, all_both, decoded, cast_null, cast_int, keeps_rule, revises, office_schema, deposit_table, deposit_tree, DepositRow, is_deposit, deposit_numbered, has_accession, deposit_by, last_number, with_gone, IsOffice, Becomes, tables_of, deposit_in, due_in, shown_deposit, of_deposits, idle, becomes, reads_last, keeps_int, deposit_with, deposit_text, accession_text, deposits_text, last_text, deposit_columns, gone_text, deposit_meanings, col, reads_named, reads_numbered, lists_all}
 use Rattle.sqlite.specs.Kind.TheVariants as kind
-use Rattle.sqlite.specs.Tree.{rowid}
-use Rattle.sqlite.specs.Effect.{Database}
-use Rattle.sqlite.specs.State.{State, Shown, Executes}
-use Rattle.sqlite_trees.specs.View.{is_int}
-use Rattle.sqlite_rules.specs.Lists.{Has}
-use Rattle.sqlite_rules.specs.Calls.{ids_of}
-use Rattle.sqlite_rules.proofs.ListLemmas.{all_has, all_from}
-use Rattle.sqlite_rules.proofs.TableLemmas.{int_is}
-use Rattle.sqlite_schema.specs.declared.schema.Constraint.TheVariants.{Datatype, NotNull, Unique}
-use Rattle.sql_meaning.specs.Columns.{int_at, bytes_at}
-use Rattle.sql_meaning.proofs.Scanning.{shown_of, finds_one}
-use Rattle.sql_meaning.proofs.TextKeys.{has_text, few_named}
-use Rattle.sql_meaning.proofs.RowidKeys.{by_number, has_number, each_numbered, few_numbered}
-use Rattle.sql_meaning.proofs.Typed.{typed_at, all_both}
-use Rattle.sql_meaning.proofs.Edits.{decoded, cast_null, cast_int}
-use Rattle.sql_meaning.proofs.Whole.{keeps_rule}
-use Rattle.sql_meaning.proofs.Changing.{revises}
-use Rattle.office_tables.specs.Schema.{office_schema, deposit_table, deposit_tree}
-use Rattle.office_rows.specs.Rows.{DepositRow, is_deposit, deposit_numbered, has_accession, deposit_by, last_number, with_gone}
-use Rattle.office_tables.specs.Tables.{IsOffice, Becomes, tables_of, deposit_in, due_in}
-use Rattle.office_tables.specs.Deposits.{shown_deposit}
-use Rattle.office_tables.proofs.TablePlaces.{of_deposits}
-use Rattle.office_tables.proofs.Frames.{idle, becomes}
-use Rattle.office_tables.proofs.LastRow.{reads_last}
-use Rattle.office_tables.proofs.MaybeEmpty.{keeps_int}
-use Rattle.office_tables.proofs.DepositTexts.{deposit_with, deposit_text, accession_text, deposits_text, last_text, deposit_columns, gone_text, deposit_meanings}
-use Rattle.sqlite.specs.Term.{col}
-use Rattle.office_tables.proofs.RowsRead.{reads_named, reads_numbered, lists_all}
 
 -- a stored deposit, as the rules of its table leave it
 abbrev pub IsDepositRow : Row → Type 0

@@ -1,56 +1,11 @@
 -- What the statements on due days and on counts of holds do to the rows of an office.
-use Rattle.std.proofs.Common.{IsTrue, ◌≡◌, ◌⊎◌, ◌&&◌, codes, Float, is_nan, ℕ, ℤ, pos, ◌+ℤ◌, List, [], ◌∷◌, map, filter, slice_get, option_map, Bool, true, false, Option, Some, None, Ok, refl, sym, ap, ap₂, subst, subst₂, ◌∙◌, inl, inr, if◌then◌else◌}
-use Rattle.std.specs.Ordering.{int_cmp, is_le, is_ge}
-use Rattle.sqlite.specs.declared.types.Value.{Value}
-use Rattle.sqlite.specs.declared.types.Value.TheVariants.{Null, Int, Real, Text}
-use Rattle.sqlite.specs.Order.{Row, column, value_cmp}
-use Rattle.sqlite.specs.Edit.{id_in, edit_of, edited}
-use Rattle.sqlite.specs.Rowids.TheVariants.{Given}
-use Rattle.sqlite.specs.Cast.{cast, cast_row}
+use Rattle.office_tables.proofs.FirstLemmas.{IsTrue, ◌≡◌, ◌⊎◌, ◌&&◌, codes, Float, is_nan, ℕ, ℤ, pos, ◌+ℤ◌, List, [], ◌∷◌, map, filter, slice_get, option_map, Bool, true, false, Option, Some, None, Ok, refl, sym, ap, ap₂, subst, subst₂, ◌∙◌, inl, inr, if◌then◌else◌, int_cmp, is_le, is_ge, Value, Null, Int, Real, Text, Row, column, value_cmp, id_in, edit_of, edited, Given, cast, cast_row, rowid, Binary, unary, binary, is_true, fits_i64, from_truth, State, Shown, Executes, Compare, Arith, Eq, Ge, Le, Add, TypeOf, int_or, real, cases_Bool, value_cmp-Int, is_int, Has, ids_of, all_has, all_from, mapped_has, int_is, ascending_weaker, map-map, filter-map, int_at, bytes_at, maybe_int, same_int, same_text, Update, scan, as_program, passes, shown_of, finds_one, Means, reads_same, reads_rising, IsText, has_text, by_text, each_passes, by_number, has_number, each_numbered, few_numbered, rising, decoded, cast_null, cast_int, map_alike, revises, rows_after, office_schema, deposit_table, deposit_tree, DepositRow, DueRow, is_due_of, is_due_between, due_numbered, with_due, with_dues, with_holds, beside, more_holds, with_more_holds, with_more_holds_class, is_within, is_of_class, of_class, least_number, is_by, is_disposable, IsOffice, Becomes, tables_of, deposit_in, due_in, of_deposits, idle, becomes, keeps_int, null_is, deposit_with, Term, lit, col, eval, reads_numbered, lists_all}
 use Rattle.sqlite.specs.Kind.TheVariants as kind
-use Rattle.sqlite.specs.Tree.{rowid}
-use Rattle.sqlite.specs.Collation.TheVariants.{Binary}
-use Rattle.sqlite.specs.Ops.{unary, binary, is_true, fits_i64, from_truth}
-use Rattle.sqlite.specs.State.{State, Shown, Executes}
-use Rattle.sqlite_sql.specs.declared.ops.BinaryOp.TheVariants.{Compare, Arith}
-use Rattle.sqlite_sql.specs.declared.ops.CompareOp.TheVariants.{Eq, Ge, Le}
-use Rattle.sqlite_sql.specs.declared.ops.ArithOp.TheVariants.{Add}
-use Rattle.sqlite_sql.specs.declared.ops.UnaryOp.TheVariants.{TypeOf}
-use Rattle.sqlite_sql.specs.Ops.{int_or, real}
-use Rattle.std.proofs.lemmas.Bool.{cases_Bool}
-use Rattle.sqlite_value.proofs.OrderLemmas.{value_cmp-Int}
-use Rattle.sqlite_trees.specs.View.{is_int}
-use Rattle.sqlite_rules.specs.Lists.{Has}
-use Rattle.sqlite_rules.specs.Calls.{ids_of}
-use Rattle.sqlite_rules.proofs.ListLemmas.{all_has, all_from}
-use Rattle.sqlite_rules.proofs.ProbeLemmas.{mapped_has}
-use Rattle.sqlite_rules.proofs.TableLemmas.{int_is}
-use Rattle.sqlite_keyed.proofs.ListLemmas.{ascending_weaker, map-map, filter-map}
-use Rattle.sql_meaning.specs.Columns.{int_at, bytes_at, maybe_int}
-use Rattle.sql_meaning.proofs.Keys.{same_int, same_text}
-use Rattle.sqlite.specs.Command.TheVariants.{Update}
-use Rattle.sql_meaning.proofs.Scanning.{scan, as_program, passes, shown_of, finds_one}
-use Rattle.sql_meaning.proofs.Writing.{Means}
-use Rattle.sql_meaning.proofs.Reading.{reads_same, reads_rising}
-use Rattle.sql_meaning.proofs.TextKeys.{IsText, has_text, by_text, each_passes}
-use Rattle.sql_meaning.proofs.RowidKeys.{by_number, has_number, each_numbered, few_numbered, rising}
-use Rattle.sql_meaning.proofs.Edits.{decoded, cast_null, cast_int, map_alike}
-use Rattle.sql_meaning.proofs.Changing.{revises}
-use Rattle.sql_meaning.proofs.Whole.{rows_after}
 use Rattle.sql_meaning.proofs.ManyRows.{revises_all}
-use Rattle.office_tables.specs.Schema.{office_schema, deposit_table, deposit_tree}
-use Rattle.office_rows.specs.Rows.{DepositRow, DueRow, is_due_of, is_due_between, due_numbered, with_due, with_dues, with_holds, beside, more_holds, with_more_holds, with_more_holds_class, is_within, is_of_class, of_class, least_number, is_by, is_disposable}
 use Rattle.office_rows.specs.Told.{place_row, closing_of, due_places, class_closings}
 use Rattle.office_tables.specs.Dues.{shown_due, shown_beside, shown_place, shown_closing, FitMore, dues_of}
-use Rattle.office_tables.specs.Tables.{IsOffice, Becomes, tables_of, deposit_in, due_in}
-use Rattle.office_tables.proofs.TablePlaces.{of_deposits}
-use Rattle.office_tables.proofs.Frames.{idle, becomes}
 use Rattle.office_tables.proofs.DepositLemmas.{IsDepositRow, deposit_rows, kept_alike}
-use Rattle.office_tables.proofs.MaybeEmpty.{keeps_int, null_is}
 use Rattle.office_tables.proofs.DueTexts.{class_rows_text, class_rows_columns, due_of_text, due_of_columns, set_due_text, clear_due_text, set_dues_text, clear_dues_text, by_numbers, set_holds_text, add_holds_text, more_columns, add_holds_class_text, due_rows_text, is_due, due_rows_columns, beside_text, due_meanings}
-use Rattle.office_tables.proofs.DepositTexts.{deposit_with}
-use Rattle.sqlite.specs.Term.{Term, lit, col, eval}
-use Rattle.office_tables.proofs.RowsRead.{reads_numbered, lists_all}
 
 -- ---- a stored deposit with other last columns
 
@@ -266,7 +221,7 @@ day_is : (v : Value) (day : ℤ) → (v ≡ Null) ⊎ (v ≡ Int (id_in v)) → 
 day_is v day (inl is) = subst (λ w. within least_number day w ≡ is_by day (maybe_int w)) (sym is) (never_within least_number day)
 day_is v day (inr is) = subst (λ w. within least_number day w ≡ is_by day (maybe_int w)) (sym is) (ap₂ (λ a b. a && b) (not_before (id_in v) least_number) (by_day (id_in v) day))
 
-and_end : (a b : Bool) → (a && (b && true)) ≡ (a && b)
+pub and_end : (a b : Bool) → (a && (b && true)) ≡ (a && b)
 and_end true true = refl
 and_end true false = refl
 and_end false b = refl

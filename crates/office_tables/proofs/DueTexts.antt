@@ -1,22 +1,5 @@
 -- What the statements on due days, counts of holds and deciding rules mean under the schema of an office.
-use Rattle.std.proofs.Common.{ℕ, pos, List, [], ◌∷◌, codes, refl}
-use Rattle.sqlite.specs.declared.types.Value.TheVariants.{Null, Int, Text}
-use Rattle.sqlite.specs.Term.{Term, lit, col, op1, op2, case}
-use Rattle.sqlite.specs.Collation.TheVariants.{Binary}
-use Rattle.sqlite.specs.Command.TheVariants.{Update}
-use Rattle.sqlite.specs.Listing.{understood}
-use Rattle.sqlite_tied.specs.Compute.{everything}
-use Rattle.sqlite_sql.specs.declared.ops.BinaryOp.TheVariants.{Compare, Is, Arith}
-use Rattle.sqlite_sql.specs.declared.ops.CompareOp.TheVariants.{Eq, Ge, Le}
-use Rattle.sqlite_sql.specs.declared.ops.ArithOp.TheVariants.{Add}
-use Rattle.sqlite_sql.specs.declared.ops.UnaryOp.TheVariants.{TypeOf}
-use Rattle.sql_meaning.proofs.Scanning.{scan, as_program}
-use Rattle.sql_meaning.proofs.Reading.{Asks}
-use Rattle.sql_meaning.proofs.RowidKeys.{by_number, rising}
-use Rattle.sql_meaning.proofs.TextKeys.{by_text}
-use Rattle.sql_meaning.proofs.Writing.{Means}
-use Rattle.office_tables.specs.Schema.{office_schema, deposit_tree}
-use Rattle.office_tables.proofs.DepositTexts.{deposit_with}
+use Rattle.office_tables.proofs.FirstLemmas.{ℕ, pos, List, [], ◌∷◌, codes, refl, Null, Int, Text, Term, lit, col, op1, op2, case, Binary, Update, understood, everything, Compare, Is, Arith, Eq, Ge, Le, Add, TypeOf, scan, as_program, Asks, by_number, rising, by_text, Means, office_schema, deposit_tree, deposit_with}
 
 -- ---- the deposits of a class
 

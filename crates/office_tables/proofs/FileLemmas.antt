@@ -1,71 +1,13 @@
 -- What the statements on files do to the rows of an office.
-use Rattle.std.proofs.Common.{arith, unwrap_or, ◌≡◌, ◌&&◌, ◌⊎◌, ap₂, not, bytes_eq, ℕ, ℤ, List, [], ◌∷◌, ◌++◌, ◌<◌, map, filter, take, length, get_or, slice_get, slice_index_or, ◌+◌, option_map, Bool, true, false, Option, None, Some, Ok, Ordering, Equal, Less, refl, sym, ap, subst, subst₂, ◌∙◌, inl, inr}
-use Rattle.std.specs.List.{AllByRecursion}
-use Rattle.std.specs.Ordering.{is_lt, is_eq, int_eq}
+use Rattle.office_tables.proofs.FirstLemmas.{arith, unwrap_or, ◌≡◌, ◌&&◌, ◌⊎◌, ap₂, not, bytes_eq, ℕ, ℤ, List, [], ◌∷◌, ◌++◌, ◌<◌, map, filter, take, length, slice_index_or as get_or, slice_get, slice_index_or, ◌+◌, option_map, Bool, true, false, Option, None, Some, Ok, Ordering, Equal, Less, refl, sym, ap, subst, subst₂, ◌∙◌, inl, inr, AllByRecursion, is_lt, is_eq, int_eq, nat_cmp, map-append, map_push, map_more, IsPermutation, IsSorted, and-true, cases_Bool, and_parts, same_Some, tied_itself, is_eq-slice_cmp, IsPermutation-map, IsPermutation-sym, All-permutation, bytes_eq-Decides, recursion_from_All, All-from_recursion, sha256, Null, Int, Text, Row, column, value_cmp, Edit, edit_of, with_rowid, next_rowid, Chosen, Given, cast_row, binary, is_true, Binary, rowid, IsAscending, output, output_cmp, Database, State, Shown, Executes, Compare, Eq, first_key, plain, then-Equal, value_cmp-Text, value_cmp_total, IsSorted-map, sorted_is-sort_by, sort_by-map, IsPermutation-sort_by, all-permutation, filter_same, ascending-map, ascending-filter, all_map, map-map, filter-map, Has, ids_of, all_has, all_from, has_filtered, has_kept, has_found, has_mapped, mapped_has, Datatype, NotNull, Unique, Enforced, agree, equal, int_at, bytes_at, Changes, inserts, scan, passes, shown_of, answer_sound, answer_complete, reads_same, reads_one, reads_scan, finds_part, none_before, found_by, bytes_itself, int_itself, same_key, unclashed, same_text, same_int, lone, typed_at, all_both, appended, cast_null, cast_int, map_alike, keeps_rule, drops, office_schema, file_table, file_tree, FileRow, ContentRow, bytes_under, is_file_of, is_file_at, file_at, with_file, IsOffice, Becomes, tables_of, contents_of, file_in, references_of, references_where, references_within, content_at, content_referred, is_intact, IsMarked, KeepsOnce, IsFileAdded, AreFilesDropped, ShowsFile, shown_path, path_cmp, files_by_path, of_files, idle, becomes, with_edit, file_rows_after, contents_after, references_after, only, all_given}
 use Rattle.std.specs.Cmp.{IsTotalOrder}
-use Rattle.std.specs.Ordering.{nat_cmp}
 use Rattle.std.specs.Cmp.Lexicographic.{on_texts, slice_cmp}
-use Rattle.std.proofs.lemmas.List.{map-append, map_push, map_more}
-use Rattle.std.specs.List.Sorted.{IsPermutation, IsSorted}
-use Rattle.std.proofs.Math.Bool.{and-true}
-use Rattle.std.proofs.lemmas.Bool.{cases_Bool, and_parts}
-use Rattle.std.proofs.lemmas.Option.{same_Some}
-use Rattle.std.proofs.lemmas.Cmp.{tied_itself}
-use Rattle.std.proofs.lemmas.Map.Text.{is_eq-slice_cmp}
-use Rattle.std.proofs.lemmas.List.Sorted.{IsPermutation-map, IsPermutation-sym, All-permutation}
-use Rattle.std.proofs.lemmas.Slice.Eq.{bytes_eq-Decides}
-use Rattle.std.proofs.lemmas.List.Elements.{recursion_from_All, All-from_recursion}
-use Rattle.sha2.specs.Sha256.{sha256}
-use Rattle.sqlite.specs.declared.types.Value.TheVariants.{Null, Int, Text}
-use Rattle.sqlite.specs.Order.{Row, column, value_cmp}
-use Rattle.sqlite.specs.Edit.{Edit, edit_of, with_rowid, next_rowid}
-use Rattle.sqlite.specs.Rowids.TheVariants.{Chosen, Given}
-use Rattle.sqlite.specs.Cast.{cast_row}
-use Rattle.sqlite.specs.Ops.{binary, is_true}
-use Rattle.sqlite.specs.Collation.TheVariants.{Binary}
-use Rattle.sqlite.specs.Tree.{rowid, IsAscending}
-use Rattle.sqlite.specs.Query.{output, output_cmp}
-use Rattle.sqlite.specs.Effect.{Database}
-use Rattle.sqlite.specs.State.{State, Shown, Executes}
-use Rattle.sqlite_sql.specs.declared.ops.BinaryOp.TheVariants.{Compare}
-use Rattle.sqlite_sql.specs.declared.ops.CompareOp.TheVariants.{Eq}
-use Rattle.sqlite_value.specs.Keys.{first_key, plain}
-use Rattle.sqlite_value.proofs.OrderLemmas.{then-Equal, value_cmp-Text, value_cmp_total}
-use Rattle.sqlite_exec.proofs.RowsLemmas.{IsSorted-map}
 use Rattle.sqlite_keyed.specs.Lists.{sort_by}
-use Rattle.sqlite_keyed.proofs.SortLemmas.{sorted_is-sort_by, sort_by-map, IsPermutation-sort_by}
 use Rattle.sqlite_keyed.proofs.KeyedLemmas.{same_int as same_number}
-use Rattle.sqlite_trees.proofs.ListLemmas.{all-permutation, filter_same}
-use Rattle.sqlite_keyed.proofs.ListLemmas.{ascending-map, ascending-filter, all_map, map-map, filter-map}
-use Rattle.sqlite_rules.specs.Lists.{Has}
-use Rattle.sqlite_rules.specs.Calls.{ids_of}
-use Rattle.sqlite_rules.proofs.ListLemmas.{all_has, all_from, has_filtered, has_kept, has_found}
-use Rattle.sqlite_rules.proofs.ProbeLemmas.{has_mapped, mapped_has}
 use Rattle.sqlite_rules.proofs.KeyLemmas.{agree_back, agree_chain}
-use Rattle.sqlite_schema.specs.declared.schema.Constraint.TheVariants.{Datatype, NotNull, Unique}
-use Rattle.sqlite_schema.specs.declared.schema.Keys.TheVariants.{Enforced}
-use Rattle.sqlite_schema.specs.Rules.{agree, equal}
-use Rattle.sql_meaning.specs.Columns.{int_at, bytes_at}
-use Rattle.sql_meaning.proofs.Writing.{Changes, inserts}
-use Rattle.sql_meaning.proofs.Scanning.{scan, passes, shown_of, answer_sound, answer_complete}
-use Rattle.sql_meaning.proofs.Reading.{reads_same, reads_one, reads_scan, finds_part}
-use Rattle.sql_meaning.proofs.Inserts.{none_before}
-use Rattle.sql_meaning.proofs.Keys.{found_by, bytes_itself, int_itself, same_key, unclashed, same_text, same_int, lone}
-use Rattle.sql_meaning.proofs.Typed.{typed_at, all_both}
-use Rattle.sql_meaning.proofs.Edits.{appended, cast_null, cast_int, map_alike}
-use Rattle.sql_meaning.proofs.Whole.{keeps_rule}
-use Rattle.sql_meaning.proofs.Changing.{drops}
-use Rattle.office_tables.specs.Schema.{office_schema, file_table, file_tree}
 use Rattle.office_rows.proofs.Order.{map_back}
-use Rattle.office_rows.specs.Rows.{FileRow, ContentRow, bytes_under, is_file_of, is_file_at, file_at, with_file}
-use Rattle.office_tables.specs.Tables.{IsOffice, Becomes, tables_of, contents_of, file_in}
-use Rattle.office_tables.specs.Contents.{references_of, references_where, references_within, content_at, content_referred, is_intact, IsMarked, KeepsOnce, IsFileAdded, AreFilesDropped, ShowsFile}
-use Rattle.office_tables.specs.Deposits.{shown_path, path_cmp, files_by_path}
-use Rattle.office_tables.proofs.TablePlaces.{of_files}
 use Rattle.office_tables.proofs.ContentLemmas.{fetched}
-use Rattle.office_tables.proofs.Frames.{idle, becomes, with_edit, file_rows_after, contents_after, references_after}
 use Rattle.office_tables.proofs.FileTexts.{by_deposit, by_place, by_path, content_text, files_columns, files_text, ids_text, put_text, drop_text, file_meanings}
-use Rattle.office_tables.proofs.Columns.{only, all_given}
 
 -- a stored file, as the rules of its table leave it
 abbrev IsFileRow : Row → Type 0
@@ -383,11 +325,6 @@ is_found n path files x (Some f) is number place content =
     let its_number : f.deposit ≡ n = same_number f.deposit n (and_parts (is_file_of n f) (bytes_eq f.path path) passed).0 in
     let its_path : f.path ≡ path = (bytes_eq-Decides f.path path).0 (and_parts (is_file_of n f) (bytes_eq f.path path) passed).1 in
     ap Some (same_file x.deposit f.deposit x.path f.path x.content f.content (number ∙ sym its_number) (place ∙ sym its_path) its_content)
-
--- a file of that number, that path and the content that is found there is the one that is there
-pub finds_file : (n : ℤ) (path : List ℕ) (files : List FileRow) (x : FileRow) → x.deposit ≡ n → x.path ≡ path
-    → Some x.content ≡ option_map (λ (f : FileRow). f.content) (file_at n path files) → Some x ≡ file_at n path files
-finds_file n path files x number place content = is_found n path files x (file_at n path files) refl number place content
 
 -- one path more
 pub finds_next : (find : Row → Option FileRow) (rows : List Row) (i : ℕ) (row : Row) (files : List FileRow) (x : FileRow) → row ≡ get_or rows i row → i < length rows

@@ -1,19 +1,5 @@
 -- What the statements on files mean under the schema of an office.
-use Rattle.std.proofs.Common.{ℕ, List, [], ◌∷◌, codes, false, refl}
-use Rattle.sqlite.specs.Collation.TheVariants.{Binary}
-use Rattle.sqlite.specs.Term.{Term, col, op2}
-use Rattle.sqlite.specs.Command.TheVariants.{Insert, Delete}
-use Rattle.sqlite.specs.Source.TheVariants.{Values}
-use Rattle.sqlite.specs.Listing.{understood}
-use Rattle.sqlite_tied.specs.Compute.{everything}
-use Rattle.sqlite_sql.specs.declared.ops.BinaryOp.TheVariants.{Compare}
-use Rattle.sqlite_sql.specs.declared.ops.CompareOp.TheVariants.{Eq}
-use Rattle.sqlite_value.specs.declared.keys.Key.{Key}
-use Rattle.sql_meaning.proofs.Scanning.{scan, as_program}
-use Rattle.sql_meaning.proofs.Reading.{Asks}
-use Rattle.sql_meaning.proofs.Writing.{Means}
-use Rattle.office_tables.specs.Schema.{office_schema, file_tree}
-use Rattle.office_tables.proofs.Columns.{only, all_given}
+use Rattle.office_tables.proofs.FirstLemmas.{ℕ, List, [], ◌∷◌, codes, false, refl, Binary, Term, col, op2, Insert, Delete, Values, understood, everything, Compare, Eq, Key, scan, as_program, Asks, Means, office_schema, file_tree, only, all_given}
 
 -- ---- reads
 

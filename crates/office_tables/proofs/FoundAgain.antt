@@ -1,18 +1,9 @@
 -- The trees fix the schema, so a database that is found with the trees of another is that database.
-use Rattle.std.proofs.Common.{◌≡◌, Some, None, List, IsTrue, refl, sym, ap, subst, ◌∙◌}
-use Rattle.sqlite.specs.State.{State, IsLive}
+use Rattle.office_tables.proofs.Common.{◌≡◌, Some, None, List, IsTrue, refl, sym, ap, subst, ◌∙◌, State, IsLive, Trees, Row, Database, IsDatabase, Tables, version_of, this_version, Becomes, IsOffice, tables_of, IsLeft, KeepsTables, IsKnownAsOther, IsFailure, TableFault}
 use Rattle.office_tables.specs.Found.{GoesOnAs}
-use Rattle.sqlite.specs.Tree.{Trees}
-use Rattle.sqlite.specs.Order.{Row}
-use Rattle.sqlite.specs.Effect.{Database, IsDatabase}
 use Rattle.sqlite_trees.specs.Objects.{catalog_tree}
 use Rattle.sqlite_catalog.specs.Listing.{Lists}
 use Rattle.sqlite_catalog.proofs.ReadLemmas.{lists_once}
-use Rattle.office_rows.specs.Rows.{Tables, version_of, this_version}
-use Rattle.office_tables.specs.Tables.{Becomes, IsOffice, tables_of}
-use Rattle.office_tables.specs.Opening.{IsLeft, KeepsTables, IsKnownAsOther}
-use Rattle.office_tables.specs.Faults.{IsFailure}
-use Rattle.office_tables.specs.declared.fault.TableFault.{TableFault}
 use Rattle.office_tables.specs.declared.fault.TableFault.TheVariants.{NotAnOffice, OtherVersion, Memory, Store}
 
 -- databases that list the same objects have one schema

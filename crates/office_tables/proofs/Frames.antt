@@ -1,22 +1,5 @@
 -- A change of one table leaves an office, and the rows of the other tables.
-use Rattle.std.proofs.Common.{◌≡◌, ℕ, ◌==◌, length, List, [], ◌∷◌, map, false, refl, sym, ap, subst₂, ◌∙◌, inl, inr}
-use Rattle.std.specs.List.{AllByRecursion}
-use Rattle.std.proofs.lemmas.Bool.{cases_Bool}
-use Rattle.sqlite.specs.Order.{Row}
-use Rattle.sqlite.specs.Edit.{Edit, edit_of, edited}
-use Rattle.sqlite.specs.Rowids.TheVariants.{Chosen}
-use Rattle.sqlite.specs.Table.{Table}
-use Rattle.sqlite.specs.Effect.{Database}
-use Rattle.sqlite.specs.Tree.{Trees}
-use Rattle.sqlite.specs.State.{State}
-use Rattle.sql_meaning.specs.Whole.{AreShaped}
-use Rattle.sql_meaning.proofs.Writing.{Changes, IsIdle}
-use Rattle.sql_meaning.proofs.Whole.{whole_after, with_rows, rows_after}
-use Rattle.office_tables.specs.Schema.{office_schema, all_tables, emptied_trees, old_rule_tree, file_tree, old_hold_tree}
-use Rattle.office_rows.specs.Rows.{Tables}
-use Rattle.sql_meaning.specs.Columns.{int_at}
-use Rattle.office_tables.specs.Tables.{IsOffice, Becomes, tables_of, contents_of, content_in}
-use Rattle.office_tables.specs.Contents.{references_of, AreKeptOnce, KeepsOnce, HasSameContents}
+use Rattle.office_tables.proofs.Common.{◌≡◌, ℕ, ◌==◌, length, List, [], ◌∷◌, map, false, refl, sym, ap, subst₂, ◌∙◌, inl, inr, AllByRecursion, cases_Bool, Row, Edit, edit_of, edited, Chosen, Table, Database, Trees, State, AreShaped, Changes, IsIdle, whole_after, with_rows, rows_after, office_schema, all_tables, emptied_trees, old_rule_tree, file_tree, old_hold_tree, Tables, int_at, IsOffice, Becomes, tables_of, contents_of, content_in, references_of, AreKeptOnce, KeepsOnce, HasSameContents}
 use Rattle.office_tables.proofs.TablePlaces.{of_office, of_callers, of_old_rules, of_classes, of_collections, of_deposits, of_files, of_old_holds, of_contents, of_holds, of_rules}
 
 -- no reference of the schema acts

@@ -1,16 +1,5 @@
 -- The contents that are kept once are those of the files.
-use Rattle.std.proofs.Common.{◌≡◌, ℕ, ℤ, pos, List, [], ◌∷◌, map, length, unwrap_or, option_map, Option, Some, refl, sym, ap, subst, ◌∙◌}
-use Rattle.std.specs.List.{AllByRecursion}
-use Rattle.sqlite.specs.Order.{Row}
-use Rattle.sqlite.specs.Effect.{Database}
-use Rattle.sqlite_rules.specs.Lists.{Has}
-use Rattle.sqlite_rules.proofs.ListLemmas.{all_has}
-use Rattle.sqlite_rules.proofs.ProbeLemmas.{has_mapped, mapped_has}
-use Rattle.sql_meaning.specs.Columns.{int_at}
-use Rattle.office_rows.specs.Rows.{FileRow, ContentRow, bytes_under, content_numbered}
-use Rattle.office_tables.specs.Schema.{file_tree}
-use Rattle.office_tables.specs.Tables.{IsOffice, tables_of, contents_of, file_in}
-use Rattle.office_tables.specs.Contents.{KeepsOnce, IsMarked, AreContents, references_of}
+use Rattle.office_tables.proofs.Common.{◌≡◌, ℕ, ℤ, pos, List, [], ◌∷◌, map, length, unwrap_or, option_map, Option, Some, refl, sym, ap, subst, ◌∙◌, AllByRecursion, Row, Database, Has, all_has, has_mapped, mapped_has, int_at, FileRow, ContentRow, bytes_under, content_numbered, file_tree, IsOffice, tables_of, contents_of, file_in, KeepsOnce, IsMarked, AreContents, references_of}
 use Rattle.office_tables.proofs.ContentLemmas.{fetched, content_there, used_held}
 
 abbrev bytes_of : ContentRow → List ℕ

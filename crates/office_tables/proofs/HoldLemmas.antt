@@ -1,65 +1,9 @@
 -- What the statements on holds do to the rows of an office.
-use Rattle.std.proofs.Common.{arith, ◌+◌, slice_index_or, IsTrue, ◌≡◌, ◌⊎◌, ◌&&◌, ◌||◌, not, unwrap_or, bytes_eq, ℕ, ℤ, pos, Bor, Bool, true, false, List, [], ◌∷◌, ◌++◌, map, filter, slice_get, option_map, Option, Some, None, Ok, Less, refl, ap, ap₂, subst, subst₂, sym, ◌∙◌, inl, inr}
-use Rattle.std.specs.List.{AllByRecursion}
-use Rattle.std.specs.Ordering.{int_eq, int_cmp, nat_cmp, is_eq, is_lt}
-use Rattle.std.proofs.lemmas.Int.{ints}
-use Rattle.std.specs.List.Sorted.{IsPermutation, IsSorted}
-use Rattle.std.proofs.lemmas.Bool.{cases_Bool}
-use Rattle.std.proofs.lemmas.List.{map-append}
-use Rattle.std.proofs.lemmas.Cmp.{int_cmp_total}
-use Rattle.std.proofs.lemmas.Map.Text.{is_eq-slice_cmp}
-use Rattle.std.proofs.lemmas.List.Sorted.{IsPermutation-refl, IsPermutation-sym, IsPermutation-trans, IsPermutation-append_left, IsPermutation-cons, IsPermutation-middle, IsPermutation-map}
-use Rattle.sqlite.specs.declared.types.Value.{Value}
-use Rattle.sqlite.specs.declared.types.Value.TheVariants.{Null, Int, Text}
-use Rattle.sqlite.specs.Order.{Row, column, bytes, value_cmp}
-use Rattle.sqlite.specs.Values.{or_null, bound_value}
-use Rattle.sqlite.specs.Edit.{id_in, edit_of, with_rowid}
-use Rattle.sqlite.specs.Rowids.TheVariants.{Chosen, Given}
-use Rattle.sqlite.specs.Tree.{rowid, IsAscending}
-use Rattle.sqlite.specs.Term.{Term}
-use Rattle.sqlite.specs.Effect.{Database}
+use Rattle.office_tables.proofs.FirstLemmas.{arith, ◌+◌, slice_index_or, IsTrue, ◌≡◌, ◌⊎◌, ◌&&◌, ◌||◌, not, unwrap_or, bytes_eq, ℕ, ℤ, pos, Bor, Bool, true, false, List, [], ◌∷◌, ◌++◌, map, filter, slice_get, option_map, Option, Some, None, Ok, Less, refl, ap, ap₂, subst, subst₂, sym, ◌∙◌, inl, inr, AllByRecursion, int_eq, int_cmp, nat_cmp, is_eq, is_lt, ints, IsPermutation, IsSorted, cases_Bool, map-append, int_cmp_total, is_eq-slice_cmp, IsPermutation-refl, IsPermutation-sym, IsPermutation-trans, IsPermutation-append_left, IsPermutation-cons, IsPermutation-middle, IsPermutation-map, Value, Null, Int, Text, Row, column, bytes, value_cmp, or_null, bound_value, id_in, edit_of, with_rowid, Chosen, Given, rowid, IsAscending, Term, Database, cast, cast_row, State, Shown, Executes, Datatype, NotNull, value_cmp-Int, value_cmp-Text, value_cmp-apart, Binary, binary, unary, is_true, truth, from_truth, not3, Compare, Is, Not, Eq, ascending_weaker, ascending-map, ascending-filter, map-map, filter-map, sorted_unique, IsSorted-map, same_text, same_int, found_by, int_itself, ids_of, all_has, all_from, int_is, is_int, IsShaped, int_at, bytes_at, maybe_int, maybe_bytes, maybe_bytes_at, Changes, inserts, none_before, Enforced, passes, shown_of, finds_one, Asks, reads_same, reads_rising, by_number, has_number, each_numbered, few_numbered, one_numbered, rising, typed_at, all_both, decoded, cast_null, cast_int, keeps_rule, revises, office_schema, hold_4_table, hold_tree, HoldRow, put_by, is_hold, hold_numbered, last_number, with_hold, with_released, is_live, holds_deposit, holds_collection, holds_class, is_live_on, is_live_within, is_live_of_class, is_live_over, live_holds, IsOffice, Becomes, tables_of, hold_in, of_holds, idle, becomes, AreOthers, adding, placed, reads_last, cast_maybe, keeps_int, keeps_text, maybe_back, null_is, only, reads_numbered}
 use Rattle.sqlite.specs.Kind.TheVariants as kind
-use Rattle.sqlite.specs.Cast.{cast, cast_row}
-use Rattle.sqlite.specs.State.{State, Shown, Executes}
-use Rattle.sqlite_schema.specs.declared.schema.Constraint.TheVariants.{Datatype, NotNull}
-use Rattle.sqlite_value.proofs.OrderLemmas.{value_cmp-Int, value_cmp-Text, value_cmp-apart}
-use Rattle.sqlite.specs.Collation.TheVariants.{Binary}
-use Rattle.sqlite.specs.Ops.{binary, unary, is_true, truth, from_truth, not3}
-use Rattle.sqlite_sql.specs.declared.ops.BinaryOp.TheVariants.{Compare, Is}
-use Rattle.sqlite_sql.specs.declared.ops.UnaryOp.TheVariants.{Not}
-use Rattle.sqlite_sql.specs.declared.ops.CompareOp.TheVariants.{Eq}
-use Rattle.sqlite_keyed.proofs.ListLemmas.{ascending_weaker, ascending-map, ascending-filter, map-map, filter-map}
-use Rattle.sqlite_keyed.proofs.SortLemmas.{sorted_unique}
-use Rattle.sqlite_exec.proofs.RowsLemmas.{IsSorted-map}
-use Rattle.sql_meaning.proofs.Keys.{same_text, same_int, found_by, int_itself}
-use Rattle.sqlite_rules.specs.Calls.{ids_of}
-use Rattle.sqlite_rules.proofs.ListLemmas.{all_has, all_from}
-use Rattle.sqlite_rules.proofs.TableLemmas.{int_is}
-use Rattle.sqlite_trees.specs.View.{is_int, IsShaped}
 use Rattle.sqlite_trees.specs.declared.store.Shape.TheVariants as shape
-use Rattle.sql_meaning.specs.Columns.{int_at, bytes_at, maybe_int, maybe_bytes, maybe_bytes_at}
-use Rattle.sql_meaning.proofs.Writing.{Changes, inserts}
-use Rattle.sql_meaning.proofs.Inserts.{none_before}
-use Rattle.sqlite_schema.specs.declared.schema.Keys.TheVariants.{Enforced}
-use Rattle.sql_meaning.proofs.Scanning.{passes, shown_of, finds_one}
-use Rattle.sql_meaning.proofs.Reading.{Asks, reads_same, reads_rising}
-use Rattle.sql_meaning.proofs.RowidKeys.{by_number, has_number, each_numbered, few_numbered, one_numbered, rising}
-use Rattle.sql_meaning.proofs.Typed.{typed_at, all_both}
-use Rattle.sql_meaning.proofs.Edits.{decoded, cast_null, cast_int}
-use Rattle.sql_meaning.proofs.Whole.{keeps_rule}
-use Rattle.sql_meaning.proofs.Changing.{revises}
-use Rattle.office_tables.specs.Schema.{office_schema, hold_4_table, hold_tree}
-use Rattle.office_rows.specs.Rows.{HoldRow, put_by, is_hold, hold_numbered, last_number, with_hold, with_released, is_live, holds_deposit, holds_collection, holds_class, is_live_on, is_live_within, is_live_of_class, is_live_over, live_holds}
-use Rattle.office_tables.specs.Tables.{IsOffice, Becomes, tables_of, hold_in}
 use Rattle.office_tables.specs.ShownHolds.{shown_hold}
-use Rattle.office_tables.proofs.TablePlaces.{of_holds}
-use Rattle.office_tables.proofs.Frames.{idle, becomes, AreOthers, adding}
-use Rattle.office_tables.proofs.InOrder.{placed}
-use Rattle.office_tables.proofs.LastRow.{reads_last}
-use Rattle.office_tables.proofs.MaybeEmpty.{cast_maybe, keeps_int, keeps_text, maybe_back, null_is}
 use Rattle.office_tables.proofs.HoldTexts.{hold_text, hold_columns, last_text, put_text, hold_terms, end_text, ended_columns, on_text, on, within_text, within, of_class_text, of_class, hold_meanings}
-use Rattle.office_tables.proofs.Columns.{only}
-use Rattle.office_tables.proofs.RowsRead.{reads_numbered}
 
 -- the rows of the holds ascend by number
 shaped_holds : (db : Database) → IsOffice db → IsShaped shape.Table (db.trees hold_tree)

@@ -1,23 +1,5 @@
 -- What the statements on holds mean under the schema of an office.
-use Rattle.std.proofs.Common.{ℕ, List, [], ◌∷◌, ◌++◌, codes, refl}
-use Rattle.sqlite.specs.declared.types.Value.TheVariants.{Null}
-use Rattle.sqlite.specs.Term.{Term, lit, col, op1, op2}
-use Rattle.sqlite.specs.Collation.TheVariants.{Binary}
-use Rattle.sqlite.specs.Command.TheVariants.{Insert, Update}
-use Rattle.sqlite.specs.Source.TheVariants.{Values}
-use Rattle.sqlite.specs.Listing.{understood}
-use Rattle.sqlite_tied.specs.Compute.{everything}
-use Rattle.sqlite_sql.specs.declared.ops.BinaryOp.TheVariants.{Compare, Is, Or}
-use Rattle.sqlite_sql.specs.declared.ops.UnaryOp.TheVariants.{Not}
-use Rattle.sqlite_sql.specs.declared.ops.CompareOp.TheVariants.{Eq, Lt, Gt}
-use Rattle.sql_meaning.proofs.Scanning.{scan, as_program}
-use Rattle.sql_meaning.proofs.Reading.{Asks}
-use Rattle.sql_meaning.proofs.Limited.{AsksSome}
-use Rattle.sql_meaning.proofs.RowidKeys.{by_number, rising}
-use Rattle.sql_meaning.proofs.Writing.{Means}
-use Rattle.office_tables.specs.Schema.{office_schema, hold_tree}
-use Rattle.office_tables.proofs.LastRow.{AsksLast}
-use Rattle.office_tables.proofs.Columns.{only}
+use Rattle.office_tables.proofs.FirstLemmas.{ℕ, List, [], ◌∷◌, ◌++◌, codes, refl, Null, Term, lit, col, op1, op2, Binary, Insert, Update, Values, understood, everything, Compare, Is, Or, Not, Eq, Lt, Gt, scan, as_program, Asks, AsksSome, by_number, rising, Means, office_schema, hold_tree, AsksLast, only}
 
 abbrev pub hold_text : List ℕ
 hold_text = codes "SELECT number, deposit, collection, class, matter, placed, released FROM hold_4 WHERE number = ?1"

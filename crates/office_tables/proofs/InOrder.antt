@@ -1,26 +1,6 @@
 -- A row of a numbered table comes at its place by number, as it is stored and as it is told.
-use Rattle.std.proofs.Common.{◌≡◌, ℕ, ℤ, List, [], ◌∷◌, map, false, IsTrue, Ordering, Less, Equal, Greater, refl, sym, ap, ap₂, subst, ◌∙◌}
-use Rattle.std.specs.List.{AllByRecursion}
-use Rattle.std.specs.Ordering.{int_cmp, is_eq}
-use Rattle.sqlite.specs.declared.types.Value.TheVariants.{Int}
-use Rattle.sqlite.specs.Order.{Row, value_cmp}
-use Rattle.sqlite.specs.Table.{Table}
-use Rattle.sqlite.specs.Tree.{rowid, put_row}
-use Rattle.sqlite.specs.Cast.{cast_row}
-use Rattle.sqlite.specs.Edit.{edit_of, edited, with_rowid}
-use Rattle.sqlite.specs.Rowids.TheVariants.{Chosen}
-use Rattle.sqlite.specs.State.{State}
-use Rattle.sqlite_schema.specs.declared.schema.Keys.TheVariants.{Enforced}
-use Rattle.sqlite_trees.specs.View.{is_int, IsShaped}
+use Rattle.office_tables.proofs.Common.{◌≡◌, ℕ, ℤ, List, [], ◌∷◌, map, false, IsTrue, Ordering, Less, Equal, Greater, refl, sym, ap, ap₂, subst, ◌∙◌, AllByRecursion, int_cmp, is_eq, Int, Row, value_cmp, Table, rowid, put_row, cast_row, edit_of, edited, with_rowid, Chosen, State, Enforced, is_int, IsShaped, value_cmp-Int, int_is, int_at, Changes, IsApart, apart, inserted, office_schema, put_by}
 use Rattle.sqlite_trees.specs.declared.store.Shape.TheVariants as shape
-use Rattle.sqlite_value.proofs.OrderLemmas.{value_cmp-Int}
-use Rattle.sqlite_rules.proofs.TableLemmas.{int_is}
-use Rattle.sql_meaning.specs.Columns.{int_at}
-use Rattle.sql_meaning.proofs.Writing.{Changes}
-use Rattle.sql_meaning.proofs.Inserts.{IsApart, apart}
-use Rattle.sql_meaning.proofs.Edits.{inserted}
-use Rattle.office_tables.specs.Schema.{office_schema}
-use Rattle.office_rows.specs.Rows.{put_by}
 
 abbrev pub IsNumbered : Row → Type 0
 IsNumbered r = IsTrue (is_int (rowid r))

@@ -1,18 +1,8 @@
 -- Calls inside a transaction, one after the other: what is said of each is said of all. From the clause `inside` of each, antt knows
 -- the connections and the results.
-use Rattle.std.proofs.Common.{refl, sym, subst, ◌∙◌, inl, arith}
-use Rattle.std.specs.Prelude.{Result, Ok, Err, IfErr, OnOk}
-use Rattle.std.specs.Borrow.{MutBor}
-use Rattle.std.proofs.lemmas.Result.{on_ok_weaker}
-use Rattle.sqlite.specs.Store.{Ghosts}
-use Rattle.sqlite.specs.State.{State, HasCleanDisk}
-use Rattle.sqlite.specs.Held.{Held, state}
+use Rattle.office_tables.proofs.Common.{refl, sym, subst, ◌∙◌, inl, arith, Ok, Err, MutBor, on_ok_weaker, Ghosts, State, HasCleanDisk, Held, state, stays_on, Continues, ContinuesInTurn, GoesOnInside, GoesOnInTurn, Keeps, IsFailure, IsOffice, TableFault}
+use Rattle.std.specs.Prelude.{Result, IfErr, OnOk}
 use Rattle.sql_meaning.specs.Inside.{Stays, GoesOn, GoesOnIfAny}
-use Rattle.sql_meaning.proofs.Inside.{stays_on}
-use Rattle.office_tables.specs.Calls.{Continues, ContinuesInTurn, GoesOnInside, GoesOnInTurn, Keeps}
-use Rattle.office_tables.specs.Faults.{IsFailure}
-use Rattle.office_tables.specs.Tables.{IsOffice}
-use Rattle.office_tables.specs.declared.fault.TableFault.{TableFault}
 
 -- a disk that is clean after a call was clean before it
 pub clean_first : {old new : State} → Stays old new → HasCleanDisk new → HasCleanDisk old
@@ -120,10 +110,6 @@ module _ {S A B : Type 0} {g : Ghosts S} {old mid new : MutBor (Held S)} {x : A}
   -- they fail with a fault of their own
   pub inside_failed : {C : Type 0} (result : Result C TableFault) → Continues g old.now new.now result → IfErr result IsFailure → GoesOnInside g old new result
   inside_failed = failed_in_turn before (in_turn after)
-
-  -- no row changes
-  pub same_then : Keeps {E = TableFault} g old.now mid.now (Ok x) → Keeps {E = TableFault} g mid.now new.now second → Keeps {E = TableFault} g old.now new.now second
-  same_then = same_in_turn before (in_turn after)
 
 -- both are Ok, whatever is answered
 pub inside_after : {S A B C : Type 0} {g : Ghosts S} {old mid new : MutBor (Held S)} {x : A} {y : B} → GoesOnInside g old mid (Ok x) → GoesOnInside g mid new (Ok y)

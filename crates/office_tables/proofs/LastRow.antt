@@ -1,29 +1,6 @@
 -- What ORDER BY the rowid DESC LIMIT 1 answers: what is shown of the last row.
-use Rattle.std.proofs.Common.{◌≡◌, ℕ, ℤ, pos, List, [], ◌∷◌, ◌++◌, map, filter, take, slice_get, unwrap_or, option_map, Some, true, false, Less, refl, sym, ap, subst, ◌∙◌}
-use Rattle.std.specs.List.{AllByRecursion}
-use Rattle.std.specs.List.Sorted.{IsPermutation}
-use Rattle.std.proofs.lemmas.List.Sorted.{IsPermutation-refl, IsPermutation-sym, IsPermutation-trans, IsPermutation-cons, IsPermutation-append_comm}
-use Rattle.sqlite.specs.declared.types.Value.TheVariants.{Null, Int}
-use Rattle.sqlite.specs.Order.{Row, value_cmp}
-use Rattle.sqlite.specs.Collation.TheVariants.{Binary}
-use Rattle.sqlite.specs.Term.{Term, lit, col}
-use Rattle.sqlite.specs.Query.{Query, IsSureAnswer, output, output_cmp, Output}
-use Rattle.sqlite.specs.Schema.{Schema}
-use Rattle.sqlite.specs.Tree.{Trees, rowid, IsAscending, IsTable}
-use Rattle.sqlite.specs.State.{State, Shown}
-use Rattle.sqlite.specs.Command.TheVariants.{Select}
-use Rattle.sqlite.specs.Listing.{understood, reads_listing}
-use Rattle.sqlite.proofs.Callers.{IsPlain, command_of, reads_as}
-use Rattle.sqlite_value.specs.declared.keys.Key.{Key}
-use Rattle.sqlite_sql.specs.Program.{overlay}
+use Rattle.office_tables.proofs.Common.{◌≡◌, ℕ, ℤ, pos, List, [], ◌∷◌, ◌++◌, map, filter, take, slice_get, unwrap_or, option_map, Some, true, false, Less, refl, sym, ap, subst, ◌∙◌, AllByRecursion, IsPermutation, IsPermutation-refl, IsPermutation-sym, IsPermutation-trans, IsPermutation-cons, IsPermutation-append_comm, Null, Int, Row, value_cmp, Binary, Term, lit, col, Query, IsSureAnswer, output, output_cmp, Output, Schema, Trees, rowid, IsAscending, IsTable, State, Shown, Select, understood, reads_listing, IsPlain, command_of, reads_as, Key, overlay, all_has, all_from, first_taken, ascending-append, ascending-map, ascending_weaker, all-append, sorted_unique, filter_all, int_at, scan, as_program, passes, scanned, shown_same, last_number}
 use Rattle.sqlite_sql.proofs.QueryLemmas.{output_cmp_total}
-use Rattle.sqlite_rules.proofs.ListLemmas.{all_has, all_from}
-use Rattle.sqlite_keyed.proofs.ListLemmas.{first_taken, ascending-append, ascending-map, ascending_weaker, all-append}
-use Rattle.sqlite_keyed.proofs.SortLemmas.{sorted_unique}
-use Rattle.sqlite_catalog.proofs.ListFacts.{filter_all}
-use Rattle.sql_meaning.specs.Columns.{int_at}
-use Rattle.sql_meaning.proofs.Scanning.{scan, as_program, passes, scanned, shown_same}
-use Rattle.office_rows.specs.Rows.{last_number}
 
 abbrev falling : List (Term × Key)
 falling = (col 1 0, record { collation = Binary; descending = true }) ∷ []

@@ -1,3 +1,4 @@
+pub mod Common
 pub mod TablePlaces
 pub mod Frames
 pub mod InOrder
@@ -42,3 +43,5 @@ pub mod MovedRules
 pub mod Versioned
 pub mod FoundAgain
 pub mod Settled
+pub mod FirstLemmas
+pub mod Lemmas

@@ -1,23 +1,11 @@
 -- What the query on the office's row means under any schema.
-use Rattle.std.proofs.Common.{◌≡◌, ℤ, MatchOption, List, [], ◌∷◌, Bool, true, false, cond, Option, None, Some, Ok, Err, refl, sym, ap, subst, ◌∙◌, inl, inr}
-use Rattle.std.specs.List.{AllByRecursion}
-use Rattle.std.proofs.lemmas.Bool.{cases_Bool}
-use Rattle.sqlite_rules.specs.Lists.{Has}
-use Rattle.sqlite_tied.specs.Compute.{everything}
+use Rattle.office_tables.proofs.Common.{◌≡◌, ℤ, MatchOption, List, [], ◌∷◌, Bool, true, false, cond, Option, None, Some, Ok, Err, refl, sym, ap, subst, ◌∙◌, inl, inr, AllByRecursion, cases_Bool, Has, everything, Schema, Command, Row, column, Int, Database, understood, reads_listing, if_select, is_select, listing_schema, State, Shown, IsUnchanged, look_text, Looks, ShowsVersion, shows_office, known_row}
 use Rattle.sqlite_resolve.specs.Compile.{compiled, first, planned, meaning, returning, timed, with_command}
 use Rattle.sqlite_resolve.specs.Lowering.{Checked, and_then}
 use Rattle.sqlite_resolve.specs.declared.error.CompileError.TheVariants.{NoSuchTable}
 use Rattle.sqlite_resolve.specs.declared.compiled.Compiled.{Compiled}
 use Rattle.sqlite_syntax.specs.declared.statement.Parsed.{Parsed}
 use Rattle.sqlite_ast.specs.declared.Statement.TheVariants as written
-use Rattle.sqlite.specs.Schema.{Schema}
-use Rattle.sqlite.specs.Command.{Command}
-use Rattle.sqlite.specs.Order.{Row, column}
-use Rattle.sqlite.specs.declared.types.Value.TheVariants.{Int}
-use Rattle.sqlite.specs.Effect.{Database}
-use Rattle.sqlite.specs.Listing.{understood, reads_listing, if_select, is_select, listing_schema}
-use Rattle.sqlite.specs.State.{State, Shown, IsUnchanged}
-use Rattle.office_tables.specs.Opening.{look_text, Looks, ShowsVersion, shows_office, known_row}
 
 -- the text is a SELECT without parameters or the time
 look_parsed : (p : Parsed) × (s : _) × (first look_text ≡ Ok p) × (p.statement ≡ written.Select s) × (p.formats ≡ []) × (p.names ≡ [])

@@ -1,40 +1,7 @@
 -- What the statement on the deciding rule answers.
-use Rattle.std.proofs.Common.{◌≡◌, ◌&&◌, ◌||◌, ℕ, ℤ, List, [], ◌∷◌, map, filter, take, slice_get, option_map, Bool, true, false, codes, Some, Less, refl, sym, ap, ap₂, ◌∙◌, bytes_eq}
-use Rattle.std.specs.List.{AllByRecursion}
-use Rattle.std.specs.Ordering.{int_cmp, is_eq, is_ge}
-use Rattle.std.proofs.lemmas.Map.Text.{is_eq-slice_cmp}
-use Rattle.sqlite.specs.declared.types.Value.{Value}
-use Rattle.sqlite.specs.declared.types.Value.TheVariants.{Null, Int, Text}
-use Rattle.sqlite.specs.Order.{Row, column, value_cmp}
-use Rattle.sqlite.specs.Term.{Term}
-use Rattle.sqlite.specs.Collation.TheVariants.{Binary}
-use Rattle.sqlite.specs.Ops.{binary, is_true, from_truth}
-use Rattle.sqlite.specs.Query.{IsSureAnswer, output, output_cmp, Output}
-use Rattle.sqlite.specs.Tree.{IsAscending}
-use Rattle.sqlite.specs.Schema.{Schema}
-use Rattle.sqlite.specs.Effect.{Database}
-use Rattle.sqlite.specs.State.{State, Shown}
-use Rattle.sqlite.proofs.Callers.{reads_as}
-use Rattle.sqlite_sql.specs.Program.{overlay}
-use Rattle.sqlite_sql.specs.declared.ops.BinaryOp.TheVariants.{Compare, Or}
-use Rattle.sqlite_sql.specs.declared.ops.CompareOp.TheVariants.{Eq, Ge, Le}
-use Rattle.sqlite_value.specs.declared.keys.Key.{Key}
-use Rattle.sqlite_schema.specs.declared.schema.Constraint.TheVariants.{Datatype, NotNull}
-use Rattle.sqlite_value.proofs.OrderLemmas.{value_cmp-Int, value_cmp-Text}
-use Rattle.sqlite_rules.proofs.ListLemmas.{all_has, all_from}
-use Rattle.sqlite_keyed.proofs.ListLemmas.{first_taken, ascending_weaker}
-use Rattle.sql_meaning.specs.Columns.{int_at, bytes_at}
-use Rattle.sql_meaning.proofs.Scanning.{Scans, scan, passes, shown_of, scanned, answers_rising, shown_same, finds_one}
-use Rattle.sql_meaning.proofs.Typed.{typed_at, all_both}
-use Rattle.sql_meaning.proofs.Whole.{keeps_rule}
-use Rattle.office_tables.specs.Schema.{office_schema, rule_5_table, rule_tree}
-use Rattle.office_tables.specs.Tables.{IsOffice, tables_of, rule_in}
-use Rattle.office_tables.specs.ShownPolicy.{shown_rule}
-use Rattle.office_tables.proofs.TablePlaces.{of_rules}
-use Rattle.office_tables.proofs.PolicyTexts.{rule_columns}
+use Rattle.office_tables.proofs.FirstLemmas.{and-true, ◌≡◌, ◌&&◌, ◌||◌, ℕ, ℤ, List, [], ◌∷◌, map, filter, take, slice_get, option_map, Bool, true, false, codes, Some, Less, refl, sym, ap, ap₂, ◌∙◌, bytes_eq, AllByRecursion, int_cmp, is_eq, is_ge, is_eq-slice_cmp, Value, Null, Int, Text, Row, column, value_cmp, Term, Binary, binary, is_true, from_truth, IsSureAnswer, output, output_cmp, Output, IsAscending, Schema, Database, State, Shown, reads_as, overlay, Compare, Or, Eq, Ge, Le, Key, Datatype, NotNull, value_cmp-Int, value_cmp-Text, all_has, all_from, first_taken, ascending_weaker, int_at, bytes_at, Scans, scan, passes, shown_of, scanned, answers_rising, shown_same, finds_one, typed_at, all_both, keeps_rule, office_schema, rule_5_table, rule_tree, IsOffice, tables_of, rule_in, shown_rule, of_rules, rule_columns, Attempt, counts_on, fits_attempt, fits_name, matching_rule}
 use Rattle.office_tables.proofs.DueLemmas.{truth_back, by_day}
 use Rattle.office_tables.proofs.MatchTexts.{AsksFirst, match_text, matching, match_order, asks_match}
-use Rattle.office_rows.specs.Matching.{Attempt, counts_on, fits_attempt, fits_name, matching_rule}
 
 -- ---- ORDER BY, LIMIT 1
 
@@ -90,13 +57,9 @@ rule_rows db office = all_both (λ r t p.
     let at = typed_at office_schema db.trees rule_5_table r t p in
     (at 2 refl, at 3 refl, at 4 refl, at 5 refl, at 6 refl, at 7 refl)) (db.trees rule_tree) (of_rules (keeps_rule office.whole Datatype)) (of_rules (keeps_rule office.whole NotNull))
 
-and_true : (a : Bool) → (a && true) ≡ a
-and_true true = refl
-and_true false = refl
-
 until_is : (r : Row) (day : ℤ) → column r 8 ≡ Int (int_at r 8) → (is_true (binary (Compare Ge Binary) (column r 8) (Int day)) && true) ≡ is_ge (int_cmp (int_at r 8) day)
 unfolding binary
-until_is r day is = and_true (is_true (binary (Compare Ge Binary) (column r 8) (Int day))) ∙ ap (λ v. is_true (binary (Compare Ge Binary) v (Int day))) is ∙ truth_back (is_ge (value_cmp (Int (int_at r 8)) (Int day))) ∙ ap is_ge (value_cmp-Int (int_at r 8) day)
+until_is r day is = and-true (is_true (binary (Compare Ge Binary) (column r 8) (Int day))) ∙ ap (λ v. is_true (binary (Compare Ge Binary) v (Int day))) is ∙ truth_back (is_ge (value_cmp (Int (int_at r 8)) (Int day))) ∙ ap is_ge (value_cmp-Int (int_at r 8) day)
 
 abbrev attempt : List ℕ → List ℕ → List ℕ → List ℕ → ℤ → Attempt
 attempt role action collection class day = record { role = role; action = action; collection = collection; class = class; day = day }

@@ -1,21 +1,5 @@
 -- What the statements on the deciding rule mean under the schema of an office.
-use Rattle.std.proofs.Common.{◌≡◌, ℕ, pos, List, [], ◌∷◌, codes, false, refl}
-use Rattle.sqlite.specs.declared.types.Value.TheVariants.{Int, Text}
-use Rattle.sqlite.specs.Term.{Term, lit, col, op2}
-use Rattle.sqlite.specs.Query.{Query}
-use Rattle.sqlite.specs.Schema.{Schema}
-use Rattle.sqlite.specs.Collation.TheVariants.{Binary}
-use Rattle.sqlite.specs.Command.TheVariants.{Select}
-use Rattle.sqlite.specs.Listing.{understood, reads_listing}
-use Rattle.sqlite.proofs.Callers.{IsPlain, command_of}
-use Rattle.sqlite_tied.specs.Compute.{everything}
-use Rattle.sqlite_value.specs.declared.keys.Key.{Key}
-use Rattle.sqlite_sql.specs.declared.ops.BinaryOp.TheVariants.{Compare, Or}
-use Rattle.sqlite_sql.specs.declared.ops.CompareOp.TheVariants.{Eq, Ge, Le}
-use Rattle.sql_meaning.proofs.Scanning.{scan, as_program}
-use Rattle.sql_meaning.proofs.RowidKeys.{rising}
-use Rattle.office_tables.specs.Schema.{office_schema, rule_tree}
-use Rattle.office_tables.proofs.PolicyTexts.{rule_columns}
+use Rattle.office_tables.proofs.FirstLemmas.{◌≡◌, ℕ, pos, List, [], ◌∷◌, codes, false, refl, Int, Text, Term, lit, col, op2, Query, Schema, Binary, Select, understood, reads_listing, IsPlain, command_of, everything, Key, Compare, Or, Eq, Ge, Le, scan, as_program, rising, office_schema, rule_tree, rule_columns}
 
 -- SELECT project FROM table WHERE test ORDER BY order LIMIT 1
 abbrev pub first_scan : ℕ → List Term → List Term → List (Term × Key) → Query

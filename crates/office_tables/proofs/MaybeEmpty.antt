@@ -1,18 +1,6 @@
 -- A column that may be empty: a cast to its kind keeps what stands in it, and `IS NULL` asks whether something does.
-use Rattle.std.proofs.Common.{◌≡◌, ◌⊎◌, ℤ, ◌∷◌, not, Option, Some, None, is_some, Greater, refl, sym, subst, inl, inr}
-use Rattle.sqlite.specs.declared.types.Value.{Value}
-use Rattle.sqlite.specs.declared.types.Value.TheVariants.{Null, Int, Text}
-use Rattle.sqlite.specs.Order.{Row, bytes, value_cmp}
-use Rattle.sqlite.specs.Values.{or_null}
-use Rattle.sqlite.specs.Edit.{id_in}
-use Rattle.sqlite.specs.Cast.{cast}
+use Rattle.office_tables.proofs.Common.{◌≡◌, ◌⊎◌, ℤ, ◌∷◌, not, Option, Some, None, is_some, Greater, refl, sym, subst, inl, inr, Value, Null, Int, Text, Row, bytes, value_cmp, or_null, id_in, cast, Binary, binary, is_true, Is, value_cmp-Null, value_cmp-apart, maybe_int, maybe_int_at, cast_null, cast_int}
 use Rattle.sqlite.specs.Kind.TheVariants as kind
-use Rattle.sqlite.specs.Collation.TheVariants.{Binary}
-use Rattle.sqlite.specs.Ops.{binary, is_true}
-use Rattle.sqlite_sql.specs.declared.ops.BinaryOp.TheVariants.{Is}
-use Rattle.sqlite_value.proofs.OrderLemmas.{value_cmp-Null, value_cmp-apart}
-use Rattle.sql_meaning.specs.Columns.{maybe_int, maybe_int_at}
-use Rattle.sql_meaning.proofs.Edits.{cast_null, cast_int}
 
 -- a parameter that may be missing
 pub cast_maybe : (n : Option ℤ) → cast kind.Integer (or_null Int n) ≡ or_null Int n

@@ -1,36 +1,6 @@
 -- The holds, taken over into the table whose holds may name a class.
-use Rattle.std.proofs.Common.{◌≡◌, ◌⊎◌, ◌==◌, ℕ, [], map, drop, length, Ok, IsTrue, refl, ap, ◌∙◌, inl, inr}
-use Rattle.std.specs.List.{AllByRecursion}
-use Rattle.std.proofs.lemmas.Bool.{cases_Bool}
-use Rattle.sqlite.specs.declared.types.Value.TheVariants.{Null, Int, Text}
-use Rattle.sqlite.specs.Order.{Row, column}
-use Rattle.sqlite.specs.Cast.{cast, cast_row}
+use Rattle.office_tables.proofs.FirstLemmas.{◌≡◌, ◌⊎◌, ◌==◌, ℕ, [], map, drop, length, Ok, IsTrue, refl, ap, ◌∙◌, inl, inr, AllByRecursion, cases_Bool, Null, Int, Text, Row, column, cast, cast_row, Schema, rowid, Database, State, Executes, Datatype, NotNull, is_int, all_has, int_is, int_at, bytes_at, IsWhole, Sets, Grows, IsIdle, typed_at, all_both, cast_null, keeps_rule, shown_of, hold_table, hold_4_table, old_hold_tree, hold_tree, hold_in, AllRows, moved_hold, BecomesAt, rows_at, schema_at, old_hold_in, Third, Fourth, of_office, of_callers, of_old_rules, of_classes, of_collections, of_deposits, of_files, of_old_holds, of_contents, copy_holds_text, copied_hold, empty_holds_text, eight, moving_meanings, keeps_int, keeps_text, takes_over, empties, starts_empty, rows_taken, others_kept}
 use Rattle.sqlite.specs.Kind.TheVariants as kind
-use Rattle.sqlite.specs.Schema.{Schema}
-use Rattle.sqlite.specs.Tree.{rowid}
-use Rattle.sqlite.specs.Effect.{Database}
-use Rattle.sqlite.specs.State.{State, Executes}
-use Rattle.sqlite_schema.specs.declared.schema.Constraint.TheVariants.{Datatype, NotNull}
-use Rattle.sqlite_trees.specs.View.{is_int}
-use Rattle.sqlite_rules.proofs.ListLemmas.{all_has}
-use Rattle.sqlite_rules.proofs.TableLemmas.{int_is}
-use Rattle.sql_meaning.specs.Columns.{int_at, bytes_at}
-use Rattle.sql_meaning.specs.Whole.{IsWhole, Sets}
-use Rattle.sql_meaning.specs.Growing.{Grows}
-use Rattle.sql_meaning.proofs.Writing.{IsIdle}
-use Rattle.sql_meaning.proofs.Typed.{typed_at, all_both}
-use Rattle.sql_meaning.proofs.Edits.{cast_null}
-use Rattle.sql_meaning.proofs.Whole.{keeps_rule}
-use Rattle.sql_meaning.proofs.Scanning.{shown_of}
-use Rattle.office_tables.specs.Schema.{hold_table, hold_4_table, old_hold_tree, hold_tree}
-use Rattle.office_tables.specs.Tables.{hold_in}
-use Rattle.office_tables.specs.Moving.{AllRows, moved_hold, BecomesAt, rows_at}
-use Rattle.office_tables.specs.Versions.{schema_at, old_hold_in}
-use Rattle.office_tables.specs.declared.version.TableVersion.TheVariants.{Third, Fourth}
-use Rattle.office_tables.proofs.TablePlaces.{of_office, of_callers, of_old_rules, of_classes, of_collections, of_deposits, of_files, of_old_holds, of_contents}
-use Rattle.office_tables.proofs.MovingTexts.{copy_holds_text, copied_hold, empty_holds_text, eight, moving_meanings}
-use Rattle.office_tables.proofs.MaybeEmpty.{keeps_int, keeps_text}
-use Rattle.office_tables.proofs.TakenOver.{takes_over, empties, starts_empty, rows_taken, others_kept}
 
 -- ---- the two statements
 

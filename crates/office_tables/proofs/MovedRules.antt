@@ -1,36 +1,6 @@
 -- The rules, taken over into the table whose rules have days.
-use Rattle.std.proofs.Common.{◌≡◌, ℕ, [], ◌∷◌, map, drop, Ok, IsTrue, refl, ap, ◌∙◌, inr}
-use Rattle.std.specs.List.{AllByRecursion}
-use Rattle.sqlite.specs.declared.types.Value.TheVariants.{Int, Text}
-use Rattle.sqlite.specs.Order.{Row, column}
-use Rattle.sqlite.specs.Cast.{cast, cast_row}
+use Rattle.office_tables.proofs.FirstLemmas.{◌≡◌, ℕ, [], ◌∷◌, map, drop, Ok, IsTrue, refl, ap, ◌∙◌, inr, AllByRecursion, Int, Text, Row, column, cast, cast_row, Schema, rowid, Database, State, Executes, Binary, Datatype, NotNull, is_int, all_has, int_is, int_at, bytes_at, IsWhole, Sets, Grows, typed_at, all_both, cast_null, cast_int, keeps_rule, shown_of, rule_table, rule_5_table, old_rule_tree, old_hold_tree, rule_tree, rule_in, AllRows, moved_rule, BecomesAt, rows_at, first_day, last_day, schema_at, old_rule_in, Fourth, Fifth, of_office, of_callers, of_old_rules, of_classes, of_collections, of_deposits, of_files, of_old_holds, of_contents, of_holds, copy_rules_text, copied_rule, empty_rules_text, eight, moving_meanings, takes_over, empties, starts_empty, rows_taken, others_kept, idle, keeps_int, keeps_text}
 use Rattle.sqlite.specs.Kind.TheVariants as kind
-use Rattle.sqlite.specs.Schema.{Schema}
-use Rattle.sqlite.specs.Tree.{rowid}
-use Rattle.sqlite.specs.Effect.{Database}
-use Rattle.sqlite.specs.State.{State, Executes}
-use Rattle.sqlite.specs.Collation.TheVariants.{Binary}
-use Rattle.sqlite_schema.specs.declared.schema.Constraint.TheVariants.{Datatype, NotNull}
-use Rattle.sqlite_trees.specs.View.{is_int}
-use Rattle.sqlite_rules.proofs.ListLemmas.{all_has}
-use Rattle.sqlite_rules.proofs.TableLemmas.{int_is}
-use Rattle.sql_meaning.specs.Columns.{int_at, bytes_at}
-use Rattle.sql_meaning.specs.Whole.{IsWhole, Sets}
-use Rattle.sql_meaning.specs.Growing.{Grows}
-use Rattle.sql_meaning.proofs.Typed.{typed_at, all_both}
-use Rattle.sql_meaning.proofs.Edits.{cast_null, cast_int}
-use Rattle.sql_meaning.proofs.Whole.{keeps_rule}
-use Rattle.sql_meaning.proofs.Scanning.{shown_of}
-use Rattle.office_tables.specs.Schema.{rule_table, rule_5_table, old_rule_tree, old_hold_tree, rule_tree}
-use Rattle.office_tables.specs.Tables.{rule_in}
-use Rattle.office_tables.specs.Moving.{AllRows, moved_rule, BecomesAt, rows_at}
-use Rattle.office_tables.specs.Versions.{first_day, last_day, schema_at, old_rule_in}
-use Rattle.office_tables.specs.declared.version.TableVersion.TheVariants.{Fourth, Fifth}
-use Rattle.office_tables.proofs.TablePlaces.{of_office, of_callers, of_old_rules, of_classes, of_collections, of_deposits, of_files, of_old_holds, of_contents, of_holds}
-use Rattle.office_tables.proofs.MovingTexts.{copy_rules_text, copied_rule, empty_rules_text, eight, moving_meanings}
-use Rattle.office_tables.proofs.TakenOver.{takes_over, empties, starts_empty, rows_taken, others_kept}
-use Rattle.office_tables.proofs.Frames.{idle}
-use Rattle.office_tables.proofs.MaybeEmpty.{keeps_int, keeps_text}
 
 abbrev fifth : Schema
 fifth = schema_at Fifth

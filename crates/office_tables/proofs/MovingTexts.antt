@@ -1,19 +1,6 @@
 -- What the texts of an upgrade mean, each under the schema of its moment.
-use Rattle.std.proofs.Common.{ℕ, pos, negsuc, List, [], ◌∷◌, codes, refl}
-use Rattle.sqlite.specs.declared.types.Value.TheVariants.{Null, Int}
-use Rattle.sqlite.specs.Term.{Term, lit, col}
-use Rattle.sqlite.specs.Command.TheVariants.{Insert, Update, Delete}
+use Rattle.office_tables.proofs.Common.{ℕ, pos, negsuc, List, [], ◌∷◌, codes, refl, Null, Int, Term, lit, col, Insert, Update, Delete, understood, everything, scan, as_program, noting, Collation, Binary, by_number, rising, Means, office_tree, old_rule_tree, old_hold_tree, schema_at, Fourth, Fifth}
 use Rattle.sqlite.specs.Source.TheVariants.{Query}
-use Rattle.sqlite.specs.Listing.{understood}
-use Rattle.sqlite_tied.specs.Compute.{everything}
-use Rattle.sql_meaning.proofs.Scanning.{scan, as_program, noting}
-use Rattle.sqlite.specs.Collation.{Collation}
-use Rattle.sqlite.specs.Collation.TheVariants.{Binary}
-use Rattle.sql_meaning.proofs.RowidKeys.{by_number, rising}
-use Rattle.sql_meaning.proofs.Writing.{Means}
-use Rattle.office_tables.specs.Schema.{office_tree, old_rule_tree, old_hold_tree}
-use Rattle.office_tables.specs.Versions.{schema_at}
-use Rattle.office_tables.specs.declared.version.TableVersion.TheVariants.{Fourth, Fifth}
 
 -- ---- the copies
 

@@ -1,19 +1,5 @@
 -- What the statement on the row of the office answers.
-use Rattle.std.proofs.Common.{◌≡◌, ℕ, pos, List, [], ◌∷◌, codes, slice_get, option_map, refl}
-use Rattle.sqlite.specs.declared.types.Value.TheVariants.{Int}
-use Rattle.sqlite.specs.Order.{Row}
-use Rattle.sqlite.specs.Term.{Term, col}
-use Rattle.sqlite.specs.State.{State, Shown}
-use Rattle.sqlite.specs.Listing.{understood}
-use Rattle.sqlite_tied.specs.Compute.{everything}
-use Rattle.sql_meaning.proofs.Scanning.{shown_of}
-use Rattle.sql_meaning.proofs.Reading.{Asks, finds_part}
-use Rattle.sql_meaning.proofs.RowidKeys.{by_number, has_number}
-use Rattle.office_tables.specs.Schema.{office_schema, office_tree}
-use Rattle.office_rows.specs.Rows.{is_office_row, limits_in, limits_of}
-use Rattle.office_tables.specs.Tables.{IsOffice, tables_of, office_in, shown_limits}
-use Rattle.office_tables.proofs.TablePlaces.{of_office}
-use Rattle.office_tables.proofs.RowsRead.{reads_numbered}
+use Rattle.office_tables.proofs.FirstLemmas.{◌≡◌, ℕ, pos, List, [], ◌∷◌, codes, slice_get, option_map, refl, Int, Row, Term, col, State, Shown, understood, everything, shown_of, Asks, finds_part, by_number, has_number, office_schema, office_tree, is_office_row, limits_in, limits_of, IsOffice, tables_of, office_in, shown_limits, of_office, reads_numbered}
 
 abbrev pub limits_text : List ℕ
 limits_text = codes "SELECT max_deposits, max_holds FROM office WHERE id = ?1"

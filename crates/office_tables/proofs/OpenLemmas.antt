@@ -1,48 +1,7 @@
 -- What opening finds in the database of an office of each version is what its rows say.
-use Rattle.std.proofs.Common.{◌≡◌, ◌&&◌, ap₂, ℤ, pos, negsuc, ◌==◌, arith, List, [], ◌∷◌, codes, map, drop, find, filter, slice_get, option_map, Bool, true, false, Option, Some, None, Equal, Ok, IsTrue, refl, sym, ap, subst, subst₂, ◌∙◌, inl, inr}
-use Rattle.std.proofs.lemmas.Int.{ints}
-use Rattle.std.proofs.lemmas.Bool.{cases_Bool, and_parts}
-use Rattle.std.proofs.lemmas.Bool.Decides.{nat_tests}
-use Rattle.std.specs.List.{AllByRecursion}
-use Rattle.std.specs.Ordering.{int_cmp, int_eq, is_eq}
-use Rattle.sqlite.specs.declared.types.Value.TheVariants.{Int}
-use Rattle.sqlite.specs.Order.{Row, column}
-use Rattle.sqlite.specs.Term.{Term, col}
-use Rattle.sqlite.specs.Collation.TheVariants.{Binary}
-use Rattle.sqlite_value.specs.declared.keys.Key.{Key}
-use Rattle.sqlite.specs.Edit.{id_in}
-use Rattle.sqlite.specs.Tree.{rowid}
-use Rattle.sqlite.specs.Command.TheVariants.{Select}
-use Rattle.sqlite.specs.Listing.{understood, reads_listing, IsSourceOf}
-use Rattle.sqlite.specs.Effect.{Database, Reads}
-use Rattle.sqlite.proofs.Callers.{command_of}
-use Rattle.sqlite_tied.specs.Compute.{everything}
-use Rattle.sqlite_trees.specs.View.{is_int}
-use Rattle.sqlite_schema.specs.declared.schema.Constraint.TheVariants.{Datatype, NotNull}
-use Rattle.sqlite_schema.specs.Names.{same_name}
-use Rattle.sqlite.specs.Schema.{Schema}
-use Rattle.sqlite_rules.specs.Lists.{Has}
-use Rattle.sqlite_rules.proofs.ListLemmas.{all_has, all_from, has_kept}
-use Rattle.sqlite_rules.proofs.TableLemmas.{int_is}
-use Rattle.sql_meaning.specs.Columns.{int_at}
-use Rattle.sql_meaning.proofs.Keys.{found_by, lone, none_pass}
-use Rattle.sql_meaning.proofs.RowidKeys.{one_numbered}
-use Rattle.sql_meaning.proofs.Reading.{Asks}
-use Rattle.sql_meaning.proofs.Scanning.{scan, as_program, passes, shown_of, Scans, scanned, answer_sound, answer_complete}
-use Rattle.sql_meaning.proofs.Typed.{typed_at, all_both}
-use Rattle.sql_meaning.proofs.Whole.{keeps_rule}
-use Rattle.sqlite.specs.Table.{Table}
-use Rattle.sqlite_schema.specs.declared.schema.Index.{Index}
-use Rattle.sql_meaning.specs.Whole.{IsWhole}
-use Rattle.office_tables.specs.Schema.{office_table, office_tree}
-use Rattle.office_rows.specs.Rows.{OfficeRow, is_known, version_of}
-use Rattle.office_tables.specs.Versions.{schema_at, tables_at}
-use Rattle.office_tables.specs.declared.version.TableVersion.{TableVersion}
-use Rattle.office_tables.specs.declared.version.TableVersion.TheVariants.{Third, Fourth, Fifth}
-use Rattle.office_tables.specs.Tables.{office_in}
-use Rattle.office_tables.proofs.TablePlaces.{of_office}
+use Rattle.office_tables.proofs.FirstLemmas.{◌≡◌, ◌&&◌, ap₂, ℤ, pos, negsuc, ◌==◌, arith, List, [], ◌∷◌, codes, map, drop, find, filter, slice_get, option_map, Bool, true, false, Option, Some, None, Equal, Ok, IsTrue, refl, sym, ap, subst, subst₂, ◌∙◌, inl, inr, ints, cases_Bool, and_parts, nat_tests, AllByRecursion, int_cmp, int_eq, is_eq, Int, Row, column, Term, col, Binary, Key, id_in, rowid, Select, understood, reads_listing, IsSourceOf, Database, Reads, command_of, everything, is_int, Datatype, NotNull, same_name, Schema, Has, all_has, all_from, has_kept, int_is, int_at, found_by, lone, none_pass, one_numbered, Asks, scan, as_program, passes, shown_of, Scans, scanned, answer_sound, answer_complete, typed_at, all_both, keeps_rule, Table, Index, IsWhole, office_table, office_tree, OfficeRow, is_known, version_of, schema_at, tables_at, TableVersion, Third, office_in, of_office, has_office, look_text, Looks, ShowsVersion, shows_office, is_one, is_limit_told}
+use Rattle.office_tables.specs.Opening.{is_int as is_whole}
 use Rattle.office_tables.proofs.Looking.{all_passed_over, known_there}
-use Rattle.office_tables.specs.Opening.{has_office, look_text, Looks, ShowsVersion, shows_office, is_one, is_limit_told, is_int as is_whole}
 
 -- a stored row of the office, as the rules of its table leave it
 abbrev IsOfficeRow : Row → Type 0
@@ -61,8 +20,7 @@ office_rows more indexes db office = all_both (λ r t p.
 at_once : (version : TableVersion) → has_office (schema_at version) ≡ true
 unfolding same_name
 at_once Third = refl
-at_once Fourth = refl
-at_once Fifth = refl
+at_once _ = refl
 
 pub is_there : (version : TableVersion) (schema : Schema) → schema ≡ schema_at version → has_office schema ≡ true
 is_there version schema is = ap has_office is ∙ at_once version
@@ -78,8 +36,7 @@ by_version = (col 1 2, record { collation = Binary; descending = false }) ∷ []
 asks_look : (version : TableVersion) → Asks (schema_at version) look_text office_tree [] look_columns by_version
 unfolding understood everything
 asks_look Third = record { names = codes "id" ∷ codes "version" ∷ codes "max_deposits" ∷ codes "max_holds" ∷ []; command = refl; unlisted = refl; plain = (refl, refl) }
-asks_look Fourth = record { names = codes "id" ∷ codes "version" ∷ codes "max_deposits" ∷ codes "max_holds" ∷ []; command = refl; unlisted = refl; plain = (refl, refl) }
-asks_look Fifth = record { names = codes "id" ∷ codes "version" ∷ codes "max_deposits" ∷ codes "max_holds" ∷ []; command = refl; unlisted = refl; plain = (refl, refl) }
+asks_look _ = record { names = codes "id" ∷ codes "version" ∷ codes "max_deposits" ∷ codes "max_holds" ∷ []; command = refl; unlisted = refl; plain = (refl, refl) }
 
 look_scans : (schema : Schema) → Asks schema look_text office_tree [] look_columns by_version → (db : Database) → db.schema ≡ schema → (rows : List Row) → Looks db rows → Scans db.trees [] office_tree [] look_columns by_version rows
 look_scans schema asks db has rows look =
@@ -145,5 +102,4 @@ module _ (more : List Table) (indexes : List Index) (asks : Asks (with_office mo
 -- the version that was seen is the one that the rows tell
 pub tells_version : (version : TableVersion) (db : Database) → IsWhole (schema_at version) db → (seen : Option ℤ) → ShowsVersion db seen → version_of (tables_at version db) ≡ seen
 tells_version Third db whole seen shown = shows_first (drop 1 (schema_at Third).tables) (schema_at Third).indexes (asks_look Third) db whole seen shown
-tells_version Fourth db whole seen shown = shows_first (drop 1 (schema_at Fourth).tables) (schema_at Fourth).indexes (asks_look Fourth) db whole seen shown
-tells_version Fifth db whole seen shown = shows_first (drop 1 (schema_at Fifth).tables) (schema_at Fifth).indexes (asks_look Fifth) db whole seen shown
+tells_version version db whole seen shown = shows_first (drop 1 (schema_at version).tables) (schema_at version).indexes (asks_look version) db whole seen shown

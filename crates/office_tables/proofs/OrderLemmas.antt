@@ -1,23 +1,6 @@
 -- The rows of an office are in order.
-use Rattle.std.proofs.Common.{◌≡◌, ◌≤ℤ◌, ℕ, ℤ, Bool, true, false, List, [], ◌∷◌, map, find, None, Some, Less, refl, sym, subst, ◌∙◌, inl, inr, arith}
-use Rattle.std.specs.List.{AllByRecursion}
-use Rattle.std.specs.Ordering.{int_cmp}
-use Rattle.std.proofs.lemmas.Bool.{cases_Bool}
-use Rattle.std.proofs.lemmas.Int.{ints}
-use Rattle.std.proofs.lemmas.Option.{same_Some}
-use Rattle.sqlite.specs.Order.{Row, value_cmp}
-use Rattle.sqlite.specs.Tree.{rowid, IsAscending}
-use Rattle.sqlite.specs.Effect.{Database}
-use Rattle.sqlite_trees.specs.View.{IsShaped}
+use Rattle.office_tables.proofs.FirstLemmas.{◌≡◌, ◌≤ℤ◌, ℕ, ℤ, Bool, true, false, List, [], ◌∷◌, map, find, None, Some, Less, refl, sym, subst, ◌∙◌, inl, inr, arith, AllByRecursion, int_cmp, cases_Bool, ints, same_Some, Row, value_cmp, rowid, IsAscending, Database, IsShaped, Has, all_has, int_at, NumbersRise, AreInOrder, live_holds, deposit_tree, hold_tree, rule_tree, IsOffice, tables_of, deposit_in, hold_in, rule_in, of_deposits, of_holds, of_rules, IsNumbered, same_order}
 use Rattle.sqlite_trees.specs.declared.store.Shape.TheVariants as shape
-use Rattle.sqlite_rules.specs.Lists.{Has}
-use Rattle.sqlite_rules.proofs.ListLemmas.{all_has}
-use Rattle.sql_meaning.specs.Columns.{int_at}
-use Rattle.office_rows.specs.Rows.{NumbersRise, AreInOrder, live_holds}
-use Rattle.office_tables.specs.Schema.{deposit_tree, hold_tree, rule_tree}
-use Rattle.office_tables.specs.Tables.{IsOffice, tables_of, deposit_in, hold_in, rule_in}
-use Rattle.office_tables.proofs.TablePlaces.{of_deposits, of_holds, of_rules}
-use Rattle.office_tables.proofs.InOrder.{IsNumbered, same_order}
 use Rattle.office_tables.proofs.HoldLemmas.{live_rise}
 
 -- rows that ascend by their rowids ascend by what is decoded from these

@@ -1,22 +1,5 @@
 -- What the rows of an office tell where they differ in the bytes of contents alone.
-use Rattle.std.proofs.Common.{◌≡◌, ◌&&◌, ℕ, ℤ, Bool, true, false, cond, List, [], ◌∷◌, map, filter, slice_get, bytes_eq, Option, Some, None, option_map, unwrap_or, refl, sym, ap, subst, ◌∙◌, inl, inr, true≢false}
-use Rattle.std.specs.List.{AllByRecursion}
-use Rattle.std.specs.Ordering.{int_eq}
-use Rattle.std.proofs.lemmas.Option.{same_Some}
-use Rattle.std.proofs.lemmas.Slice.Eq.{bytes_eq-Decides}
-use Rattle.sha2.specs.Sha256.{sha256}
-use Rattle.sqlite.specs.Order.{Row}
-use Rattle.sqlite.specs.Effect.{Database}
-use Rattle.sqlite_keyed.proofs.ListLemmas.{filter-map}
-use Rattle.sqlite_rules.specs.Lists.{Has}
-use Rattle.sqlite_rules.proofs.ListLemmas.{all_from, all_has, has_filtered, has_found}
-use Rattle.sqlite_rules.proofs.ProbeLemmas.{mapped_has}
-use Rattle.sql_meaning.specs.Columns.{bytes_at, int_at}
-use Rattle.sql_meaning.proofs.Keys.{found_by}
-use Rattle.office_rows.specs.Rows.{ContentRow, FileRow, bytes_under, content_numbered, file_at, files_of, is_content, is_file_at, is_file_of}
-use Rattle.office_tables.specs.Contents.{DiffersInBytes, IsMarked, content_at, content_referred, is_intact, references_of, without_bytes}
-use Rattle.office_tables.specs.Schema.{caller_tree, class_tree, collection_tree, deposit_tree, file_tree, hold_tree, office_tree, rule_tree}
-use Rattle.office_tables.specs.Tables.{IsOffice, caller_in, class_in, collection_in, contents_of, deposit_in, due_in, file_in, hold_in, office_in, rule_in, tables_of}
+use Rattle.office_tables.proofs.Common.{◌≡◌, ◌&&◌, ℕ, ℤ, Bool, true, false, cond, List, [], ◌∷◌, map, filter, slice_get, bytes_eq, Option, Some, None, option_map, unwrap_or, refl, sym, ap, subst, ◌∙◌, inl, inr, true≢false, AllByRecursion, int_eq, same_Some, bytes_eq-Decides, sha256, Row, Database, filter-map, Has, all_from, all_has, has_filtered, has_found, mapped_has, bytes_at, int_at, found_by, ContentRow, FileRow, bytes_under, content_numbered, file_at, files_of, is_content, is_file_at, is_file_of, DiffersInBytes, IsMarked, content_at, content_referred, is_intact, references_of, without_bytes, caller_tree, class_tree, collection_tree, deposit_tree, file_tree, hold_tree, office_tree, rule_tree, IsOffice, caller_in, class_in, collection_in, contents_of, deposit_in, due_in, file_in, hold_in, office_in, rule_in, tables_of}
 use Rattle.office_tables.proofs.FileLemmas.{only_row, references_are}
 
 abbrev referred : Row → ℤ

@@ -1,36 +1,5 @@
 -- What the statements on callers and rules do to the rows of an office.
-use Rattle.std.proofs.Common.{◌≡◌, ℕ, List, [], ◌∷◌, ◌++◌, map, slice_get, option_map, true, false, Ok, refl, ap, sym, ◌∙◌, append-nil, append_assoc, get_or, drop, length, ◌+◌, ◌<◌}
-use Rattle.std.specs.List.{AllByRecursion}
-use Rattle.std.proofs.lemmas.List.{at_drop_more, map-append}
-use Rattle.sqlite.specs.declared.types.Value.TheVariants.{Null, Int, Text}
-use Rattle.sqlite.specs.Order.{Row, column}
-use Rattle.sqlite.specs.Edit.{edit_of}
-use Rattle.sqlite.specs.Rowids.TheVariants.{Chosen, Given}
-use Rattle.sqlite.specs.Term.{col}
-use Rattle.sqlite.specs.Cast.{cast_row}
-use Rattle.sqlite.specs.Effect.{Database}
-use Rattle.sqlite.specs.State.{State, Shown, Executes}
-use Rattle.sqlite_schema.specs.declared.schema.Constraint.TheVariants.{Datatype, NotNull, Unique}
-use Rattle.sqlite_rules.specs.Calls.{ids_of}
-use Rattle.sqlite_rules.proofs.ListLemmas.{all_from}
-use Rattle.sql_meaning.specs.Columns.{bytes_at}
-use Rattle.sql_meaning.proofs.Writing.{inserts}
-use Rattle.sql_meaning.proofs.Keys.{none_pass}
-use Rattle.sql_meaning.proofs.TextKeys.{few_named}
-use Rattle.sql_meaning.proofs.Typed.{typed_at, all_both}
-use Rattle.sql_meaning.proofs.Edits.{appended, cast_null, cast_int}
-use Rattle.sql_meaning.proofs.Whole.{keeps_rule}
-use Rattle.sql_meaning.proofs.Changing.{drops}
-use Rattle.office_tables.specs.Schema.{office_schema, caller_table, rule_5_table, caller_tree, rule_tree}
-use Rattle.office_rows.specs.Rows.{Tables, CallerRow, RuleRow, is_caller, caller_named, with_caller, with_rule, with_callers, with_rules, without_callers, without_rules, with_policy}
-use Rattle.office_tables.specs.Tables.{IsOffice, Becomes, tables_of, caller_in, rule_in}
-use Rattle.office_tables.specs.ShownPolicy.{shown_rule}
-use Rattle.office_tables.proofs.TablePlaces.{of_callers, of_rules}
-use Rattle.office_tables.proofs.Frames.{idle, becomes}
-use Rattle.office_tables.proofs.InOrder.{placed}
-use Rattle.office_tables.proofs.PolicyTexts.{role_text, rules_text, drop_callers_text, drop_rules_text, add_caller_text, add_rule_text, rule_terms, policy_meanings}
-use Rattle.office_tables.proofs.Columns.{all_given}
-use Rattle.office_tables.proofs.RowsRead.{finds_named, lists_all}
+use Rattle.office_tables.proofs.FirstLemmas.{◌≡◌, ℕ, List, [], ◌∷◌, ◌++◌, map, slice_get, option_map, true, false, Ok, refl, ap, sym, ◌∙◌, append-nil, append_assoc, slice_index_or as get_or, drop, length, ◌+◌, ◌<◌, AllByRecursion, at_drop_more, map-append, Null, Int, Text, Row, column, edit_of, Chosen, Given, col, cast_row, Database, State, Shown, Executes, Datatype, NotNull, Unique, ids_of, all_from, bytes_at, inserts, none_pass, few_named, typed_at, all_both, appended, cast_null, cast_int, keeps_rule, drops, office_schema, caller_table, rule_5_table, caller_tree, rule_tree, Tables, CallerRow, RuleRow, is_caller, caller_named, with_caller, with_rule, with_callers, with_rules, without_callers, without_rules, with_policy, IsOffice, Becomes, tables_of, caller_in, rule_in, shown_rule, of_callers, of_rules, idle, becomes, placed, role_text, rules_text, drop_callers_text, drop_rules_text, add_caller_text, add_rule_text, rule_terms, policy_meanings, all_given, finds_named, lists_all}
 
 -- each name of a caller is a text
 names : (db : Database) → IsOffice db → AllByRecursion (λ r. column r 1 ≡ Text (bytes_at r 1)) (db.trees caller_tree)

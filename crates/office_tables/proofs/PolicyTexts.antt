@@ -1,17 +1,5 @@
 -- What the statements on callers and rules mean under the schema of an office.
-use Rattle.std.proofs.Common.{ℕ, List, [], ◌∷◌, codes, refl}
-use Rattle.sqlite.specs.declared.types.Value.TheVariants.{Null}
-use Rattle.sqlite.specs.Term.{Term, lit, col}
-use Rattle.sqlite.specs.Command.TheVariants.{Insert, Delete}
-use Rattle.sqlite.specs.Source.TheVariants.{Values}
-use Rattle.sqlite.specs.Listing.{understood}
-use Rattle.sqlite_tied.specs.Compute.{everything}
-use Rattle.sql_meaning.proofs.Scanning.{scan, as_program}
-use Rattle.sql_meaning.proofs.Reading.{Asks}
-use Rattle.sql_meaning.proofs.RowidKeys.{rising}
-use Rattle.sql_meaning.proofs.TextKeys.{by_text}
-use Rattle.sql_meaning.proofs.Writing.{Means}
-use Rattle.office_tables.specs.Schema.{office_schema, caller_tree, rule_tree}
+use Rattle.office_tables.proofs.Common.{ℕ, List, [], ◌∷◌, codes, refl, Null, Term, lit, col, Insert, Delete, Values, understood, everything, scan, as_program, Asks, rising, by_text, Means, office_schema, caller_tree, rule_tree}
 use Rattle.office_tables.proofs.Columns.{only, all_given}
 
 abbrev pub role_text : List ℕ

@@ -1,16 +1,5 @@
 -- Rows that a loop puts one after another: what is so before each turn, and that a turn keeps it.
-use Rattle.std.proofs.Common.{◌≡◌, ℕ, List, ◌∷◌, drop, get_or, length, ◌+◌, ◌<◌}
-use Rattle.std.specs.Prelude.{Ok}
-use Rattle.std.specs.Borrow.{MutBor}
-use Rattle.sqlite.specs.Store.{Ghosts}
-use Rattle.sqlite.specs.State.{HasCleanDisk}
-use Rattle.sqlite.specs.Held.{Held, state}
-use Rattle.office_rows.specs.Rows.{Tables}
-use Rattle.office_tables.specs.Calls.{GoesOnInside, GoesOnInTurn, Writes}
-use Rattle.office_tables.specs.Contents.{LeavesContents}
-use Rattle.office_tables.specs.Tables.{IsOffice, tables_of}
-use Rattle.office_tables.specs.declared.fault.TableFault.{TableFault}
-use Rattle.office_tables.proofs.Frames.{same_after}
+use Rattle.office_tables.proofs.FirstLemmas.{◌≡◌, ℕ, List, ◌∷◌, drop, slice_index_or as get_or, length, ◌+◌, ◌<◌, Ok, MutBor, Ghosts, HasCleanDisk, Held, state, Tables, GoesOnInside, GoesOnInTurn, Writes, LeavesContents, IsOffice, tables_of, TableFault, same_after}
 use Rattle.office_tables.proofs.InTurn.{clean_first, turn_next}
 use Rattle.office_tables.proofs.PolicyLemmas.{next_added}
 

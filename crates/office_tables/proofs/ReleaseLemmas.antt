@@ -1,31 +1,9 @@
 -- What the statements on days of release tell of the rows of an office.
-use Rattle.std.proofs.Common.{◌≡◌, ◌⊎◌, ◌&&◌, ◌||◌, ℕ, ℤ, Bool, true, false, List, [], ◌∷◌, codes, Some, refl, ap, ap₂, subst, sym, ◌∙◌, inl, inr}
-use Rattle.std.specs.List.{list_any}
-use Rattle.std.specs.Ordering.{int_cmp, is_gt, is_lt}
-use Rattle.sqlite.specs.declared.types.Value.{Value}
-use Rattle.sqlite.specs.declared.types.Value.TheVariants.{Null, Int, Text}
-use Rattle.sqlite.specs.Collation.TheVariants.{Binary}
-use Rattle.sqlite.specs.Edit.{id_in}
-use Rattle.sqlite.specs.Effect.{Database}
-use Rattle.sqlite.specs.Ops.{binary, from_truth, is_true, truth}
-use Rattle.sqlite.specs.Order.{Row, column, value_cmp}
-use Rattle.sqlite.specs.State.{State, Shown}
-use Rattle.sqlite_rules.proofs.ListLemmas.{all_has, all_from}
-use Rattle.sqlite_sql.specs.Ops.{or3}
-use Rattle.sqlite_sql.specs.declared.ops.BinaryOp.TheVariants.{Compare, Or}
-use Rattle.sqlite_sql.specs.declared.ops.CompareOp.TheVariants.{Eq, Gt, Lt}
-use Rattle.sqlite_value.proofs.OrderLemmas.{value_cmp-Int}
-use Rattle.sql_meaning.specs.Columns.{maybe_int}
-use Rattle.sql_meaning.proofs.Edits.{any_mapped}
-use Rattle.sql_meaning.proofs.Limited.{AsksSome, reads_some}
-use Rattle.sql_meaning.proofs.Scanning.{passes}
-use Rattle.office_rows.specs.Rows.{HoldRow, holds_class, holds_collection, holds_deposit}
+use Rattle.office_tables.proofs.FirstLemmas.{◌≡◌, ◌⊎◌, ◌&&◌, ◌||◌, ℕ, ℤ, Bool, true, false, List, [], ◌∷◌, codes, Some, refl, ap, ap₂, subst, sym, ◌∙◌, inl, inr, list_any, int_cmp, is_gt, is_lt, Value, Null, Int, Text, Binary, id_in, Database, binary, from_truth, is_true, truth, Row, column, value_cmp, State, Shown, all_has, all_from, or3, Compare, Or, Eq, Gt, Lt, value_cmp-Int, maybe_int, any_mapped, AsksSome, reads_some, passes, HoldRow, holds_class, holds_collection, holds_deposit, office_schema, hold_tree, IsOffice, tables_of, hold_in, only}
 use Rattle.office_tables.specs.Releases.{is_outside, is_outside_of, is_over}
-use Rattle.office_tables.specs.Schema.{office_schema, hold_tree}
-use Rattle.office_tables.specs.Tables.{IsOffice, tables_of, hold_in}
+use Rattle.office_tables.proofs.DueLemmas.{and_end}
 use Rattle.office_tables.proofs.HoldLemmas.{IsStoredHold, deposit_is, hold_rows, text_is}
 use Rattle.office_tables.proofs.HoldTexts.{outside_of, outside_text, hold_meanings}
-use Rattle.office_tables.proofs.Columns.{only}
 
 -- ---- a day before the first or after the last
 
@@ -48,11 +26,6 @@ outside_is v m n (inl is) = subst (λ w. is_true (binary Or (binary (Compare Lt 
 outside_is v m n (inr is) = subst (λ w. is_true (binary Or (binary (Compare Lt Binary) w (Int m)) (binary (Compare Gt Binary) w (Int n))) ≡ is_outside m n (maybe_int w)) (sym is) (day_is (id_in v) m n)
 
 -- ---- the holds that pass
-
-and_end : (a b : Bool) → (a && (b && true)) ≡ (a && b)
-and_end true true = refl
-and_end true false = refl
-and_end false b = refl
 
 -- a hold passes that has the value in the column and was released outside of these days
 passes_outside : (place : ℕ) (v : Value) (named : Bool) (first last : ℤ) (r : Row) → IsStoredHold r → is_true (binary (Compare Eq Binary) (column r place) v) ≡ named

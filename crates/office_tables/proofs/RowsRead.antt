@@ -1,23 +1,6 @@
 -- What queries on one table of an office answer: the row of a number, the row of a name, or every row.
-use Rattle.std.proofs.Common.{◌≡◌, ◌⊎◌, ℕ, ℤ, List, [], ◌∷◌, map, filter, find, slice_get, option_map, Bool, true, refl, sym, ap, ◌∙◌}
-use Rattle.std.specs.List.{AllByRecursion}
-use Rattle.sqlite.specs.declared.types.Value.TheVariants.{Int, Text}
-use Rattle.sqlite.specs.Order.{Row}
-use Rattle.sqlite.specs.Term.{Term}
-use Rattle.sqlite.specs.State.{State, Shown}
-use Rattle.sqlite_rules.specs.Lists.{Has}
-use Rattle.sqlite_rules.proofs.ListLemmas.{all_from}
-use Rattle.sqlite_keyed.proofs.ListLemmas.{ascending_weaker, map-map}
-use Rattle.sqlite_catalog.proofs.ListFacts.{filter_all}
-use Rattle.sqlite_trees.specs.View.{IsShaped}
+use Rattle.office_tables.proofs.Common.{◌≡◌, ◌⊎◌, ℕ, ℤ, List, [], ◌∷◌, map, filter, find, slice_get, option_map, Bool, true, refl, sym, ap, ◌∙◌, AllByRecursion, Int, Text, Row, Term, State, Shown, Has, all_from, ascending_weaker, map-map, filter_all, IsShaped, shown_of, Asks, reads_same, reads_one, reads_rising, finds_part, map_alike, by_number, has_number, each_numbered, few_numbered, rising, IsText, has_text, by_text, each_passes, office_schema, IsOffice}
 use Rattle.sqlite_trees.specs.declared.store.Shape.TheVariants as shape
-use Rattle.sql_meaning.proofs.Scanning.{shown_of}
-use Rattle.sql_meaning.proofs.Reading.{Asks, reads_same, reads_one, reads_rising, finds_part}
-use Rattle.sql_meaning.proofs.Edits.{map_alike}
-use Rattle.sql_meaning.proofs.RowidKeys.{by_number, has_number, each_numbered, few_numbered, rising}
-use Rattle.sql_meaning.proofs.TextKeys.{IsText, has_text, by_text, each_passes}
-use Rattle.office_tables.specs.Schema.{office_schema}
-use Rattle.office_tables.specs.Tables.{IsOffice}
 
 module _ {text : List ℕ} {tree : ℕ} {project : List Term} (old new : State) (rows : List Row) (office : IsOffice old.now) where
   -- WHERE its number is ?1

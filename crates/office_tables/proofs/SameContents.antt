@@ -1,24 +1,8 @@
 -- A statement on another table leaves the contents as they are, and which of them each file has, whatever its parameters.
-use Rattle.std.proofs.Common.{ℕ, [], ◌∷◌, Ok, refl}
-use Rattle.sqlite.specs.Order.{Row}
-use Rattle.sqlite.specs.Term.{col, lit}
-use Rattle.sqlite.specs.State.{State, Executes}
-use Rattle.sql_meaning.proofs.Scanning.{scan, as_program}
-use Rattle.sql_meaning.proofs.RowidKeys.{by_number}
-use Rattle.sql_meaning.proofs.TextKeys.{by_text}
-use Rattle.sql_meaning.proofs.Writing.{inserts, updates, deletes}
-use Rattle.office_tables.specs.Schema.{office_schema, caller_table, rule_5_table, collection_table, deposit_table, hold_4_table, caller_tree, deposit_tree, hold_tree, rule_tree}
-use Rattle.office_tables.specs.Tables.{IsOffice}
-use Rattle.office_tables.specs.Contents.{HasSameContents}
-use Rattle.office_tables.proofs.Frames.{idle, same_contents}
-use Rattle.office_tables.proofs.PolicyTexts.{drop_callers_text, drop_rules_text, add_caller_text, add_rule_text, rule_terms, policy_meanings}
-use Rattle.office_tables.proofs.ClassTexts.{add_collection_text, class_meanings}
+use Rattle.office_tables.proofs.FirstLemmas.{ℕ, [], ◌∷◌, Ok, refl, Row, col, lit, State, Executes, scan, as_program, by_number, by_text, inserts, updates, deletes, office_schema, caller_table, rule_5_table, collection_table, deposit_table, hold_4_table, caller_tree, deposit_tree, hold_tree, rule_tree, IsOffice, HasSameContents, idle, same_contents, drop_callers_text, drop_rules_text, add_caller_text, add_rule_text, rule_terms, policy_meanings, add_collection_text, class_meanings, all_given, deposit_with, Null}
 use Rattle.office_tables.proofs.DepositTexts as deposits
 use Rattle.office_tables.proofs.DueTexts as dues
 use Rattle.office_tables.proofs.HoldTexts as holds
-use Rattle.office_tables.proofs.Columns.{all_given}
-use Rattle.office_tables.proofs.DepositTexts.{deposit_with}
-use Rattle.sqlite.specs.declared.types.Value.TheVariants.{Null}
 
 pub drop_callers_same : (params : Row) (old new : State) (count : ℕ) → IsOffice old.now → Executes drop_callers_text params old new (Ok count) → HasSameContents old.now new.now
 drop_callers_same params old new count office h = same_contents old new _ count _ (deletes drop_callers_text params old new office_schema office.whole.schema_is 1 caller_table refl idle (as_program (scan caller_tree [] (col 1 0 ∷ []) [])) policy_meanings.drop_callers_means count h).2 refl refl

@@ -1,25 +1,11 @@
 -- That an office has these rows comes out of a truncation.
-use Rattle.std.proofs.Common.{◌≡◌, ℕ, ℤ, pos, List, [], map, length, bytes_eq, Bool, true, refl}
-use Rattle.std.specs.List.{list_any}
-use Rattle.std.specs.Ordering.{int_eq}
+use Rattle.office_tables.proofs.Common.{◌≡◌, ℕ, ℤ, pos, List, [], map, length, bytes_eq, Bool, true, refl, list_any, int_eq, sha256, Trees, Schema, Database, IsDatabase, AreShaped, IsOfficeAt, emptied_at, schema_at, TableVersion, Fifth, Tables, ContentRow, Becomes, contents_of, IsMarked, AreKeptOnce, KeepsOnce, references_of, IsLeft}
 use Rattle.std.proofs.lemmas.Map.Keys.{IsDistinct-prop}
-use Rattle.sha2.specs.Sha256.{sha256}
 use Rattle.std.proofs.Math.Logic.{∥∥₁_elim, ∥∥₁_map}
 use Rattle.std.specs.Coded.{Coded, Coded-set, codes}
-use Rattle.sqlite.specs.Tree.{Trees}
-use Rattle.sqlite.specs.Schema.{Schema}
 use Rattle.sqlite_schema.specs.contracts.schema.Schema.{the_row}
 use Rattle.sqlite_trees.specs.Props.{AllByRecursion-prop, IsShaped-prop, rows_set}
 use Rattle.sqlite_trees.specs.declared.store.Shape.TheVariants as shape
-use Rattle.sqlite.specs.Effect.{Database, IsDatabase}
-use Rattle.sql_meaning.specs.Whole.{AreShaped}
-use Rattle.office_tables.specs.Versions.{IsOfficeAt, emptied_at, schema_at}
-use Rattle.office_tables.specs.declared.version.TableVersion.{TableVersion}
-use Rattle.office_tables.specs.declared.version.TableVersion.TheVariants.{Fifth}
-use Rattle.office_rows.specs.Rows.{Tables, ContentRow}
-use Rattle.office_tables.specs.Tables.{Becomes, contents_of}
-use Rattle.office_tables.specs.Contents.{IsMarked, AreKeptOnce, KeepsOnce, references_of}
-use Rattle.office_tables.specs.Opening.{IsLeft}
 use Rattle.office_tables.proofs.FoundAgain.{becomes_again}
 
 tables_coded : Coded Tables

@@ -1,34 +1,7 @@
 -- The rows of an older table are taken over into a newer one, and the older one is emptied: of any two tables.
-use Rattle.std.proofs.Common.{◌≡◌, ◌==◌, ℕ, List, [], ◌∷◌, ◌++◌, map, true, false, Some, Ok, IsTrue, slice_get, refl, sym, ap, subst, ◌∙◌, if◌then◌else◌}
-use Rattle.std.specs.List.{AllByRecursion}
-use Rattle.sqlite.specs.Order.{Row}
-use Rattle.sqlite.specs.Cast.{cast_row}
-use Rattle.sqlite.specs.Collation.{Collation}
-use Rattle.sqlite.specs.Command.TheVariants.{Insert, Delete}
+use Rattle.office_tables.proofs.Common.{◌≡◌, ◌==◌, ℕ, List, [], ◌∷◌, ◌++◌, map, true, false, Some, Ok, IsTrue, slice_get, refl, sym, ap, subst, ◌∙◌, if◌then◌else◌, AllByRecursion, Row, cast_row, Collation, Insert, Delete, edit_of, Chosen, Given, Schema, Table, Term, col, rowid, Database, State, Executes, is_int, IsShaped, ids_of, Has, all_has, all_from, map-map, IsWhole, Sets, with_rows, Grows, Means, IsIdle, all_both, sets, none_pass, drops, rising, scan, as_program, noting, shown_of}
 use Rattle.sqlite.specs.Source.TheVariants.{Query}
-use Rattle.sqlite.specs.Edit.{edit_of}
-use Rattle.sqlite.specs.Rowids.TheVariants.{Chosen, Given}
-use Rattle.sqlite.specs.Schema.{Schema}
-use Rattle.sqlite.specs.Table.{Table}
-use Rattle.sqlite.specs.Term.{Term, col}
-use Rattle.sqlite.specs.Tree.{rowid}
-use Rattle.sqlite.specs.Effect.{Database}
-use Rattle.sqlite.specs.State.{State, Executes}
-use Rattle.sqlite_trees.specs.View.{is_int, IsShaped}
 use Rattle.sqlite_trees.specs.declared.store.Shape.TheVariants as shape
-use Rattle.sqlite_rules.specs.Calls.{ids_of}
-use Rattle.sqlite_rules.specs.Lists.{Has}
-use Rattle.sqlite_rules.proofs.ListLemmas.{all_has, all_from}
-use Rattle.sqlite_keyed.proofs.ListLemmas.{map-map}
-use Rattle.sql_meaning.specs.Whole.{IsWhole, Sets, with_rows}
-use Rattle.sql_meaning.specs.Growing.{Grows}
-use Rattle.sql_meaning.proofs.Writing.{Means, IsIdle}
-use Rattle.sql_meaning.proofs.Typed.{all_both}
-use Rattle.sql_meaning.proofs.Whole.{sets}
-use Rattle.sql_meaning.proofs.Keys.{none_pass}
-use Rattle.sql_meaning.proofs.Changing.{drops}
-use Rattle.sql_meaning.proofs.RowidKeys.{rising}
-use Rattle.sql_meaning.proofs.Scanning.{scan, as_program, noting, shown_of}
 use Rattle.sql_meaning.proofs.Copying.{copies}
 
 -- ---- the two statements

@@ -1,38 +1,6 @@
 -- The version in the row of the office.
-use Rattle.std.proofs.Common.{◌≡◌, ℕ, ℤ, pos, [], ◌∷◌, map, Ok, IsTrue, refl, ap, ◌∙◌, inr, if◌then◌else◌}
-use Rattle.std.specs.List.{AllByRecursion}
-use Rattle.sqlite.specs.declared.types.Value.TheVariants.{Null, Int}
-use Rattle.sqlite.specs.Order.{Row, column}
-use Rattle.sqlite.specs.Cast.{cast, cast_row}
+use Rattle.office_tables.proofs.FirstLemmas.{◌≡◌, ℕ, ℤ, pos, [], ◌∷◌, map, Ok, IsTrue, refl, ap, ◌∙◌, inr, if◌then◌else◌, AllByRecursion, Null, Int, Row, column, cast, cast_row, edit_of, Given, Schema, rowid, Database, State, Executes, Datatype, NotNull, is_int, ids_of, all_has, int_is, int_at, IsWhole, Sets, typed_at, all_both, decoded, cast_null, cast_int, keeps_rule, sets, revises, by_number, has_number, each_numbered, few_numbered, OfficeRow, is_office_row, office_table, office_tree, office_in, AllRows, all_in_version, in_version, BecomesAt, rows_at, schema_at, Fifth, of_office, of_callers, of_old_rules, of_classes, of_collections, of_deposits, of_files, of_old_holds, of_contents, of_holds, of_rules, version_text, versioned, moving_meanings, keeps_int, idle}
 use Rattle.sqlite.specs.Kind.TheVariants as kind
-use Rattle.sqlite.specs.Edit.{edit_of}
-use Rattle.sqlite.specs.Rowids.TheVariants.{Given}
-use Rattle.sqlite.specs.Schema.{Schema}
-use Rattle.sqlite.specs.Tree.{rowid}
-use Rattle.sqlite.specs.Effect.{Database}
-use Rattle.sqlite.specs.State.{State, Executes}
-use Rattle.sqlite_schema.specs.declared.schema.Constraint.TheVariants.{Datatype, NotNull}
-use Rattle.sqlite_trees.specs.View.{is_int}
-use Rattle.sqlite_rules.specs.Calls.{ids_of}
-use Rattle.sqlite_rules.proofs.ListLemmas.{all_has}
-use Rattle.sqlite_rules.proofs.TableLemmas.{int_is}
-use Rattle.sql_meaning.specs.Columns.{int_at}
-use Rattle.sql_meaning.specs.Whole.{IsWhole, Sets}
-use Rattle.sql_meaning.proofs.Typed.{typed_at, all_both}
-use Rattle.sql_meaning.proofs.Edits.{decoded, cast_null, cast_int}
-use Rattle.sql_meaning.proofs.Whole.{keeps_rule, sets}
-use Rattle.sql_meaning.proofs.Changing.{revises}
-use Rattle.sql_meaning.proofs.RowidKeys.{by_number, has_number, each_numbered, few_numbered}
-use Rattle.office_rows.specs.Rows.{OfficeRow, is_office_row}
-use Rattle.office_tables.specs.Schema.{office_table, office_tree}
-use Rattle.office_tables.specs.Tables.{office_in}
-use Rattle.office_tables.specs.Moving.{AllRows, all_in_version, in_version, BecomesAt, rows_at}
-use Rattle.office_tables.specs.Versions.{schema_at}
-use Rattle.office_tables.specs.declared.version.TableVersion.TheVariants.{Fifth}
-use Rattle.office_tables.proofs.TablePlaces.{of_office, of_callers, of_old_rules, of_classes, of_collections, of_deposits, of_files, of_old_holds, of_contents, of_holds, of_rules}
-use Rattle.office_tables.proofs.MovingTexts.{version_text, versioned, moving_meanings}
-use Rattle.office_tables.proofs.MaybeEmpty.{keeps_int}
-use Rattle.office_tables.proofs.Frames.{idle}
 
 abbrev fifth : Schema
 fifth = schema_at Fifth

@@ -1,28 +1,6 @@
 -- What was kept, and what was left, of an office of a known version, after an upgrade and after a refusal.
-use Rattle.std.proofs.Common.{◌≡◌, ◌⊎◌, List, None, Some, IsTrue, refl, sym, ap, subst, ◌∙◌, inl, inr}
-use Rattle.sqlite.specs.Effect.{Database, IsDatabase}
-use Rattle.sqlite.specs.Tree.{Trees}
-use Rattle.sqlite.specs.Order.{Row}
-use Rattle.sqlite.specs.State.{State, HasCleanDisk, Survives, IsLive}
-use Rattle.sqlite.proofs.StateLemmas.{survives_weaker}
-use Rattle.sqlite_trees.specs.Objects.{catalog_tree}
-use Rattle.sqlite_catalog.specs.Listing.{Lists}
-use Rattle.sqlite_catalog.proofs.ReadLemmas.{lists_once}
-use Rattle.office_rows.specs.Rows.{version_of}
-use Rattle.office_tables.specs.Opening.{HasVersion, KeepsTables, NotAnOffice}
-use Rattle.office_tables.specs.Moving.{AllRows, BecomesAt, renewed}
-use Rattle.office_tables.specs.Versions.{IsOfficeAt, tables_at, version_number}
-use Rattle.office_upgrade.specs.Upgrading.{IsOfficeOf, IsUpgrade, IsLeftAt, Upgrades, UpgradeLasts, TakesUp, KeepsOffice, LeavesOffice, GoesBack, OpensOlder, NewestSurvives, TellsKnown, TellsUnknown, HasUnknownVersion}
-use Rattle.office_tables.specs.declared.version.TableVersion.{TableVersion}
-use Rattle.office_tables.specs.declared.version.TableVersion.TheVariants.{Fifth}
-use Rattle.office_tables.proofs.OpenLemmas.{is_there, tells_version}
-
--- trees list one schema
-same_database : (a b : Database) → IsDatabase a → IsDatabase b → a.trees ≡ b.trees → a ≡ b
-same_database a b p q e =
-    let lists = ap (λ (t : Trees). t catalog_tree) e in
-    let s = lists_once (b.trees catalog_tree) a.schema b.schema (subst (λ (rows : List Row). Lists rows a.schema) lists p.lists) q.lists in
-    λ i. record { schema = s i; trees = e i }
+use Rattle.office_upgrade.proofs.Common.{◌≡◌, ◌⊎◌, None, Some, IsTrue, refl, sym, ap, subst, ◌∙◌, inl, inr, Database, IsDatabase, Trees, State, HasCleanDisk, Survives, IsLive, survives_weaker, version_of, HasVersion, KeepsTables, NotAnOffice, AllRows, BecomesAt, renewed, IsOfficeAt, tables_at, version_number, IsOfficeOf, IsUpgrade, IsLeftAt, Upgrades, UpgradeLasts, TakesUp, KeepsOffice, LeavesOffice, GoesBack, OpensOlder, NewestSurvives, TellsKnown, TellsUnknown, HasUnknownVersion, TableVersion, Fifth, is_there, tells_version}
+use Rattle.office_tables.proofs.FoundAgain.{same_database}
 
 becomes_again : (version : TableVersion) (rows : AllRows) (left : Trees) (b : Database) → IsLeftAt version rows left → IsDatabase b → b.trees ≡ left → BecomesAt version b rows
 becomes_again version rows left b h q e = subst (λ d. BecomesAt version d rows) (same_database h.0 b h.1.office.whole.listed q (sym (e ∙ h.2))) h.1

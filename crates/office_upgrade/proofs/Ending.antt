@@ -1,27 +1,12 @@
 -- What an upgrade leaves, and what a crash may leave of it.
-use Rattle.std.proofs.Common.{◌≡◌, ℤ, pos, Bool, true, false, Option, None, Some, Ok, Err, Result, IsTrue, refl, sym, ap, subst, ◌∙◌, inl, inr, arith}
-use Rattle.sqlite.specs.Effect.{Database}
-use Rattle.sqlite.specs.Tree.{Trees}
+use Rattle.office_upgrade.proofs.Common.{◌≡◌, ℤ, pos, Bool, true, false, Option, None, Some, Ok, Err, Result, IsTrue, refl, sym, ap, subst, ◌∙◌, inl, inr, arith, Database, Trees, Held, state, HasCleanDisk, Survives, survives_then, OnOk, HasVersion, ShowsVersion, version_of, AllRows, BecomesAt, renewed, version_number, IsOfficeOf, IsOlder, IsRenewed, IsUpgrade, IsLeftAt, HasUnknownVersion, TellsVersion, TableVersion, Fifth, clean_first, tells_version}
 use Rattle.sqlite.specs.Store.{Ghosts}
-use Rattle.sqlite.specs.Held.{Held, state}
-use Rattle.sqlite.specs.State.{HasCleanDisk, Survives}
-use Rattle.sqlite.proofs.StateLemmas.{survives_then}
 use Rattle.sqlite.proofs.Callers.{survives_begin}
 use Rattle.sql_meaning.specs.Inside.{Stays}
 use Rattle.sql_meaning.proofs.Inside.{survives_commit}
-use Rattle.std.specs.Prelude.{OnOk}
-use Rattle.office_tables.specs.Opening.{HasVersion, ShowsVersion}
 use Rattle.office_tables.specs.Faults.{IsFailure}
 use Rattle.office_tables.specs.declared.fault.TableFault.{TableFault}
 use Rattle.office_tables.specs.declared.fault.TableFault.TheVariants.{NotAnOffice, OtherVersion, Memory, Store}
-use Rattle.office_rows.specs.Rows.{version_of}
-use Rattle.office_tables.specs.Moving.{AllRows, BecomesAt, renewed}
-use Rattle.office_tables.specs.Versions.{version_number}
-use Rattle.office_upgrade.specs.Upgrading.{IsOfficeOf, IsOlder, IsRenewed, IsUpgrade, IsLeftAt, HasUnknownVersion, TellsVersion}
-use Rattle.office_tables.specs.declared.version.TableVersion.{TableVersion}
-use Rattle.office_tables.specs.declared.version.TableVersion.TheVariants.{Fifth}
-use Rattle.office_tables.proofs.InTurn.{clean_first}
-use Rattle.office_tables.proofs.OpenLemmas.{tells_version}
 
 -- a version is one number alone
 pub not_fourth : (version : ℤ) → version ≡ pos 3 → version ≡ pos 4 → ⊥

@@ -1,13 +1,7 @@
 -- What is told of contents goes through an upgrade.
-use Rattle.std.proofs.Common.{◌≡◌, ℤ, List, map, refl, sym, ap, subst₂, ◌∙◌}
-use Rattle.sqlite.specs.Effect.{Database}
-use Rattle.office_rows.specs.Rows.{ContentRow, FileRow}
+use Rattle.office_upgrade.proofs.Common.{◌≡◌, ℤ, List, map, refl, sym, ap, subst₂, ◌∙◌, Database, ContentRow, FileRow, AllRows, BecomesAt, renewed, tables_at, TableVersion, Third, Fifth}
 use Rattle.office_tables.specs.Tables.{contents_of}
 use Rattle.office_tables.specs.Contents.{references_of, AreKeptOnce, KeepsOnce, AreContents}
-use Rattle.office_tables.specs.Moving.{AllRows, BecomesAt, renewed}
-use Rattle.office_tables.specs.Versions.{tables_at}
-use Rattle.office_tables.specs.declared.version.TableVersion.{TableVersion}
-use Rattle.office_tables.specs.declared.version.TableVersion.TheVariants.{Third, Fourth, Fifth}
 
 abbrev contents_in : AllRows → List ContentRow
 contents_in rows = rows.contents
@@ -21,8 +15,7 @@ files_in rows = rows.tables.files
 -- an upgrade renews none of these
 beside : (version : TableVersion) (rows : AllRows) → (contents_in (renewed version rows) ≡ contents_in rows) × (references_in (renewed version rows) ≡ references_in rows) × (files_in (renewed version rows) ≡ files_in rows)
 beside Third rows = (refl, refl, refl)
-beside Fourth rows = (refl, refl, refl)
-beside Fifth rows = (refl, refl, refl)
+beside _ rows = (refl, refl, refl)
 
 module _ (version : TableVersion) (rows : AllRows) (old new : Database) (was : BecomesAt version old rows) (now : BecomesAt Fifth new (renewed version rows)) where
   contents_are : contents_of old ≡ contents_of new

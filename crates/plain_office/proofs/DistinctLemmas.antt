@@ -1,13 +1,7 @@
 -- Keeping each text once, one after the other.
-use Rattle.std.proofs.Common.{◌≡◌, ℕ, true, false, ◌||◌, List, [], ◌∷◌, ◌++◌, refl, sym, ap, ◌∙◌, append_assoc, cond}
-use Rattle.std.specs.Prelude.{bytes_eq}
-use Rattle.std.specs.List.{list_any}
+use Rattle.plain_office.proofs.Common.{◌≡◌, ℕ, true, false, ◌||◌, List, [], ◌∷◌, ◌++◌, refl, sym, ap, ◌∙◌, append_assoc, cond, bytes_eq, list_any, map-append, Bor, distinct_after, texts}
 use Rattle.std.proofs.Math.Bool.{or_comm, or-false}
 use Rattle.std.proofs.lemmas.List.Folds.{list_any-append}
-use Rattle.std.proofs.lemmas.List.{map-append}
-use denote.Ref.{Bor}
-use Rattle.office_history.specs.Lists.{distinct_after}
-use Rattle.bag_text.specs.Text.{texts}
 
 -- which texts were seen decides, and not their order
 abbrev HaveSame : List (List ℕ) → List (List ℕ) → Type 0

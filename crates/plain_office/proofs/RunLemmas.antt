@@ -1,12 +1,7 @@
 -- What the plain office does, item by item, and that it is a run.
-use Rattle.std.proofs.Common.{◌≡◌, ℕ, append-nil, ◌≤◌, ◌+◌, ◌<◌, List, [], ◌∷◌, ◌++◌, length, drop, get_or, sym, ap, ◌∙◌, subst, refl, inl, inr, append_assoc}
-use Rattle.std.proofs.lemmas.List.{drop_all, drop_more}
-use Rattle.office_core.specs.declared.answer.Answer.{Answer}
-use Rattle.std.specs.Prelude.{Result, Ok, Err, OnOk, OnErr}
+use Rattle.plain_office.proofs.Common.{◌≡◌, ℕ, append-nil, ◌≤◌, ◌+◌, ◌<◌, List, [], ◌∷◌, ◌++◌, length, drop, get_or, sym, ap, ◌∙◌, subst, refl, inl, inr, append_assoc, drop_all, drop_more, Answer, Result, OnOk, History, Installed, with_changes, Item, Run, RunFailing, StepFailing, IsLegal, install, IsWantOfMemory}
+use Rattle.std.specs.Prelude.{Ok, Err, OnErr}
 use Rattle.office_core.specs.Policies.{PolicyValue, IsPolicy}
-use Rattle.office_history.specs.Histories.{History, Installed, with_changes}
-use Rattle.office_history.specs.Runs.{Item, Run, RunFailing, StepFailing, IsLegal, install}
-use Rattle.plain_office.specs.Offices.{IsWantOfMemory}
 
 -- a run that memory alone fails is a run
 pub run_of : (items : List Item) (given : List Answer) (h next : History) → RunFailing IsWantOfMemory h items given next → Run h items given next

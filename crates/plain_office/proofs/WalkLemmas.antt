@@ -1,24 +1,12 @@
 -- What going over a history gives.
-use Rattle.std.proofs.Common.{◌≡◌, ◌≢◌, ℕ, ◌+◌, ◌-◌, ◌<◌, ◌≤◌, suc, zero, Bool, true, false, List, [], ◌∷◌, ◌++◌, length, Option, Some, None, option_map, refl, sym, ap, ◌∙◌, arith, append-nil, append_assoc, length-append, filter, if◌then◌else◌, cond, drop, get_or, drop-cons, is_none, is_some, not}
-use Rattle.std.specs.Prelude.{bytes_eq}
-use Rattle.std.specs.List.{range_with_len, position_from, filter_map, cons_option}
+use Rattle.plain_office.proofs.Common.{◌≡◌, ◌≢◌, ℕ, ◌+◌, ◌-◌, ◌<◌, ◌≤◌, suc, zero, Bool, true, false, List, [], ◌∷◌, ◌++◌, length, Option, Some, None, option_map, refl, sym, ap, ◌∙◌, arith, append-nil, append_assoc, length-append, filter, if◌then◌else◌, cond, drop, get_or, drop-cons, is_none, is_some, not, bytes_eq, range_with_len, position_from, filter_map, cons_option, Bor, Result, IfOk, IfOk-weaker, first_some, place_refusals, bag_refusals, refusal, Date, History, Change, Deposited, PlacedHold, Deposit, Hold, with_changes, deposit_in, hold_in, deposits, holds, accession_of, has_accession, item_numbered, IsWithin, HasRoom}
 use Rattle.std.proofs.lemmas.List.Elements.{filter_map-append}
 use Rattle.std.proofs.lemmas.Iterator.Adapters.{position_from-zero}
-use denote.Ref.{Bor}
-use Rattle.std.proofs.Common.{Result, IfOk}
 use Rattle.std.specs.declared.alloc.AllocError.{AllocError}
-use Rattle.std.proofs.lemmas.Result.{IfOk-weaker}
 use Rattle.std.proofs.lemmas.Bool.Decides.{nat_tests}
 use Rattle.office_rows.specs.Rows.{max_limit}
-use Rattle.office_core.specs.FirstOf.{first_some}
 use Rattle.office_core.specs.declared.refusal.Refusal.{Refusal}
 use Rattle.office_core.specs.declared.request.Request.TheVariants as requests
-use Rattle.office_history.specs.Refusals.{place_refusals, bag_refusals, refusal}
-use Rattle.jiff.specs.Types.{Date}
-use Rattle.office_history.specs.Histories.{History, Change, Installed, DefinedClass, DefinedCollection, Deposited, PlacedHold, ReleasedHold, Destroyed, Deposit, Hold, with_changes, deposit_in, hold_in, deposits, holds, accession_of, has_accession}
-use Rattle.office_history.specs.Lists.{item_numbered}
-use Rattle.office_history.specs.Runs.{IsWithin}
-use Rattle.plain_office.specs.Offices.{HasRoom}
 
 -- no more deposits and holds were accepted than the greatest limit
 pub few : (h : History) → IsWithin h → (length (deposits h) ≤ max_limit) × (length (holds h) ≤ max_limit)
@@ -63,13 +51,9 @@ within_hold h day hold room within =
 
 -- a change for which there is room keeps the limits
 pub within_grown : (h : History) (change : Change) → HasRoom h change → IsWithin h → IsWithin (with_changes h (change ∷ []))
-within_grown h (Installed policy) room within = within_other h (Installed policy) refl refl within
-within_grown h (DefinedClass day name years) room within = within_other h (DefinedClass day name years) refl refl within
-within_grown h (DefinedCollection day name) room within = within_other h (DefinedCollection day name) refl refl within
 within_grown h (Deposited day deposit) room within = within_deposit h day deposit room within
 within_grown h (PlacedHold day hold) room within = within_hold h day hold room within
-within_grown h (ReleasedHold day k) room within = within_other h (ReleasedHold day k) refl refl within
-within_grown h (Destroyed day n) room within = within_other h (Destroyed day n) refl refl within
+within_grown h change room within = within_other h change refl refl within
 
 -- the number of the first deposit that has this accession, where so many stand before
 abbrev pub accession_behind : ℕ → List ℕ → List (Date × Deposit) → Option ℕ

@@ -1,9 +1,7 @@
 -- UPDATE of the row that a key names, and DELETE of the rows that pass a test, each as one edit of one table.
-use Rattle.sql_meaning.proofs.Common.{◌≡◌, ◌⊎◌, ℕ, List, [], ◌∷◌, map, filter, drop, slice_get, not, Bool, true, Some, Ok, if◌then◌else◌, AllByRecursion, Row, Term, cast_row, Table, Schema, rowid, edit_of, edited, taken_by, Given, Update, Delete, State, Executes, IsShaped, Has, ids_of}
+use Rattle.sql_meaning.proofs.FirstLemmas.{◌≡◌, ◌⊎◌, ℕ, List, [], ◌∷◌, map, filter, drop, slice_get, not, Bool, true, Some, Ok, if◌then◌else◌, AllByRecursion, Row, Term, cast_row, Table, Schema, rowid, edit_of, edited, taken_by, Given, Update, Delete, State, Executes, IsShaped, Has, ids_of, Changes, IsIdle, Means, updates, deletes, scan, as_program, shown_of, scanned, answers_one, answer_sound, answer_complete, updated, deleted}
 use Rattle.sqlite_trees.specs.declared.store.Shape.TheVariants as shape
-use Rattle.sql_meaning.proofs.Writing.{Changes, IsIdle, Means, updates, deletes}
-use Rattle.sql_meaning.proofs.Scanning.{scan, as_program, passes, shown_of, scanned, answers_one, answer_sound, answer_complete}
-use Rattle.sql_meaning.proofs.Edits.{updated, deleted}
+use Rattle.sql_meaning.proofs.Scanning.{passes}
 
 module _ (text : List ℕ) (params : Row) (old new : State) (schema : Schema) (has : old.now.schema ≡ schema) (at : ℕ) (table : Table)
     (is_table : slice_get schema.tables at ≡ Some table) (idle : IsIdle schema) (shaped : IsShaped shape.Table (old.now.trees table.tree))

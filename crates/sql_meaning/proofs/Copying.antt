@@ -1,13 +1,9 @@
 -- INSERT of what a query shows of each row of another table, as one edit: the rows come over in their order.
-use Rattle.sql_meaning.proofs.Common.{◌≡◌, ℕ, List, [], map, slice_get, true, false, Some, Ok, refl, ap, ◌∙◌, AllByRecursion, Row, Term, cast_row, Table, Schema, rowid, edit_of, edited, Chosen, Insert, State, Executes, overlay, IsShaped, Has, all_from, ascending_weaker, map-map}
-use Rattle.sqlite.specs.Collation.{Collation}
+use Rattle.sql_meaning.proofs.FirstLemmas.{◌≡◌, ℕ, List, [], map, slice_get, true, false, Some, Ok, refl, ap, ◌∙◌, AllByRecursion, Row, Term, cast_row, Table, Schema, rowid, edit_of, edited, Chosen, Insert, State, Executes, overlay, IsShaped, Has, all_from, ascending_weaker, map-map, Collation, filter_all, Changes, IsIdle, Means, inserts_from, scan, noting, as_program, shown_of, scanned, unnoted, answers_rising, map_alike, set_shaped, filled}
 use Rattle.sqlite.specs.Source.TheVariants.{Query}
 use Rattle.sqlite_trees.specs.declared.store.Shape.TheVariants as shape
-use Rattle.sqlite_catalog.proofs.ListFacts.{filter_all}
-use Rattle.sql_meaning.proofs.Writing.{Changes, IsIdle, Means, inserts_from}
-use Rattle.sql_meaning.proofs.Scanning.{scan, noting, as_program, passes, shown_of, scanned, unnoted, answers_rising}
+use Rattle.sql_meaning.proofs.Scanning.{passes}
 use Rattle.sql_meaning.proofs.RowidKeys.{rising}
-use Rattle.sql_meaning.proofs.Edits.{map_alike, set_shaped, filled}
 
 module _ (text : List ℕ) (params : Row) (old new : State) (schema : Schema) (has : old.now.schema ≡ schema) (at : ℕ) (table : Table)
     (is_table : slice_get schema.tables at ≡ Some table) (idle : IsIdle schema) (uncounted : table.is_counted ≡ false) (unstamped : table.stamps.terms ≡ [])

@@ -1,8 +1,5 @@
 -- What CREATE TABLE and CREATE INDEX make of a schema that has no row yet.
-use Rattle.sql_meaning.proofs.Common.{◌≡◌, ◌⊎◌, ℕ, List, [], Ok, refl, Schema, Database, State, Executes}
-use Rattle.sql_meaning.specs.Making.{MakesTable, MakesIndex}
-use Rattle.sql_meaning.specs.Whole.{IsBlank}
-use Rattle.sql_meaning.specs.Growing.{Grows}
+use Rattle.sql_meaning.proofs.Common.{◌≡◌, ◌⊎◌, ℕ, List, [], Ok, refl, Schema, Database, State, Executes, MakesTable, MakesIndex, IsBlank, Grows}
 use Rattle.sql_meaning.proofs.Growing.{each_grown, grows_one}
 
 -- where no table had a row, none has one

@@ -1,12 +1,10 @@
 -- What one edit makes of the list of a table's rows.
-use Rattle.sql_meaning.proofs.Common.{◌≡◌, ◌&&◌, ◌||◌, ◌⊎◌, not, ℤ, pos, ◌+ℤ◌, List, [], ◌∷◌, ◌++◌, map, filter, fold, drop, Bool, true, false, cond, Ordering, Equal, Less, Greater, IsTrue, subst₂, ap₂, length, refl, sym, ap, subst, ◌∙◌, inl, inr, if◌then◌else◌, arith, append_assoc, append-nil, ◌<ℤ◌, is_eq, ordering_reverse, int_cmp, AllByRecursion, list_all, list_any, cases_Bool, and_parts, tied_itself, Value, Null, Int, Row, value_cmp, unary, is_null, cast, cast_row, Table, value_cmp-Int, value_cmp_total, Trees, rowid, IsTable, has_rowid, put_row, without_rowid, Edit, edit_of, edited, id_in, next_rowid, numbered, put_all, without_all, with_rowid, have_rowids, Chosen, Given, Has, ids_of, tied_same, all_has, all_from, has_kept, some_has, some_from, int_is, is_int, IsShaped, all-append, all_map}
+use Rattle.sql_meaning.proofs.Common.{◌≡◌, ◌&&◌, ◌||◌, ◌⊎◌, not, ℤ, pos, ◌+ℤ◌, List, [], ◌∷◌, ◌++◌, map, filter, fold, drop, Bool, true, false, cond, Ordering, Equal, Less, Greater, IsTrue, subst₂, ap₂, length, refl, sym, ap, subst, ◌∙◌, inl, inr, if◌then◌else◌, arith, append_assoc, append-nil, ◌<ℤ◌, is_eq, ordering_reverse, int_cmp, AllByRecursion, list_all, list_any, cases_Bool, and_parts, tied_itself, Value, Null, Int, Row, value_cmp, unary, is_null, cast, cast_row, Table, value_cmp-Int, value_cmp_total, Trees, rowid, IsTable, has_rowid, put_row, without_rowid, Edit, edit_of, edited, id_in, next_rowid, numbered, put_all, without_all, with_rowid, have_rowids, Chosen, Given, Has, ids_of, tied_same, all_has, all_from, has_kept, some_has, some_from, int_is, is_int, IsShaped, all-append, all_map, filter_same, filter_all}
 use Rattle.std.proofs.lemmas.Int.{ints}
 use Rattle.std.proofs.lemmas.List.{length-map}
 use Rattle.sqlite.specs.Kind.TheVariants.{Integer}
 use Rattle.sqlite_rules.proofs.RowLemmas.{length-numbered}
 use Rattle.sqlite_trees.specs.declared.store.Shape.TheVariants as shape
-use Rattle.sqlite_trees.proofs.ListLemmas.{filter_same}
-use Rattle.sqlite_catalog.proofs.ListFacts.{filter_all}
 use Rattle.sqlite_trees.proofs.TreeLemmas.{IsShaped-filter, IsShaped-put_row}
 use Rattle.sql_meaning.proofs.Typed.{all_both}
 
@@ -251,10 +249,6 @@ counted db table answer keep shown decode test tests few is =
     number (inr one) = rw (one.3, some_from keep (db table.tree) one.0 one.1 one.2) refl
 
 -- ---- DELETE
-
-ids_shown : (shown : Row → Row) → ((r : Row) → rowid (shown r) ≡ rowid r) → (rows : List Row) → ids_of (map shown rows) ≡ ids_of rows
-ids_shown shown same [] = refl
-ids_shown shown same (r ∷ rows) = rw (same r) (ap (λ more. id_in (rowid r) ∷ more) (ids_shown shown same rows))
 
 filter_twice : (p q s : Row → Bool) → ((x : Row) → s x ≡ (q x && p x)) → (xs : List Row) → filter p (filter q xs) ≡ filter s xs
 filter_twice p q s same [] = refl

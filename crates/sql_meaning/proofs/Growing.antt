@@ -1,13 +1,10 @@
 -- What CREATE TABLE and CREATE INDEX add to a database, with the rows that it has.
-use Rattle.sql_meaning.proofs.Common.{◌≡◌, ◌⊎◌, ℕ, List, [], ◌∷◌, ◌++◌, Ok, false, None, Some, Option, slice_get, refl, sym, ap, subst, ◌∙◌, inl, inr, append_assoc, append-nil, AllByRecursion, Row, CreateTable, CreateIndex, Table, Schema, Trees, Database, IsDatabase, State, Writes, Executes, mode_of, runs_as, all_weaker, all-append, all_has, all_from, has_right, IsShaped}
+use Rattle.sql_meaning.proofs.FirstLemmas.{◌≡◌, ◌⊎◌, ℕ, List, [], ◌∷◌, ◌++◌, Ok, false, None, Some, Option, slice_get, refl, sym, ap, subst, ◌∙◌, inl, inr, append_assoc, append-nil, AllByRecursion, Row, CreateTable, CreateIndex, Table, Schema, Trees, Database, IsDatabase, State, Writes, Executes, mode_of, runs_as, all_weaker, all-append, all_has, all_from, has_right, IsShaped, MakesTable, MakesIndex, Grows, went, same_value}
 use Rattle.sqlite.specs.Change.{created, indexed, next_tree, KeepsRows}
 use Rattle.sqlite.specs.Does.{Tally, lacks_sequence, AtPlace, Defines, MakesIndex as Makes}
 use Rattle.sqlite_catalog.proofs.AlterLemmas.{rows_trans, rows_fewer}
 use Rattle.sqlite_trees.specs.declared.store.Shape.TheVariants as shape
-use Rattle.sql_meaning.specs.Making.{MakesTable, MakesIndex}
-use Rattle.sql_meaning.specs.Growing.{Grows}
 use Rattle.sql_meaning.proofs.Typed.{all_both}
-use Rattle.sql_meaning.proofs.Writing.{went, same_value}
 
 -- what holds of the rows of each table before, and of no rows, holds of the rows of each table after
 pub each_grown : (P : List Row → Type 0) → P [] → (tables more all : List Table) (old new : Trees) → all ≡ tables ++ more → KeepsRows tables old new → AllByRecursion (λ t. new t.tree ≡ []) more

@@ -1,7 +1,6 @@
 -- What an INSERT of one row tells of the rows that were there before it.
-use Rattle.sql_meaning.proofs.Common.{◌≡◌, List, [], ◌∷◌, filter, Bool, true, false, refl, sym, ap, subst, inl, inr, AllByRecursion, is_eq, cases_Bool, not-true, and_parts, tied_itself, Row, value_cmp, Table, Schema, Trees, rowid, cast_row, edit_of, with_rowid, Applies, Chosen, value_cmp_total, Has, all_has, put_all_adds, put_all_keeps, none_from_any}
+use Rattle.sql_meaning.proofs.FirstLemmas.{◌≡◌, List, [], ◌∷◌, filter, Bool, true, false, refl, sym, ap, subst, inl, inr, AllByRecursion, is_eq, cases_Bool, not-true, and_parts, tied_itself, Row, value_cmp, Table, Schema, Trees, rowid, cast_row, edit_of, with_rowid, Applies, Chosen, value_cmp_total, Has, all_has, put_all_adds, put_all_keeps, none_from_any, none_pass}
 use Rattle.sqlite_schema.specs.declared.schema.Keys.{Keys}
-use Rattle.sql_meaning.proofs.Keys.{none_pass}
 
 -- no row has the rowid of this one
 abbrev pub IsApart : Row → List Row → Type 0

@@ -1,5 +1,5 @@
 -- Calls inside a transaction: what stays, that it goes on, and calls in turn.
-use Rattle.sql_meaning.proofs.Common.{◌≡◌, ◌⊎◌, inl, inr, ℕ, List, [], ◌∷◌, Bool, true, false, Option, None, Some, Ok, Err, Result, IsTrue, slice_get, refl, ap, ◌∙◌, arith, Row, Trees, State, HasCleanDisk, Survives, KeepsCommit, ExecutesInside, IsUnchanged, Shown, ShowsRows, FailsToQuery, FailsToShow, IsTooLate, IsNotRun, IsRolledBack, Fails, survives_begin}
+use Rattle.sql_meaning.proofs.Common.{◌≡◌, ◌⊎◌, inl, inr, ℕ, List, [], ◌∷◌, Bool, true, false, Option, None, Some, Ok, Err, Result, IsTrue, slice_get, refl, ◌∙◌, arith, Row, Trees, State, HasCleanDisk, Survives, KeepsCommit, ExecutesInside, IsUnchanged, Shown, ShowsRows, FailsToQuery, FailsToShow, IsTooLate, IsNotRun, IsRolledBack, Fails, survives_begin}
 use Rattle.sqlite.specs.Store.{Ghosts}
 use Rattle.sqlite.specs.Held.{Held, state}
 use Rattle.sqlite.specs.declared.error.Error.{Error}
@@ -63,12 +63,6 @@ module _ (sql : List ℕ) (row : Row) (old new : State) where
 
 -- ---- calls in turn
 
-pub goes_then : (a b c : State) → GoesOn a b → GoesOn b c → GoesOn a c
-goes_then a b c p q = record { was_open = p.was_open; is_open = q.is_open; inside = λ inside. q.inside (p.inside inside) }
-
-pub stands_then : (a b c : State) → GoesOnIfAny a b → GoesOn b c → GoesOnIfAny a c
-stands_then a b c p q = record { is_open = λ _. q.is_open; inside = λ inside. q.inside (p.inside inside) }
-
 pub keeps_then : (a b c : State) → KeepsCommit a b → KeepsCommit b c → KeepsCommit a c
 keeps_then a b c p q = record { was_open = λ now. p.was_open (q.was_open now); committed = λ now. q.committed now ∙ p.committed (q.was_open now) }
 
@@ -77,9 +71,6 @@ stays_on a b c p goes q = record {
   survives = survives_then a b c _ _ (λ _. ⊥) (λ _ db none. none) (λ _ db none. none) p.survives q.survives;
   kept = λ clean inside. let early : HasCleanDisk b = omega (arith, q.survives.clean) in keeps_then a b c (p.kept early inside) (q.kept clean ((goes early).inside inside));
 }
-
-pub stays_then : (a b c : State) → Stays a b → (HasCleanDisk b → GoesOn a b) → Stays b c → Stays a c
-stays_then a b c p goes q = stays_on a b c p (λ clean. let it = goes clean in record { is_open = λ _. it.is_open; inside = it.inside }) q
 
 -- ---- the end of a transaction
 
@@ -91,7 +82,3 @@ module _ {S : Type 0} (g : Ghosts S) (first : Held S) (last end : State) (stays 
 pub no_first : {X : Type 0} (rows : List X) → None ≡ slice_get rows 0 → rows ≡ []
 no_first [] h = refl
 no_first (r ∷ rows) h = absurd cc
-
-pub with_first : {X : Type 0} (rows : List X) (x : X) → Some x ≡ slice_get rows 0 → (more : List X) × (rows ≡ x ∷ more)
-with_first [] x h = absurd cc
-with_first (r ∷ rows) x h = let same : r ≡ x = cc in (rows, ap (λ y. y ∷ rows) same)

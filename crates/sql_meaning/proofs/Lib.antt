@@ -17,3 +17,4 @@ pub mod Changing
 pub mod Limited
 pub mod ManyRows
 pub mod Copying
+pub mod FirstLemmas

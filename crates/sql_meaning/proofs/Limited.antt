@@ -1,6 +1,6 @@
 -- What LIMIT 1 answers: whether any row passes.
-use Rattle.sql_meaning.proofs.Common.{◌≡◌, ℕ, pos, List, [], ◌∷◌, map, take, Bool, true, false, refl, sym, ap, ◌∙◌, inl, inr, AllByRecursion, list_any, cases_Bool, Null, Int, Row, Term, lit, Query, IsSureAnswer, Output, Schema, Trees, State, Shown, Select, understood, reads_listing, IsPlain, command_of, reads_as, overlay, Has, some_has, some_from}
-use Rattle.sql_meaning.proofs.Scanning.{scan, as_program, passes, shown_of, scanned, answer_sound, answer_complete, shown_same}
+use Rattle.sql_meaning.proofs.FirstLemmas.{◌≡◌, ℕ, pos, List, [], ◌∷◌, map, take, Bool, true, false, refl, sym, ap, ◌∙◌, inl, inr, AllByRecursion, list_any, cases_Bool, Null, Int, Row, Term, lit, Query, IsSureAnswer, Output, Schema, Trees, State, Shown, Select, understood, reads_listing, IsPlain, command_of, reads_as, overlay, Has, some_has, some_from, scan, as_program, shown_of, scanned, answer_sound, answer_complete, shown_same}
+use Rattle.sql_meaning.proofs.Scanning.{passes}
 
 -- SELECT project FROM table WHERE test LIMIT 1
 abbrev pub some_scan : ℕ → List Term → List Term → Query

@@ -1,11 +1,8 @@
 -- UPDATE of each row that passes a test, as one edit: whatever order the query shows them in, each is set at its own place.
-use Rattle.sql_meaning.proofs.Common.{◌≡◌, ℕ, List, [], ◌∷◌, map, filter, drop, slice_get, not, Bool, true, false, Some, Ok, Less, refl, sym, ap, ap₂, subst, subst₂, ◌∙◌, inl, inr, if◌then◌else◌, AllByRecursion, ordering_reverse, cases_Bool, Row, value_cmp, Term, cast_row, Table, Schema, Trees, rowid, IsTable, Edit, edit_of, edited, without_all, have_rowids, Given, Update, State, Executes, value_cmp_total, IsShaped, Has, ids_of, given, put_all_has, put_all_keeps, put_all_adds, all_has, has_filtered, has_kept}
+use Rattle.sql_meaning.proofs.FirstLemmas.{◌≡◌, ℕ, List, [], ◌∷◌, map, filter, drop, slice_get, not, Bool, true, false, Some, Ok, Less, refl, sym, ap, ap₂, subst, subst₂, ◌∙◌, inl, inr, if◌then◌else◌, AllByRecursion, ordering_reverse, cases_Bool, Row, value_cmp, Term, cast_row, Table, Schema, Trees, rowid, IsTable, Edit, edit_of, edited, without_all, have_rowids, Given, Update, State, Executes, value_cmp_total, IsShaped, Has, ids_of, given, put_all_has, put_all_keeps, put_all_adds, all_has, has_filtered, has_kept, has_mapped, mapped_has, Changes, IsIdle, Means, updates, scan, as_program, shown_of, scanned, answer_sound, answer_complete, deleted, edited_shaped, set_table}
 use Rattle.sqlite_trees.specs.declared.store.Shape.TheVariants as shape
 use Rattle.sqlite_rules.specs.Edit.{are_fresh}
-use Rattle.sqlite_rules.proofs.ProbeLemmas.{has_mapped, mapped_has}
-use Rattle.sql_meaning.proofs.Writing.{Changes, IsIdle, Means, updates}
-use Rattle.sql_meaning.proofs.Scanning.{scan, as_program, passes, shown_of, scanned, answer_sound, answer_complete}
-use Rattle.sql_meaning.proofs.Edits.{deleted, edited_shaped, set_table}
+use Rattle.sql_meaning.proofs.Scanning.{passes}
 
 -- ---- two tables with the same rows are one
 

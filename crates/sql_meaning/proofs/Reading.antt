@@ -1,7 +1,6 @@
 -- What a query over one table answers, from what the call says.
-use Rattle.sql_meaning.proofs.Common.{◌≡◌, ◌⊎◌, ℕ, List, [], ◌∷◌, map, filter, find, slice_get, option_map, Bool, true, false, Some, Less, refl, sym, ap, ◌∙◌, inl, inr, AllByRecursion, list_any, cases_Bool, Row, Term, output, output_cmp, Schema, State, Shown, IsAscending, Select, understood, reads_listing, IsPlain, command_of, reads_as, Key, Has, all_from}
-use Rattle.sql_meaning.proofs.Keys.{found_by}
-use Rattle.sql_meaning.proofs.Scanning.{scan, as_program, passes, shown_of, Scans, scanned, answers_one, answers_rising, shown_same}
+use Rattle.sql_meaning.proofs.FirstLemmas.{◌≡◌, ◌⊎◌, ℕ, List, [], ◌∷◌, map, filter, find, slice_get, option_map, Bool, true, false, Some, Less, refl, sym, ap, ◌∙◌, inl, inr, AllByRecursion, list_any, cases_Bool, Row, Term, output, output_cmp, Schema, State, Shown, IsAscending, Select, understood, reads_listing, IsPlain, command_of, reads_as, Key, Has, all_from, found_by, scan, as_program, shown_of, Scans, scanned, answers_one, answers_rising, shown_same}
+use Rattle.sql_meaning.proofs.Scanning.{passes}
 
 -- the text is this query over one table, under the schema
 pub record Asks (schema : Schema) (text : List ℕ) (tree : ℕ) (test project : List Term) (order : List (Term × Key)) : Type 0 where

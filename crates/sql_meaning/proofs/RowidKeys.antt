@@ -1,10 +1,7 @@
 -- A key that is the rowid: the test by it, and that it names at most one row.
-use Rattle.sql_meaning.proofs.Common.{◌≡◌, ◌⊎◌, ℤ, List, [], ◌∷◌, filter, Bool, true, false, Equal, IsTrue, sym, ap, subst₂, ◌∙◌, AllByRecursion, int_eq, int_cmp, ordering_reverse, and-true, int_cmp_total, Int, Row, value_cmp, Term, col, op2, binary, is_true, Binary, Compare, Eq, Key, value_cmp-Int, rowid, Has, tied_same, all_has, all_from, int_is, is_int, IsShaped}
+use Rattle.sql_meaning.proofs.FirstLemmas.{◌≡◌, ◌⊎◌, ℤ, List, [], ◌∷◌, filter, Bool, true, false, Equal, IsTrue, sym, ap, subst₂, ◌∙◌, AllByRecursion, int_eq, int_cmp, ordering_reverse, and-true, int_cmp_total, Int, Row, value_cmp, Term, col, op2, binary, is_true, Binary, Compare, Eq, Key, value_cmp-Int, rowid, Has, tied_same, all_has, all_from, int_is, is_int, IsShaped, int_at, equal_is, same_int, lone}
 use Rattle.sqlite_trees.specs.declared.store.Shape.TheVariants as shape
-use Rattle.sql_meaning.specs.Columns.{int_at}
-use Rattle.sql_meaning.proofs.Edits.{equal_is}
 use Rattle.sql_meaning.proofs.Scanning.{passes}
-use Rattle.sql_meaning.proofs.Keys.{same_int, lone}
 
 abbrev pub has_number : ℤ → Row → Bool
 has_number n r = int_eq (int_at r 0) n

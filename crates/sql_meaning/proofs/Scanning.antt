@@ -1,14 +1,10 @@
 -- What a query over one table answers.
-use Rattle.sql_meaning.proofs.Common.{◌≡◌, ◌⊎◌, ℕ, pos, negsuc, List, [], ◌∷◌, map, filter, find, flat_map, slice_get, unwrap_or, option_map, Bool, true, false, None, Some, Less, refl, sym, ap, subst, ◌∙◌, inl, inr, if◌then◌else◌, list_all, AllByRecursion, one_permutation, IsPlain, State, Shown, IsUnchanged, Schema, understood, Has, IsAscending, ascending-map, ascending-filter, map-map, all_from, has_contained, contains_had, has_filtered, has_kept, cases_Bool, Value, Null, Int, Row, Term, eval_all, holds, lit, Query, inner, end, IsAnswerAs, IsSureAnswer, matches_as, output, output_cmp, Output, Trees, Key, overlay}
-use Rattle.sqlite_trees.proofs.ListLemmas.{filter_same}
-use Rattle.sqlite_rules.proofs.ProbeLemmas.{has_mapped, mapped_has}
+use Rattle.sql_meaning.proofs.Common.{◌≡◌, ◌⊎◌, ℕ, pos, negsuc, List, [], ◌∷◌, map, filter, find, flat_map, slice_get, unwrap_or, option_map, Bool, true, false, None, Some, Less, refl, sym, ap, subst, ◌∙◌, inl, inr, if◌then◌else◌, list_all, AllByRecursion, one_permutation, IsPlain, State, Shown, IsUnchanged, Schema, understood, Has, IsAscending, ascending-map, ascending-filter, map-map, all_from, has_contained, contains_had, has_filtered, has_kept, cases_Bool, Value, Null, Int, Row, Term, eval_all, holds, lit, Query, inner, end, IsAnswerAs, IsSureAnswer, matches_as, output, output_cmp, Output, Trees, Key, overlay, filter_same, has_mapped, mapped_has, Collation, Program}
 use Rattle.sql_meaning.proofs.Keys.{found_by}
 use Rattle.sqlite_keyed.proofs.SortLemmas.{sorted_unique}
 use Rattle.sqlite_sql.proofs.QueryLemmas.{output_cmp_total}
 use Rattle.std.specs.List.Sorted.{IsPermutation, IsSorted}
 use Rattle.std.proofs.lemmas.List.Sorted.{length_permutation, Contains-permutation, IsPermutation-sym}
-use Rattle.sqlite.specs.Collation.{Collation}
-use Rattle.sqlite_schema.specs.declared.program.Program.{Program}
 
 -- SELECT project FROM table WHERE test ORDER BY order
 abbrev pub scan : ℕ → List Term → List Term → List (Term × Key) → Query

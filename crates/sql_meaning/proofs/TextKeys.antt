@@ -1,11 +1,9 @@
 -- A text column that is a key: the test by it, and that it names at most one row.
-use Rattle.sql_meaning.proofs.Common.{◌≡◌, ◌&&◌, ◌||◌, ap₂, ◌⊎◌, not, ℕ, List, [], ◌∷◌, filter, bytes_eq, Bool, true, refl, ap, ◌∙◌, AllByRecursion, list_any, and-true, Text, Row, column, Term, col, op2, binary, is_true, Binary, Compare, Eq, clashes, agree, Has, all_has, all_from, IsShaped}
+use Rattle.sql_meaning.proofs.FirstLemmas.{◌≡◌, ◌&&◌, ◌||◌, ap₂, ◌⊎◌, not, ℕ, List, [], ◌∷◌, filter, bytes_eq, Bool, true, refl, ap, ◌∙◌, AllByRecursion, list_any, and-true, Text, Row, column, Term, col, op2, binary, is_true, Binary, Compare, Eq, clashes, agree, Has, all_has, all_from, IsShaped, bytes_at, unclashed, same_text, same_key, lone}
 use Rattle.sqlite_value.specs.Keys.{first_key, plain}
 use Rattle.sqlite_rules.proofs.KeyLemmas.{agree_back, agree_chain}
 use Rattle.sqlite_trees.specs.declared.store.Shape.TheVariants as shape
-use Rattle.sql_meaning.specs.Columns.{bytes_at}
 use Rattle.sql_meaning.proofs.Scanning.{passes}
-use Rattle.sql_meaning.proofs.Keys.{unclashed, same_text, same_key, lone}
 
 abbrev pub has_text : ℕ → List ℕ → Row → Bool
 has_text place name r = bytes_eq (bytes_at r place) name

@@ -1,5 +1,5 @@
 -- What a STRICT table's rules say of the columns of its rows.
-use Rattle.sql_meaning.proofs.Common.{◌≡◌, ◌&&◌, ◌||◌, ◌⊎◌, Bool, not, ℕ, zero, suc, ◌+◌, List, [], ◌∷◌, drop, slice_get, slice_index_or, true, false, None, Some, Option, refl, sym, ap, subst, ◌∙◌, inl, inr, if◌then◌else◌, arith, AllByRecursion, not-true, and_parts, Value, Null, Int, Text, Blob, Real, Row, column, bytes, is_null, id_in, Table, Schema, Trees, are_typed, are_present, suits, is_of, passes}
+use Rattle.sql_meaning.proofs.Common.{◌≡◌, ◌&&◌, ◌||◌, ◌⊎◌, Bool, not, ℕ, zero, suc, ◌+◌, List, [], ◌∷◌, drop, slice_get, slice_index_or, true, false, None, Some, Option, refl, sym, ap, subst, ◌∙◌, inl, inr, if◌then◌else◌, arith, AllByRecursion, not-true, and_parts, Value, Null, Int, Text, Blob, Row, column, bytes, is_null, id_in, Table, Schema, Trees, are_typed, are_present, suits, is_of, passes}
 use Rattle.std.specs.Prelude.{⊤}
 use Rattle.sqlite.specs.Kind.{Kind}
 use Rattle.sqlite.specs.Kind.TheVariants as kind
@@ -53,32 +53,20 @@ after_id [] i = past_end i ∙ sym (past_end (i + 1))
 after_id (v ∷ vs) i = let next : i + 1 ≡ suc i = omega arith in rw next refl
 
 is_text : (v : Value) → is_of kind.Text v ≡ true → is_null v ≡ false → v ≡ Text (bytes v)
-is_text Null h k = absurd cc
-is_text (Int n) h k = absurd cc
-is_text (Real x) h k = absurd cc
 is_text (Text t) h k = refl
-is_text (Blob b) h k = absurd cc
+is_text _ h k = absurd cc
 
 is_int : (v : Value) → is_of kind.Integer v ≡ true → is_null v ≡ false → v ≡ Int (id_in v)
-is_int Null h k = absurd cc
 is_int (Int n) h k = refl
-is_int (Real x) h k = absurd cc
-is_int (Text t) h k = absurd cc
-is_int (Blob b) h k = absurd cc
+is_int _ h k = absurd cc
 
 is_blob : (v : Value) → is_of kind.Blob v ≡ true → is_null v ≡ false → v ≡ Blob (bytes v)
-is_blob Null h k = absurd cc
-is_blob (Int n) h k = absurd cc
-is_blob (Real x) h k = absurd cc
-is_blob (Text t) h k = absurd cc
 is_blob (Blob b) h k = refl
+is_blob _ h k = absurd cc
 
 null_or : (v : Value) → (v ≡ Null) ⊎ (is_null v ≡ false)
 null_or Null = inl refl
-null_or (Int n) = inr refl
-null_or (Real x) = inr refl
-null_or (Text t) = inr refl
-null_or (Blob b) = inr refl
+null_or _ = inr refl
 
 -- a value of this kind; of a kind that no column here has, nothing is said
 abbrev pub IsGiven : Kind → Value → Type 0

@@ -1,12 +1,9 @@
 -- A change leaves the database whole.
-use Rattle.sql_meaning.proofs.Common.{◌≡◌, ◌≢◌, ◌==◌, true, false, ℕ, arith, List, [], ◌∷◌, sym, ap, subst, ◌∙◌, inl, inr, AllByRecursion, cases_Bool, cases_lt, Row, Table, Schema, Trees, Edit, edited, have_rowids, State, Database, Keeps, IsShaped}
+use Rattle.sql_meaning.proofs.FirstLemmas.{◌≡◌, ◌≢◌, ◌==◌, true, false, ℕ, arith, List, [], ◌∷◌, sym, ap, subst, ◌∙◌, inl, inr, AllByRecursion, cases_Bool, cases_lt, Row, Table, Schema, Trees, Edit, edited, have_rowids, State, Database, Keeps, IsShaped, IsWhole, AreShaped, IsBlank, Sets, Changes, edited_shaped}
 use Rattle.std.proofs.lemmas.Bool.Decides.{nat_tests}
 use Rattle.sqlite_schema.specs.declared.schema.Constraint.{Constraint}
 use Rattle.sqlite_trees.specs.declared.store.Shape.TheVariants as shape
-use Rattle.sql_meaning.specs.Whole.{IsWhole, AreShaped, IsBlank, Sets}
 pub use Rattle.sql_meaning.specs.Whole.{with_rows}
-use Rattle.sql_meaning.proofs.Writing.{Changes}
-use Rattle.sql_meaning.proofs.Edits.{edited_shaped}
 
 -- each row of a whole database keeps each rule of its schema
 pub keeps_rule : {schema : Schema} {db : Database} → IsWhole schema db → (rule : Constraint) → Keeps rule schema db.trees

@@ -1,12 +1,11 @@
 -- What one statement makes of the rows of a table, for any schema without actions.
-use Rattle.sql_meaning.proofs.Common.{◌≡◌, ◌/◌, ◌⊎◌, inl, inr, ℕ, List, [], length, slice_get, false, Option, Some, None, Ok, Err, Result, refl, sym, ap, subst, subst₂, fold, ℤ, ◌∙◌, append-nil, unwrap_or, Row, Term, Table, Schema, Insert, Update, Delete, Edit, edit_of, taken_by, Applies, Chosen, Given, Trees, Database, IsDatabase, Answers, IsSource, value_rows, State, mode_of, Executes, understood, ids_of, IsPlain, command_of, runs_as, one_step}
+use Rattle.sql_meaning.proofs.Common.{◌≡◌, ◌/◌, ◌⊎◌, inl, inr, ℕ, List, [], length, slice_get, false, Option, Some, None, Ok, Err, Result, refl, sym, ap, subst, subst₂, fold, ℤ, ◌∙◌, append-nil, unwrap_or, Row, Term, Table, Schema, Insert, Update, Delete, Edit, edit_of, taken_by, Applies, Chosen, Given, Trees, Database, IsDatabase, Answers, IsSource, value_rows, State, mode_of, Executes, understood, ids_of, IsPlain, command_of, runs_as, one_step, Program}
 use Rattle.sqlite.specs.Source.{Source}
 use Rattle.sqlite.specs.Source.TheVariants.{Values}
 use Rattle.sqlite.specs.Command.{Command}
 use Rattle.sqlite.specs.Does.{Tally, OnRows, Concludes, AtPlace}
 use Rattle.sqlite.specs.Rows.{Written, Task, Then, Inserts, Updates, Deletes, Edited, Counter, stamped, Counts, count_of, rowids_for, higher, last_id, Gives}
 use Rattle.sqlite_schema.specs.declared.schema.Keys.TheVariants.{Enforced}
-use Rattle.sqlite_schema.specs.declared.program.Program.{Program}
 use Rattle.sqlite_rules.specs.Action.{works}
 
 -- the edit was applied, the trees list the schema and keep its rules, and nothing else changed

@@ -1,6 +1,4 @@
-use Rattle.bag_check.proofs.Common.{map, ap, subst, ◌∙◌, Contains, listed_seen}
-use Rattle.bag_check.proofs.Lemmas.{digests_are, right_of}
-use Rattle.bag_check.specs.Digests.{digests_of}
+use Rattle.bag_check.proofs.Lemmas.{map, ap, subst, ◌∙◌, Contains, listed_seen, digests_are, right_of, digests_of}
 use Rattle.bag_check.proofs.check.check_and_digest.Goals as goal
 
 pub digests_of-requires : goal.digests_of-requires

@@ -1,5 +1,4 @@
-use Rattle.bag_check.proofs.Common.{◌∙◌, sym, rules, YieldsList-from_slice, any_from_yields_List, is_kind, Payload, named_seen}
-use Rattle.bag_check.proofs.Lemmas.{any_map}
+use Rattle.bag_check.proofs.Lemmas.{◌∙◌, sym, rules, YieldsList-from_slice, any_from_yields_List, is_kind, Payload, named_seen, any_map}
 use Rattle.bag_check.proofs.check.has_payload_manifest.Goals as goal
 
 pub returns : goal.returns

@@ -1,5 +1,4 @@
-use Rattle.bag_check.proofs.Common.{◌≡◌, ◌∙◌, ap, sym, map, length, Ok, length-map, listings_in, keeps, listing_rules, keeps_contents, payload_files, payload_bytes, listed_seen, report_seen}
-use Rattle.bag_check.proofs.Lemmas.{judged, fixity_kept}
+use Rattle.bag_check.proofs.Lemmas.{◌≡◌, ◌∙◌, ap, sym, map, length, Ok, length-map, listings_in, keeps, listing_rules, keeps_contents, payload_files, payload_bytes, listed_seen, report_seen, judged, fixity_kept}
 use Rattle.bag_check.proofs.check.judge_files.Goals as goal
 
 pub returns-clause-fixity : goal.returns-clause-fixity

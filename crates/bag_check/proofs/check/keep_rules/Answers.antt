@@ -1,5 +1,4 @@
-use Rattle.bag_check.proofs.Common.{◌∙◌, map, ap, sym, drop_all, err_from_is_err_and, fails_on, OutsidePayload, keeps, listed_seen, named_fault}
-use Rattle.bag_check.proofs.Lemmas.{keeps_from}
+use Rattle.bag_check.proofs.Lemmas.{◌∙◌, map, ap, sym, drop_all, err_from_is_err_and, fails_on, OutsidePayload, keeps, listed_seen, named_fault, keeps_from}
 use Rattle.bag_check.proofs.check.keep_rules.Goals as goal
 
 pub returns-in_err-keep_rule : goal.returns-in_err-keep_rule

@@ -1,5 +1,4 @@
-use Rattle.bag_check.proofs.Common.{Bor, List, ℕ, [], slice_index_or, file_of, files_of, has_contains, has_map}
-use Rattle.bag_check.proofs.Lemmas.{item_has}
+use Rattle.bag_check.proofs.Lemmas.{Bor, List, ℕ, [], slice_index_or, file_of, files_of, has_contains, has_map, item_has}
 use Rattle.bag_check.proofs.digests.digests_of.Goals as goal
 
 abbrev none : Bor (List ℕ) × Bor (List ℕ)

@@ -1,5 +1,4 @@
-use Rattle.bag_check.proofs.Common.{◌≡◌, map, take}
-use Rattle.sha2.specs.Sha256.{sha256}
+use Rattle.bag_check.proofs.Common.{◌≡◌, map, take, sha256}
 use Rattle.bag_check.proofs.digests.digests_of.Given as goal
 
 abbrev pub invariant-loop-file : goal.invariant-loop-file

@@ -1,5 +1,4 @@
-use Rattle.bag_check.proofs.Common.{subst, HasEntry}
-use Rattle.bag_check.proofs.Lemmas.{lists_sha256}
+use Rattle.bag_check.proofs.Lemmas.{subst, HasEntry, lists_sha256}
 use Rattle.bag_check.proofs.digests.listed_digest.Goals as goal
 
 pub returns-in-Sha256-clause-listed : goal.returns-in-Sha256-clause-listed

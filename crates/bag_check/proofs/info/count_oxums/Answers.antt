@@ -1,5 +1,4 @@
-use Rattle.bag_check.proofs.Common.{◌≡◌, ◌∙◌, sym, rules, count_by, pair_in, is_oxum}
-use Rattle.bag_check.proofs.Lemmas.{count_oxums}
+use Rattle.bag_check.proofs.Lemmas.{◌≡◌, ◌∙◌, sym, rules, count_by, pair_in, is_oxum, count_oxums}
 use Rattle.bag_check.proofs.info.count_oxums.Goals as goal
 
 pub returns : goal.returns

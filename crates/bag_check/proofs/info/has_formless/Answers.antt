@@ -1,5 +1,4 @@
-use Rattle.bag_check.proofs.Common.{◌∙◌, ◌&&◌, not, sym, rules, is_some, cow_str_bytes, YieldsList-from_slice, any_from_yields_List, pair_in, is_oxum, counts_of}
-use Rattle.bag_check.proofs.Lemmas.{any_oxum}
+use Rattle.bag_check.proofs.Lemmas.{◌∙◌, ◌&&◌, not, sym, rules, is_some, cow_str_bytes, YieldsList-from_slice, any_from_yields_List, pair_in, is_oxum, counts_of, any_oxum}
 use Rattle.bag_check.proofs.info.has_formless.Goals as goal
 
 pub returns : goal.returns

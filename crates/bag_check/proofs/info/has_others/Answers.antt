@@ -1,5 +1,4 @@
-use Rattle.bag_check.proofs.Common.{◌∙◌, ◌&&◌, sym, rules, cow_str_bytes, YieldsList-from_slice, any_from_yields_List, pair_in, is_oxum, counts_of, are_others}
-use Rattle.bag_check.proofs.Lemmas.{any_oxum}
+use Rattle.bag_check.proofs.Lemmas.{◌∙◌, ◌&&◌, sym, rules, cow_str_bytes, YieldsList-from_slice, any_from_yields_List, pair_in, is_oxum, counts_of, are_others, any_oxum}
 use Rattle.bag_check.proofs.info.has_others.Goals as goal
 
 pub returns : goal.returns

@@ -1,5 +1,4 @@
-use Rattle.bag_check.proofs.Common.{◌∙◌, ◌+◌, drop, get_or, map, ap, [], Bor, List, ℕ, option_map, Ok, drop_more, drop_all, map_push, err_from_is_err_and, files_of, file_of, manifests_in, named_seen, named_fault}
-use Rattle.bag_check.proofs.Lemmas.{manifests_fail, manifests_take, manifests_skip, manifests_done}
+use Rattle.bag_check.proofs.Lemmas.{◌∙◌, ◌+◌, drop, slice_index_or as get_or, map, ap, [], Bor, List, ℕ, option_map, Ok, drop_more, drop_all, map_push, err_from_is_err_and, files_of, file_of, manifests_in, named_seen, named_fault, manifests_fail, manifests_take, manifests_skip, manifests_done}
 use Rattle.bag_check.proofs.listed.find_manifests.Goals.{in-Some+in_ok-push, in_default}
 use Rattle.bag_check.proofs.listed.find_manifests.Goals as goal
 

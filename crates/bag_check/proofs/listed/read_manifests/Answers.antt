@@ -1,5 +1,4 @@
-use Rattle.bag_check.proofs.Common.{◌∙◌, map, ap, drop_more, drop_all, map_push, err_from_is_err_and, listings_of, named_seen, listed_seen, named_fault}
-use Rattle.bag_check.proofs.Lemmas.{listings_fail, listings_take, listings_done}
+use Rattle.bag_check.proofs.Lemmas.{◌∙◌, map, ap, drop_more, drop_all, map_push, err_from_is_err_and, listings_of, named_seen, listed_seen, named_fault, listings_fail, listings_take, listings_done}
 use Rattle.bag_check.proofs.listed.read_manifests.Goals as goal
 
 pub returns-in_err-listed : goal.returns-in_err-listed

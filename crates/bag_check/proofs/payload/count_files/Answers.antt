@@ -1,5 +1,4 @@
-use Rattle.bag_check.proofs.Common.{◌∙◌, ◌+◌, drop, get_or, sym, ap, [], arith, Bor, List, ℕ, drop_more, files_of, file_of}
-use Rattle.bag_check.proofs.Lemmas.{few_payload, small_payload, count_take}
+use Rattle.bag_check.proofs.Lemmas.{◌∙◌, ◌+◌, drop, slice_index_or as get_or, sym, ap, [], arith, Bor, List, ℕ, drop_more, files_of, file_of, few_payload, small_payload, count_take}
 use Rattle.bag_check.proofs.payload.count_files.Goals as goal
 
 abbrev none : Bor (List ℕ) × Bor (List ℕ)

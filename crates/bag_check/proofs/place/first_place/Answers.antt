@@ -1,5 +1,4 @@
-use Rattle.bag_check.proofs.Common.{◌∙◌, sym, ap, map, option_map, cow_str_bytes, drop_all, first_place, listed_seen}
-use Rattle.bag_check.proofs.Lemmas.{next_item, place_found, place_later, place_none}
+use Rattle.bag_check.proofs.Lemmas.{◌∙◌, sym, ap, map, option_map, cow_str_bytes, drop_all, first_place, listed_seen, next_item, place_found, place_later, place_none}
 use Rattle.bag_check.proofs.place.first_place.Goals as goal
 
 pub returns-in-Some : goal.returns-in-Some

@@ -1,5 +1,4 @@
-use Rattle.bag_check.proofs.Common.{◌∙◌, get_or, ap, sym, [], Bor, List, ℕ, drop_more, files_of, file_of}
-use Rattle.bag_check.proofs.Lemmas.{unlisted, unlisted_here, unlisted_passed, unlisted_listed, found_by_bytes}
+use Rattle.bag_check.proofs.Lemmas.{◌∙◌, slice_index_or as get_or, ap, sym, [], Bor, List, ℕ, drop_more, files_of, file_of, unlisted, unlisted_here, unlisted_passed, unlisted_listed, found_by_bytes}
 use Rattle.bag_check.proofs.place.first_unlisted.Goals.{else-asks_for-via-then-asks_for+else-not-lists, else-asks_for-via-else-asks_for}
 use Rattle.bag_check.proofs.place.first_unlisted.Goals as goal
 

@@ -1,5 +1,4 @@
-use Rattle.bag_check.proofs.Common.{◌≡◌, drop, files_of}
-use Rattle.bag_check.proofs.Lemmas.{unlisted}
+use Rattle.bag_check.proofs.Lemmas.{◌≡◌, drop, files_of, unlisted}
 use Rattle.bag_check.proofs.place.first_unlisted.Given as goal
 
 abbrev pub invariant-loop-file : goal.invariant-loop-file

@@ -1,9 +1,5 @@
-use Rattle.std.proofs.Common.{List, [], ◌∷◌, ◌++◌, sym, subst}
+use Rattle.bag_folders.proofs.Lemmas.{List, [], ◌∷◌, ◌++◌, sym, subst, AllZip, IsToldOf, Entry, zip_next}
 use Rattle.std.specs.Iterator.{Yields}
-use Rattle.std.specs.List.{AllZip}
-use Rattle.bag_folders.specs.Listing.{IsToldOf}
-use Rattle.bag_folders.specs.declared.listed.Entry.{Entry}
-use Rattle.bag_folders.proofs.GrowingLemmas.{zip_next}
 use Rattle.bag_folders.proofs.folders.told_entries.Goals as goal
 
 pub loop-name-preserved : goal.loop-name-preserved

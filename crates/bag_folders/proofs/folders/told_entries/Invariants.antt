@@ -1,5 +1,4 @@
-use Rattle.std.specs.List.{AllZip}
-use Rattle.bag_folders.specs.Listing.{IsToldOf}
+use Rattle.bag_folders.proofs.Common.{AllZip, IsToldOf}
 use Rattle.bag_folders.proofs.folders.told_entries.Given as goal
 
 abbrev pub invariant-loop-name : goal.invariant-loop-name

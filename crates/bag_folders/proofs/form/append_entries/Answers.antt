@@ -1,6 +1,4 @@
-use Rattle.std.proofs.Common.{subst}
-use Rattle.bag_folders.specs.declared.listed.Listed.{Listed}
-use Rattle.bag_folders.specs.Loading.{AppendsEntry}
+use Rattle.bag_folders.proofs.Common.{subst, Listed, AppendsEntry}
 use Rattle.bag_folders.proofs.LoadLemmas.{entries_more}
 use Rattle.bag_folders.proofs.form.append_entries.Goals as goal
 

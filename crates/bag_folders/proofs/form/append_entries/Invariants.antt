@@ -1,7 +1,4 @@
-use Rattle.std.proofs.Common.{◌≡◌, ◌++◌, List, take}
-use Rattle.std.specs.List.{flat_map}
-use Rattle.bag_text.specs.TransferForm.{File, entry}
-use Rattle.bag_folders.specs.Packing.{AreFilesOf}
+use Rattle.bag_folders.proofs.Common.{◌≡◌, ◌++◌, List, take, flat_map, File, entry, AreFilesOf}
 use Rattle.bag_folders.proofs.form.append_entries.Given as goal
 
 abbrev pub invariant-loop-file : goal.invariant-loop-file

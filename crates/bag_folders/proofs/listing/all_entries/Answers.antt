@@ -1,4 +1,4 @@
-use Rattle.std.proofs.Common.{arith, rules}
+use Rattle.bag_folders.proofs.Common.{arith, rules}
 use Rattle.bag_folders.proofs.ListingLemmas.{listed_first, listed_next}
 use Rattle.bag_folders.proofs.listing.all_entries.Goals as goal
 

@@ -1,8 +1,6 @@
-use Rattle.std.proofs.Common.{rules, map-id}
+use Rattle.bag_folders.proofs.Lemmas.{rules, map-id, file_listed, odd_in, filter_map_next, first_next}
 use Rattle.std.proofs.lemmas.Iterator.Consumers.{YieldsList-end}
 use Rattle.std.proofs.lemmas.Iterator.Adapters.{YieldsList-from_vec}
-use Rattle.bag_folders.specs.Listing.{file_listed, odd_in}
-use Rattle.bag_folders.proofs.GrowingLemmas.{filter_map_next, first_next}
 use Rattle.bag_folders.proofs.listing.found_in.Goals as goal
 
 pub loop-entry-preserved : goal.loop-entry-preserved

@@ -1,6 +1,4 @@
-use Rattle.std.proofs.Common.{◌≡◌}
-use Rattle.std.specs.Prelude.{filter_map, slice_get}
-use Rattle.bag_folders.specs.Listing.{file_listed, odd_in}
+use Rattle.bag_folders.proofs.Common.{◌≡◌, filter_map, slice_get, file_listed, odd_in}
 use Rattle.bag_folders.proofs.listing.found_in.Given as goal
 
 abbrev pub invariant-loop-entry : goal.invariant-loop-entry

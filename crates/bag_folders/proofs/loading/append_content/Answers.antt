@@ -1,4 +1,4 @@
-use Rattle.std.proofs.Common.{◌≡◌, ◌+◌, length, rules}
+use Rattle.bag_folders.proofs.Common.{◌≡◌, ◌+◌, length, rules}
 use Rattle.bag_folders.proofs.ReadingLemmas.{some_behind}
 use Rattle.bag_folders.proofs.loading.append_content.Goals as goal
 

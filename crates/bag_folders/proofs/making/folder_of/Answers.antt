@@ -1,5 +1,4 @@
-use Rattle.std.proofs.Common.{rules}
-use Rattle.bag_folders.proofs.MakingLemmas.{folder_found}
+use Rattle.bag_folders.proofs.Lemmas.{rules, folder_found}
 use Rattle.bag_folders.proofs.making.folder_of.Goals as goal
 
 pub returns-in-Some : goal.returns-in-Some

@@ -1,6 +1,4 @@
-use Rattle.std.proofs.Common.{ℕ, true, false, List, Bor, append-nil, ap, map, sym, ◌∙◌}
-use Rattle.std.proofs.lemmas.List.{map_push}
-use Rattle.bag_folders.proofs.MakingLemmas.{all_folders}
+use Rattle.bag_folders.proofs.Lemmas.{ℕ, true, false, List, Bor, append-nil, ap, map, sym, ◌∙◌, map_push, all_folders}
 use Rattle.bag_folders.proofs.making.folders_of.Goals as goal
 
 pub returns-then-needs_data : goal.returns-then-needs_data

@@ -1,5 +1,4 @@
-use Rattle.std.proofs.lemmas.Result.{err_from_is_err_and}
-use Rattle.bag_folders.proofs.UnpackLemmas.{failed_stops}
+use Rattle.bag_folders.proofs.Lemmas.{err_from_is_err_and, failed_stops}
 use Rattle.bag_folders.proofs.making.make_all.Goals as goal
 
 pub returns-in_err-make_folders : goal.returns-in_err-make_folders

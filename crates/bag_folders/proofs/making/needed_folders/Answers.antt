@@ -1,5 +1,4 @@
-use Rattle.bag_folders.specs.Unpacking.{folder_of}
-use Rattle.bag_folders.proofs.GrowingLemmas.{filter_map_more}
+use Rattle.bag_folders.proofs.Lemmas.{folder_of, filter_map_more}
 use Rattle.bag_folders.proofs.making.needed_folders.Goals as goal
 
 pub loop-file-preserved : goal.loop-file-preserved

@@ -1,6 +1,4 @@
-use Rattle.std.proofs.Common.{◌≡◌, map, take}
-use Rattle.std.specs.Prelude.{filter_map}
-use Rattle.bag_folders.specs.Unpacking.{folder_of}
+use Rattle.bag_folders.proofs.Common.{◌≡◌, map, take, filter_map, folder_of}
 use Rattle.bag_folders.proofs.making.needed_folders.Given as goal
 
 abbrev pub invariant-loop-file : goal.invariant-loop-file

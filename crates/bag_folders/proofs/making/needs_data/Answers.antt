@@ -1,5 +1,4 @@
-use Rattle.std.proofs.Common.{true, refl, sym, ◌∙◌}
-use Rattle.bag_folders.proofs.MakingLemmas.{needs_from, needs_none}
+use Rattle.bag_folders.proofs.Lemmas.{true, refl, sym, ◌∙◌, needs_from, needs_none}
 use Rattle.bag_folders.proofs.making.needs_data.Goals as goal
 
 pub returns-then-has_declaration : goal.returns-then-has_declaration

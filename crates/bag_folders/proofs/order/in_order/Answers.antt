@@ -1,7 +1,4 @@
-use Rattle.std.proofs.Common.{rules}
-use Rattle.std.specs.Prelude.{string_bytes}
-use Rattle.std.proofs.lemmas.List.Sorted.{answers_always}
-use Rattle.bag_text.specs.Paths.{comes_before}
+use Rattle.bag_folders.proofs.Common.{rules, string_bytes, answers_always, comes_before}
 use Rattle.bag_folders.proofs.OrderLemmas.{by_path}
 use Rattle.bag_folders.proofs.order.in_order.Goals as goal
 

@@ -1,4 +1,4 @@
-use Rattle.bag_folders.proofs.PackLemmas.{some_packed, some_refused}
+use Rattle.bag_folders.proofs.Lemmas.{some_packed, some_refused}
 use Rattle.bag_folders.proofs.packing.pack.Goals as goal
 
 pub returns : goal.returns

@@ -1,7 +1,4 @@
-use Rattle.std.proofs.Common.{◌≡◌, length, rules}
-use Rattle.std.proofs.lemmas.Result.{err_from_is_err_and}
-use Rattle.bag_folders.specs.Packing.{is_any_declared}
-use Rattle.bag_folders.proofs.PackLemmas.{failed_under, form_under, is_packed_of, plan_under}
+use Rattle.bag_folders.proofs.Lemmas.{◌≡◌, length, rules, err_from_is_err_and, is_any_declared, failed_under, form_under, is_packed_of, plan_under}
 use Rattle.bag_folders.proofs.packing.pack_listed.Goals as goal
 
 pub returns-in_err-found-clause-refused : goal.returns-in_err-found-clause-refused

@@ -1,8 +1,4 @@
-use Rattle.std.proofs.Common.{List, subst}
-use Rattle.std.proofs.lemmas.Result.{err_from_is_err_and}
-use Rattle.bag_folders.specs.declared.listed.Listed.{Listed}
-use Rattle.bag_folders.specs.Packing.{AllFilesOf, HasNoForm}
-use Rattle.bag_folders.proofs.PackLemmas.{plan_refused}
+use Rattle.bag_folders.proofs.Lemmas.{List, subst, err_from_is_err_and, Listed, AllFilesOf, HasNoForm, plan_refused}
 use Rattle.bag_folders.proofs.planning.plan.Goals as goal
 
 pub returns-in_err-judge-clause-refused : goal.returns-in_err-judge-clause-refused

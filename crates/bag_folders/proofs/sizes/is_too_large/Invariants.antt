@@ -1,6 +1,4 @@
-use Rattle.std.proofs.Common.{◌≡◌, ◌≤◌, take}
-use Rattle.std.specs.List.{sum_by}
-use Rattle.bag_text.specs.TransferForm.{max_form}
+use Rattle.bag_folders.proofs.Common.{◌≡◌, ◌≤◌, take, sum_by, max_form}
 use Rattle.bag_folders.proofs.sizes.is_too_large.Given as goal
 
 abbrev pub invariant-loop-file : goal.invariant-loop-file

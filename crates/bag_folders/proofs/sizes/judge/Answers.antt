@@ -1,8 +1,4 @@
-use Rattle.std.proofs.Common.{◌<◌, rules}
-use Rattle.std.specs.List.{sum_by}
-use Rattle.bag_text.specs.TransferForm.{max_form}
-use Rattle.bag_folders.specs.declared.listed.Listed.{Listed}
-use Rattle.bag_folders.proofs.SizeLemmas.{is_bag, longer_form, no_form_listed}
+use Rattle.bag_folders.proofs.Lemmas.{◌<◌, rules, sum_by, max_form, Listed, is_bag, longer_form, no_form_listed}
 use Rattle.bag_folders.proofs.sizes.judge.Goals as goal
 
 pub returns-in-Err-clause-refused : goal.returns-in-Err-clause-refused

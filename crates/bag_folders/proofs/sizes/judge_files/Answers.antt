@@ -1,5 +1,4 @@
-use Rattle.std.proofs.Common.{sym, ◌∙◌}
-use Rattle.bag_folders.proofs.SizeLemmas.{front_len, judged_long, judged_short}
+use Rattle.bag_folders.proofs.Lemmas.{sym, ◌∙◌, front_len, judged_long, judged_short}
 use Rattle.bag_folders.proofs.sizes.judge_files.Goals as goal
 
 pub slice_bounds-judge_paths-end : goal.slice_bounds-judge_paths-end

@@ -1,6 +1,4 @@
-use Rattle.std.proofs.lemmas.Result.{err_from_is_err_and}
-use Rattle.bag_text.specs.TransferReading.{files_of}
-use Rattle.bag_folders.proofs.SizeLemmas.{judged_ok, judged_err}
+use Rattle.bag_folders.proofs.Lemmas.{err_from_is_err_and, files_of, judged_ok, judged_err}
 use Rattle.bag_folders.proofs.sizes.judge_list.Goals as goal
 
 pub returns-in_err-of : goal.returns-in_err-of

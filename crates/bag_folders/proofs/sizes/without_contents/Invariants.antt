@@ -1,6 +1,4 @@
-use Rattle.std.proofs.Common.{◌≡◌, map, take}
-use Rattle.bag_text.specs.TransferReading.{files_of}
-use Rattle.bag_folders.specs.Sizes.{emptied}
+use Rattle.bag_folders.proofs.Common.{◌≡◌, map, take, files_of, emptied}
 use Rattle.bag_folders.proofs.sizes.without_contents.Given as goal
 
 abbrev pub invariant-loop-file : goal.invariant-loop-file

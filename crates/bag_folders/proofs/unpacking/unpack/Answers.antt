@@ -1,4 +1,4 @@
-use Rattle.bag_folders.proofs.UnpackLemmas.{of_file, of_none}
+use Rattle.bag_folders.proofs.Lemmas.{of_file, of_none}
 use Rattle.bag_folders.proofs.unpacking.unpack.Goals as goal
 
 pub returns-in-Ok-clause-judged : goal.returns-in-Ok-clause-judged

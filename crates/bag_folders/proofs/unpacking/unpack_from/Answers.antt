@@ -1,6 +1,4 @@
-use Rattle.std.proofs.Common.{ℕ, List, subst}
-use Rattle.bag_folders.specs.Unpacking.{IsUnpackedFrom}
-use Rattle.bag_folders.proofs.UnpackLemmas.{judged_from, made_from, some_unpacked, some_unreadable, unmade_from}
+use Rattle.bag_folders.proofs.Lemmas.{ℕ, List, subst, IsUnpackedFrom, judged_from, made_from, some_unpacked, some_unreadable, unmade_from}
 use Rattle.bag_folders.proofs.unpacking.unpack_from.Goals as goal
 
 pub returns : goal.returns

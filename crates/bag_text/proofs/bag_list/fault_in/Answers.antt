@@ -1,5 +1,4 @@
-use Rattle.bag_text.proofs.Common.{files_of}
-use Rattle.bag_text.proofs.Lemmas.{ascends}
+use Rattle.bag_text.proofs.Lemmas.{files_of, ascends}
 use Rattle.bag_text.proofs.bag_list.fault_in.Goals as goal
 
 -- files without fault ascend

@@ -1,5 +1,4 @@
-use Rattle.bag_text.proofs.Common.{[], rules, file_of, files_of, fault_from}
-use Rattle.bag_text.proofs.Lemmas.{passed, met, none_left}
+use Rattle.bag_text.proofs.Lemmas.{[], rules, file_of, files_of, fault_from, passed, met, none_left}
 use Rattle.bag_text.proofs.bag_list.first_fault.Goals as goal
 
 pub returns-in-Some : goal.returns-in-Some

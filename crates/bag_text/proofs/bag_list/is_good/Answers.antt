@@ -1,5 +1,4 @@
-use Rattle.bag_text.proofs.Common.{is_utf8-from_IsUtf8}
-use Rattle.bag_text.proofs.Lemmas.{text_is_good}
+use Rattle.bag_text.proofs.Lemmas.{is_utf8-from_IsUtf8, text_is_good}
 use Rattle.bag_text.proofs.bag_list.is_good.Goals as goal
 
 -- A text is a good path where it has no fault.

@@ -1,5 +1,4 @@
-use Rattle.bag_text.proofs.Common.{◌≡◌, drop, map, list_any, clashes, file_of, files_of}
-use Rattle.bag_text.proofs.Lemmas.{clash_at}
+use Rattle.bag_text.proofs.Lemmas.{◌≡◌, drop, map, list_any, clashes, file_of, files_of, clash_at}
 use Rattle.bag_text.proofs.clash.do_clash.Given as goal
 
 abbrev pub invariant-loop-file : goal.invariant-loop-file

@@ -1,5 +1,4 @@
-use Rattle.bag_text.proofs.Common.{◌∙◌, sym, refl, ◌++◌, ◌∷◌, []}
-use Rattle.bag_text.proofs.Lemmas.{begins_is, found_is}
+use Rattle.bag_text.proofs.Lemmas.{◌∙◌, sym, refl, ◌++◌, ◌∷◌, [], begins_is, found_is}
 use Rattle.bag_text.proofs.clash.has_under.Goals as goal
 
 pub returns-in-Some : goal.returns-in-Some

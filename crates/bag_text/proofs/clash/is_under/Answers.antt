@@ -1,5 +1,4 @@
-use Rattle.bag_text.proofs.Common.{◌≡◌, ◌∙◌, sym, ap, ◌++◌, lies_under, Decides-eqb, strip_prefix_is}
-use Rattle.bag_text.proofs.Lemmas.{under_rest, not_under}
+use Rattle.bag_text.proofs.Lemmas.{◌≡◌, ◌∙◌, sym, ap, ◌++◌, lies_under, Decides-eqb, strip_prefix_is, under_rest, not_under}
 use Rattle.bag_text.proofs.clash.is_under.Goals as goal
 
 pub returns-in-Some : goal.returns-in-Some

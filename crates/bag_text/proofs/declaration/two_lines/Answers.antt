@@ -1,5 +1,4 @@
-use Rattle.bag_text.proofs.Common.{◌≡◌, refl, arith, length, nat_tests}
-use Rattle.bag_text.proofs.Lemmas.{no_lines}
+use Rattle.bag_text.proofs.Lemmas.{◌≡◌, refl, arith, length, nat_tests, no_lines}
 use Rattle.bag_text.proofs.declaration.two_lines.Goals as goal
 
 pub returns-then-is_empty-3 : goal.returns-then-is_empty-3

@@ -1,5 +1,4 @@
-use Rattle.bag_text.proofs.Common.{eqb, ◌∙◌, ap, length, rules, unwrap_or, YieldsList-from_slice, position_from_yields_List}
-use Rattle.bag_text.proofs.Lemmas.{found_or_len}
+use Rattle.bag_text.proofs.Lemmas.{eqb, ◌∙◌, ap, length, rules, unwrap_or, YieldsList-from_slice, position_from_yields_List, found_or_len}
 use Rattle.bag_text.proofs.declaration.whole_len.Goals as goal
 
 pub returns : goal.returns

@@ -1,5 +1,4 @@
-use Rattle.bag_text.proofs.Common.{◌≡◌, ◌<◌, ◌∙◌, sym, ap, subst, List, length, ℕ, arith, nat_tests, pairs_of}
-use Rattle.bag_text.proofs.Lemmas.{skipped_text, more_than_blanks, no_rest, add_continued, marked_more, pair_feed}
+use Rattle.bag_text.proofs.Lemmas.{◌≡◌, ◌<◌, ◌∙◌, sym, ap, subst, List, length, ℕ, arith, nat_tests, pairs_of, skipped_text, more_than_blanks, no_rest, add_continued, marked_more, pair_feed}
 use Rattle.bag_text.proofs.InfoLemmas.{add_blank}
 use Rattle.bag_text.proofs.info.add_line.Goals as goal
 

@@ -1,5 +1,4 @@
-use Rattle.bag_text.proofs.Common.{◌∙◌, sym, ap, List, ℕ}
-use Rattle.bag_text.proofs.Lemmas.{continued, marked_last, joined_feed}
+use Rattle.bag_text.proofs.Lemmas.{◌∙◌, sym, ap, List, ℕ, continued, marked_last, joined_feed}
 use Rattle.bag_text.proofs.info.continue_last.Goals as goal
 
 pub returns-clause-value : goal.returns-clause-value

@@ -1,5 +1,4 @@
-use Rattle.bag_text.proofs.Common.{ap, option_map}
-use Rattle.bag_text.proofs.Lemmas.{was_cut, label_text, value_text}
+use Rattle.bag_text.proofs.Lemmas.{ap, option_map, was_cut, label_text, value_text}
 use Rattle.bag_text.proofs.info.read_pair.Goals as goal
 
 -- a label is text

@@ -1,6 +1,4 @@
-use Rattle.bag_text.proofs.Common.{◌≡◌, List, length, ap, arith, err_from_is_err_and, nat_tests, lines, Kept, pairs_from, pairs_of}
-use Rattle.bag_text.proofs.Lemmas.{sound_lines, first_sound, none_marked}
-use Rattle.bag_text.proofs.InfoReadLemmas.{all_read, next_line, line_fails}
+use Rattle.bag_text.proofs.Lemmas.{◌≡◌, List, length, ap, arith, err_from_is_err_and, nat_tests, lines, Kept, pairs_from, pairs_of, sound_lines, first_sound, none_marked, all_read, next_line, line_fails}
 use Rattle.bag_text.proofs.info.read_pairs.Goals as goal
 
 pub loop-rest-init : goal.loop-rest-init

@@ -1,5 +1,4 @@
-use Rattle.bag_text.proofs.Common.{◌≡◌, ◌+◌, ◌≤◌, length, [], AllByRecursion, lines, pairs_from, pairs_of, AreMarked}
-use Rattle.bag_text.proofs.Lemmas.{IsSoundLine}
+use Rattle.bag_text.proofs.Lemmas.{◌≡◌, ◌+◌, ◌≤◌, length, [], AllByRecursion, lines, pairs_from, pairs_of, AreMarked, IsSoundLine}
 use Rattle.bag_text.proofs.info.read_pairs.Given as goal
 
 abbrev pub invariant-loop-rest : goal.invariant-loop-rest

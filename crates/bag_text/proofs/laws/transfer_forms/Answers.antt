@@ -1,6 +1,4 @@
-use Rattle.bag_text.proofs.Common.{◌∙◌, ap, set_of}
-use Rattle.bag_text.proofs.Lemmas.{set_ok, set_again, refuses}
-use Rattle.bag_text.proofs.TableLemmas.{set_fault}
+use Rattle.bag_text.proofs.Lemmas.{◌∙◌, ap, set_of, set_ok, set_again, refuses, set_fault}
 use Rattle.bag_text.proofs.laws.transfer_forms.Goals as goal
 
 pub returns-clause-read : goal.returns-clause-read

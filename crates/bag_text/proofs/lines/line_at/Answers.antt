@@ -1,5 +1,4 @@
-use Rattle.bag_text.proofs.Common.{◌≡◌, ◌∙◌, List, ℕ, ap, arith, false, length, sym, ◌==◌, slice_get, nat_tests}
-use Rattle.bag_text.proofs.Lemmas.{no_lines}
+use Rattle.bag_text.proofs.Lemmas.{◌≡◌, ◌∙◌, List, ℕ, ap, arith, false, length, sym, ◌==◌, slice_get, nat_tests, no_lines}
 use Rattle.bag_text.proofs.lines.line_at.Goals as goal
 
 pub returns-clause-found : goal.returns-clause-found

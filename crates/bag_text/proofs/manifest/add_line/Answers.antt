@@ -1,5 +1,4 @@
-use Rattle.bag_text.proofs.Common.{◌≡◌, ◌∙◌, sym, false, list_all, is_blank}
-use Rattle.bag_text.proofs.Lemmas.{added, twice}
+use Rattle.bag_text.proofs.Lemmas.{◌≡◌, ◌∙◌, sym, false, list_all, is_blank, added, twice}
 use Rattle.bag_text.proofs.manifest.add_line.Goals as goal
 
 pub returns-then-is_some : goal.returns-then-is_some

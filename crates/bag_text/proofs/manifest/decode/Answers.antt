@@ -1,5 +1,4 @@
-use Rattle.bag_text.proofs.Common.{ap, option_map, decode}
-use Rattle.bag_text.proofs.Lemmas.{step, done}
+use Rattle.bag_text.proofs.Lemmas.{ap, option_map, decode, step, done}
 use Rattle.bag_text.proofs.manifest.decode.Goals as goal
 
 pub loop-byte-preserved : goal.loop-byte-preserved

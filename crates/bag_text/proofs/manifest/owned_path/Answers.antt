@@ -1,5 +1,4 @@
-use Rattle.bag_text.proofs.Common.{◌≡◌, true, false, rules, IsUtf8-from_is_utf8, is_good}
-use Rattle.bag_text.proofs.Lemmas.{good_is_text}
+use Rattle.bag_text.proofs.Lemmas.{◌≡◌, true, false, rules, IsUtf8-from_is_utf8, is_good, good_is_text}
 use Rattle.bag_text.proofs.manifest.owned_path.Goals as goal
 
 pub returns : goal.returns

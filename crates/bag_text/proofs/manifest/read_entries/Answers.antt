@@ -1,5 +1,5 @@
 use Rattle.bag_text.proofs.Common.{◌≡◌, length, map, arith, err_from_is_err_and, nat_tests, entry_in}
-use Rattle.bag_text.proofs.Lemmas.{all_read, next_line, line_fails}
+use Rattle.bag_text.proofs.ManifestLemmas.{all_read, next_line, line_fails}
 use Rattle.bag_text.proofs.manifest.read_entries.Goals as goal
 
 pub returns-in_err-add_line : goal.returns-in_err-add_line

@@ -1,5 +1,4 @@
-use Rattle.bag_text.proofs.Common.{◌∙◌, ap, length, rules, unwrap_or, YieldsList-from_slice, position_from_yields_List, is_blank}
-use Rattle.bag_text.proofs.Lemmas.{found_or_len}
+use Rattle.bag_text.proofs.Lemmas.{◌∙◌, ap, length, rules, unwrap_or, YieldsList-from_slice, position_from_yields_List, is_blank, found_or_len}
 use Rattle.bag_text.proofs.manifest.sum_len.Goals as goal
 
 pub returns : goal.returns

@@ -1,6 +1,4 @@
-use Rattle.bag_text.proofs.Common.{[], ◌∷◌, ◌++◌, rules, comes_before, file_of}
-use Rattle.bag_text.proofs.Lemmas.{partitioned}
-use Rattle.std.proofs.lemmas.List.Sorted.{IsPartitionPoint-from_clause}
+use Rattle.bag_text.proofs.Lemmas.{[], ◌∷◌, ◌++◌, rules, comes_before, file_of, partitioned, IsPartitionPoint-from_clause}
 use Rattle.bag_text.proofs.order.count_before_folder.Goals as goal
 
 pub returns : goal.returns

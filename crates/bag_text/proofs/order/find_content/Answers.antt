@@ -1,5 +1,4 @@
-use Rattle.bag_text.proofs.Common.{◌∙◌, sym, refl}
-use Rattle.bag_text.proofs.Lemmas.{content_is}
+use Rattle.bag_text.proofs.Lemmas.{◌∙◌, sym, refl, content_is}
 use Rattle.bag_text.proofs.order.find_content.Goals as goal
 
 pub returns-in-None : goal.returns-in-None

@@ -1,6 +1,4 @@
-use Rattle.bag_text.proofs.Common.{◌∙◌, ◌<◌, sym, ap, length, arith, Less, Equal, Greater}
-use Rattle.bag_text.proofs.Lemmas.{not_longer, longer, first_before_slash}
-use Rattle.std.specs.Prelude.{not}
+use Rattle.bag_text.proofs.Lemmas.{◌∙◌, ◌<◌, sym, ap, length, arith, Less, Equal, Greater, not_longer, longer, first_before_slash, not}
 use Rattle.bag_text.proofs.order.is_before_folder.Goals as goal
 
 pub returns-then-path-folder : goal.returns-then-path-folder

@@ -1,5 +1,4 @@
-use Rattle.bag_text.proofs.Common.{files_of}
-use Rattle.bag_text.proofs.Lemmas.{made_bag}
+use Rattle.bag_text.proofs.Lemmas.{files_of, made_bag}
 use Rattle.bag_text.proofs.set.make.Goals as goal
 
 -- what was made is a bag

@@ -1,6 +1,4 @@
-use Rattle.bag_text.proofs.Common.{◌∙◌, ap, subst, Gives, named_set_fault, set_of}
-use Rattle.bag_text.proofs.Lemmas.{is_found, set_again, refuses}
-use Rattle.bag_text.proofs.TableLemmas.{is_fault}
+use Rattle.bag_text.proofs.Lemmas.{◌∙◌, ap, subst, Gives, named_set_fault, set_of, is_found, set_again, refuses, is_fault}
 use Rattle.bag_text.proofs.set.read_bagset.Goals as goal
 
 pub returns-clause-found : goal.returns-clause-found

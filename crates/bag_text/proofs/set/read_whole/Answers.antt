@@ -1,5 +1,4 @@
-use Rattle.bag_text.proofs.Common.{files_of}
-use Rattle.bag_text.proofs.Lemmas.{set_ok}
+use Rattle.bag_text.proofs.Lemmas.{files_of, set_ok}
 use Rattle.bag_text.proofs.set.read_whole.Goals as goal
 
 -- what was read is a bag

@@ -1,5 +1,4 @@
-use Rattle.bag_text.proofs.Common.{◌∙◌}
-use Rattle.bag_text.proofs.Lemmas.{utf8_answer}
+use Rattle.bag_text.proofs.Lemmas.{◌∙◌, utf8_answer}
 use Rattle.bag_text.proofs.text.is_text.Goals as goal
 
 pub returns : goal.returns

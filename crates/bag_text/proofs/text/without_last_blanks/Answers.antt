@@ -1,5 +1,4 @@
-use Rattle.bag_text.proofs.Common.{◌∙◌, sym, arith}
-use Rattle.bag_text.proofs.Lemmas.{blank_at_end, no_blank_at_end}
+use Rattle.bag_text.proofs.Lemmas.{◌∙◌, sym, arith, blank_at_end, no_blank_at_end}
 use Rattle.bag_text.proofs.text.without_last_blanks.Goals as goal
 
 pub loop-rest-preserved : goal.loop-rest-preserved

@@ -1,5 +1,4 @@
-use Rattle.bag_text.proofs.Common.{◌∙◌, sym, arith}
-use Rattle.bag_text.proofs.SetLemmas.{literal_short}
+use Rattle.bag_text.proofs.Lemmas.{◌∙◌, sym, arith, literal_short}
 use Rattle.bag_text.proofs.transfer.literal.Goals as goal
 
 pub returns-in-empty : goal.returns-in-empty

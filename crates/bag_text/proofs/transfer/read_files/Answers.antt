@@ -1,5 +1,4 @@
-use Rattle.bag_text.proofs.Common.{[], ◌∙◌, ap, option_map, err_from_is_err_and, map_push, files_of, file_of, files_at, max_files}
-use Rattle.bag_text.proofs.SetLemmas.{goes_on, ends, is_done}
+use Rattle.bag_text.proofs.Lemmas.{[], ◌∙◌, ap, option_map, err_from_is_err_and, map_push, files_of, file_of, files_at, max_files, goes_on, ends, is_done}
 use Rattle.bag_text.proofs.transfer.read_files.Goals as goal
 
 pub returns-in_err-file : goal.returns-in_err-file

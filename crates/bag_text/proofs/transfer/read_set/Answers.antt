@@ -1,5 +1,4 @@
-use Rattle.bag_text.proofs.Common.{[], List, length, sym, ap, subst, File, Ascends, max_files, files_of}
-use Rattle.bag_text.proofs.Lemmas.{files_ok}
+use Rattle.bag_text.proofs.Lemmas.{[], List, length, sym, ap, subst, File, Ascends, max_files, files_of, files_ok}
 use Rattle.bag_text.proofs.transfer.read_set.Goals as goal
 
 -- the files that were read ascend

@@ -1,5 +1,4 @@
-use Rattle.bag_text.proofs.Common.{files_of}
-use Rattle.bag_text.proofs.WriteLemmas.{reads_back, writes_back}
+use Rattle.bag_text.proofs.Lemmas.{files_of, reads_back, writes_back}
 use Rattle.bag_text.proofs.write.write_bagset.Goals as goal
 
 pub returns-clause-read : goal.returns-clause-read

@@ -1,5 +1,4 @@
-use Rattle.bag_text.proofs.Common.{◌++◌, flat_map, entry, file_of, files_of}
-use Rattle.bag_text.proofs.WriteLemmas.{wrote_more, wrote_all}
+use Rattle.bag_text.proofs.Lemmas.{◌++◌, flat_map, entry, file_of, files_of, wrote_more, wrote_all}
 use Rattle.bag_text.proofs.write.write_entries.Goals as goal
 
 pub loop-file-preserved : goal.loop-file-preserved

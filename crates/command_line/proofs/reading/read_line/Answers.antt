@@ -1,4 +1,4 @@
-use Rattle.bag_text.specs.Text.{texts}
+use Rattle.command_line.proofs.Common.{texts}
 use Rattle.command_line.proofs.OneLineLemmas.{only_line}
 use Rattle.command_line.proofs.PlainLineLemmas.{plain_is_read}
 use Rattle.command_line.proofs.reading.read_line.Goals as goal

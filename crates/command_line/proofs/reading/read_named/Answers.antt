@@ -1,5 +1,4 @@
-use Rattle.bag_text.specs.Text.{texts}
-use Rattle.command_line.specs.CommandBuilding.{command_for}
+use Rattle.command_line.proofs.Common.{texts, command_for}
 use Rattle.command_line.proofs.LineLemmas.{lines_asked, none_made, refused_by_clap, same_command}
 use Rattle.command_line.proofs.reading.read_named.Goals as goal
 

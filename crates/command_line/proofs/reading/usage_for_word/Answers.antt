@@ -1,4 +1,4 @@
-use Rattle.std.proofs.Common.{sym}
+use Rattle.command_line.proofs.Common.{sym}
 use Rattle.command_line.specs.declared.version.TheConstants.{VERSION}
 use Rattle.command_line.proofs.LineLemmas.{named_usage}
 use Rattle.command_line.proofs.reading.usage_for_word.Goals as goal

@@ -1,7 +1,5 @@
-use Rattle.std.proofs.Common.{◌+◌, ◌≡◌, ◌∙◌, ℕ, List, length, take, sym, subst, arith, ap}
+use Rattle.command_line.proofs.Common.{◌+◌, ◌≡◌, ◌∙◌, ℕ, List, length, take, sym, subst, arith, ap, Arg, AreReadBy, rules_for}
 use Rattle.std.proofs.Math.Seq.{take-length}
-use Rattle.clap.specs.declared.builder.arg.Arg.{Arg}
-use Rattle.command_line.specs.CommandBuilding.{AreReadBy, rules_for}
 use Rattle.command_line.proofs.CommandBuildingLemmas.{rules_so_far}
 use Rattle.command_line.proofs.words.args_of.Goals as goal
 

@@ -1,5 +1,4 @@
-use Rattle.std.proofs.Common.{take}
-use Rattle.command_line.specs.CommandBuilding.{AreReadBy, rules_for}
+use Rattle.command_line.proofs.Common.{take, AreReadBy, rules_for}
 use Rattle.command_line.proofs.words.args_of.Given as goal
 
 abbrev pub invariant-loop-argument : goal.invariant-loop-argument

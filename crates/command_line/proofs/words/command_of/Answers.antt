@@ -1,10 +1,6 @@
-use Rattle.std.proofs.Common.{◌∙◌, ap}
+use Rattle.command_line.proofs.Common.{◌∙◌, ap, AddsArg, AddsInTurn, app_of_fields, Command, TakesArguments, rules_for}
 use Rattle.std.proofs.lemmas.Result.{IfOk-weaker}
-use Rattle.clap.specs.Words.{AddsArg, AddsInTurn}
-use Rattle.clap.specs.Simple.{app_of_fields}
-use Rattle.clap.specs.declared.builder.command.Command.{Command}
 use Rattle.clap.specs.declared.builder.command.Command.TheOpen.{Command-F}
-use Rattle.command_line.specs.CommandBuilding.{TakesArguments, rules_for}
 use Rattle.command_line.proofs.words.command_of.Goals as goal
 
 -- the help text and the name in usage change nothing that clap reads of a command

@@ -1,5 +1,4 @@
-use Rattle.bag_text.specs.Text.{texts}
-use Rattle.command_line.specs.CommandBuilding.{command_for, rules_for}
+use Rattle.command_line.proofs.Common.{texts, command_for, rules_for}
 use Rattle.command_line.proofs.CommandBuildingLemmas.{fails_by_words, given_by_words, values_by_words, wanted_app}
 use Rattle.command_line.proofs.words.matches_of.Goals as goal
 

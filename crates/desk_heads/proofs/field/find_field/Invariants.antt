@@ -1,6 +1,5 @@
-use Rattle.std.proofs.Common.{◌≡◌, map, take}
+use Rattle.desk_heads.proofs.Common.{◌≡◌, map, take, occurrence_of, values_among}
 use Rattle.httparse.specs.Spans.{header_bytes}
-use Rattle.desk_heads.specs.Fields.{occurrence_of, values_among}
 use Rattle.desk_heads.specs.View.{occurrence_seen}
 use Rattle.desk_heads.proofs.field.find_field.Given as goal
 

@@ -1,4 +1,4 @@
-use Rattle.std.proofs.Common.{IsUtf8, codes, sym, ◌∙◌, subst}
+use Rattle.desk_heads.proofs.Common.{IsUtf8, codes, sym, ◌∙◌, subst}
 use Rattle.std.proofs.lemmas.Result.{err_from_is_err_and}
 use Rattle.desk_heads.proofs.HeadLemmas.{token_is_text}
 use Rattle.desk_heads.proofs.StepLemmas.{found, refused_encoding, refused_length, refused_caller, taken}

@@ -1,6 +1,4 @@
-use Rattle.std.proofs.Common.{◌≡◌, ℕ, List, Bool, true, false, refl, None, IsUtf8}
-use Rattle.office_core.specs.Names.{is_name}
-use Rattle.office_core.specs.FirstOf.{answer_if}
+use Rattle.desk_heads.proofs.Common.{◌≡◌, ℕ, List, Bool, true, false, refl, None, IsUtf8, is_name, answer_if}
 use Rattle.desk_heads.proofs.HeadLemmas.{name_is_text}
 use Rattle.desk_heads.proofs.head.name_of.Goals as goal
 

@@ -1,6 +1,4 @@
-use Rattle.std.proofs.Common.{sym, ap, ◌∙◌}
-use Rattle.std.proofs.lemmas.List.{take_rest}
-use Rattle.desk_heads.specs.Ends.{end_after_line_feed}
+use Rattle.desk_heads.proofs.Common.{sym, ap, ◌∙◌, take_rest, end_after_line_feed}
 use Rattle.desk_heads.proofs.EndLemmas.{one_later, this_end, no_end}
 use Rattle.desk_heads.proofs.place.end_of_head.Goals as goal
 

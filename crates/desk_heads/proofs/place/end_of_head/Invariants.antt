@@ -1,6 +1,4 @@
-use Rattle.std.proofs.Common.{◌≡◌, ◌+◌, drop}
-use Rattle.std.specs.Prelude.{option_map}
-use Rattle.desk_heads.specs.Ends.{head_end}
+use Rattle.desk_heads.proofs.Common.{◌≡◌, ◌+◌, drop, option_map, head_end}
 use Rattle.desk_heads.proofs.place.end_of_head.Given as goal
 
 -- the end of the whole is that of what is left

@@ -1,5 +1,4 @@
-use Rattle.std.proofs.Common.{arith}
-use Rattle.std.proofs.lemmas.Grind.{common_steps}
+use Rattle.desk_heads.proofs.Common.{arith, common_steps}
 use Rattle.desk_heads.proofs.EndLemmas.{place_found, place_none}
 use Rattle.desk_heads.proofs.place.place_of_head.Goals as goal
 

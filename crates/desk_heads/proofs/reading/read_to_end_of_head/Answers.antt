@@ -1,6 +1,4 @@
-use Rattle.std.proofs.Common.{sym, ap, ◌∙◌, arith}
-use Rattle.desk_heads.specs.Ends.{head_at}
-use Rattle.desk_heads.specs.declared.place.HeadPlace.TheVariants.{TooLarge, Found}
+use Rattle.desk_heads.proofs.Common.{sym, ap, ◌∙◌, arith, head_at, TooLarge, Found}
 use Rattle.desk_heads.proofs.EndLemmas.{short_room, whole_head, smaller_by, found_within}
 use Rattle.desk_heads.proofs.reading.read_to_end_of_head.Goals as goal
 

@@ -1,7 +1,5 @@
-use Rattle.std.proofs.Common.{◌≡◌, ◌-◌, length}
-use Rattle.std.specs.Io.KnownBytes.{Consumes}
+use Rattle.desk_heads.proofs.Common.{◌≡◌, ◌-◌, length, Consumes, max_head}
 use Rattle.desk_devices.specs.Devices.{device_of, failures_of}
-use Rattle.desk_heads.specs.Bounds.{max_head}
 use Rattle.desk_heads.proofs.reading.read_to_end_of_head.Given as goal
 
 -- what came stands in bytes, and no call has failed

@@ -1,7 +1,5 @@
-use Rattle.std.proofs.Common.{ℕ, false, List, ◌≡◌, ◌∙◌, sym, ap, length, nat_lt, arith}
-use Rattle.std.specs.Prelude.{codes}
+use Rattle.fault_words.proofs.Common.{ℕ, false, List, ◌≡◌, ◌∙◌, sym, ap, length, nat_lt, arith, codes, nat_tests}
 use Rattle.std.proofs.lemmas.List.{at_drop_all, take_rest}
-use Rattle.std.proofs.lemmas.Bool.Decides.{nat_tests}
 use Rattle.fault_words.specs.OtherFiles.{begins}
 use Rattle.fault_words.proofs.other_file.has_tar_mark.Goals as goal
 

@@ -1,4 +1,4 @@
-use Rattle.std.proofs.Common.{◌∙◌, sym}
+use Rattle.fault_words.proofs.Common.{◌∙◌, sym}
 use Rattle.fault_words.proofs.FormLemmas.{compared}
 use Rattle.fault_words.proofs.path_note.differs_by_form.Goals as goal
 

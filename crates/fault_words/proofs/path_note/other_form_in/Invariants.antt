@@ -1,6 +1,5 @@
-use Rattle.std.proofs.Common.{◌≡◌, drop}
+use Rattle.fault_words.proofs.Common.{◌≡◌, drop, other_form}
 use Rattle.bag_text.specs.TransferReading.{files_of}
-use Rattle.fault_words.specs.PathNotes.{other_form}
 use Rattle.fault_words.proofs.path_note.other_form_in.Given as goal
 
 abbrev pub invariant-loop-file : goal.invariant-loop-file

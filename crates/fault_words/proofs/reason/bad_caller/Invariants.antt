@@ -1,7 +1,4 @@
-use Rattle.std.proofs.Common.{◌≡◌}
-use Rattle.toml.specs.View.{members_view}
-use Rattle.office_core.specs.Policies.{entries}
-use Rattle.fault_words.specs.PolicyReasons.{bad_caller}
+use Rattle.fault_words.proofs.Common.{◌≡◌, members_view, entries, bad_caller}
 use Rattle.fault_words.proofs.reason.bad_caller.Given as goal
 
 abbrev pub invariant-loop-name : goal.invariant-loop-name

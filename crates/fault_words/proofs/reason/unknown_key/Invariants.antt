@@ -1,6 +1,4 @@
-use Rattle.std.proofs.Common.{◌≡◌}
-use Rattle.toml.specs.View.{members_view}
-use Rattle.fault_words.specs.PolicyReasons.{unknown_key}
+use Rattle.fault_words.proofs.Common.{◌≡◌, members_view, unknown_key}
 use Rattle.fault_words.proofs.reason.unknown_key.Given as goal
 
 abbrev pub invariant-loop-key : goal.invariant-loop-key

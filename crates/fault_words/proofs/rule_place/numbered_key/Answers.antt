@@ -1,9 +1,4 @@
-use Rattle.std.proofs.Common.{rules, ◌≡◌, ◌≢◌, ◌∙◌, ◌-◌, ◌<◌, ◌≤◌, suc, List, Some, None, ap, arith, length, sym, slice_index_or}
-use Rattle.std.proofs.lemmas.Option.{slice_get-get_or, slice_get_past}
-use Rattle.toml.specs.View.{items_view}
-use Rattle.toml.specs.declared.value.Value.{Value}
-use Rattle.office_core.specs.Policies.{elements}
-use Rattle.fault_words.specs.PolicyReasons.{numbered_key}
+use Rattle.fault_words.proofs.Common.{rules, ◌≡◌, ◌≢◌, ◌∙◌, ◌-◌, ◌<◌, ◌≤◌, suc, List, Some, None, ap, arith, length, sym, slice_index_or, slice_get-get_or, slice_get_past, items_view, Value, elements, numbered_key}
 use Rattle.fault_words.proofs.RulePlaces.{key_at}
 use Rattle.fault_words.proofs.rule_place.numbered_key.Goals as goal
 

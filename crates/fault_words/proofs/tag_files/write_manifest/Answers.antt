@@ -1,5 +1,4 @@
-use Rattle.std.proofs.Common.{append_assoc}
-use Rattle.std.proofs.Output.{has_written_of_eq}
+use Rattle.fault_words.proofs.Common.{append_assoc, has_written_of_eq}
 use Rattle.fault_words.proofs.tag_files.write_manifest.Goals as goal
 
 pub returns-in-BadChecksum : goal.returns-in-BadChecksum

@@ -1,5 +1,4 @@
-use Rattle.std.proofs.Common.{arith}
-use Rattle.fault_words.proofs.TomlLines.{empty_is_toml}
+use Rattle.fault_words.proofs.Lemmas.{arith, empty_is_toml}
 use Rattle.fault_words.proofs.toml_line.breaking_line.Goals as goal
 
 pub loop-good-init : goal.loop-good-init

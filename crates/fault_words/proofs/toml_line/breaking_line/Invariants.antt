@@ -1,5 +1,4 @@
-use Rattle.std.proofs.Common.{◌≡◌, ◌<◌, ◌-◌, true, false}
-use Rattle.fault_words.specs.PolicyReasons.{first_lines, is_toml}
+use Rattle.fault_words.proofs.Common.{◌≡◌, ◌<◌, ◌-◌, true, false, first_lines, is_toml}
 use Rattle.fault_words.proofs.toml_line.breaking_line.Given as goal
 
 abbrev pub invariant-loop-good : goal.invariant-loop-good

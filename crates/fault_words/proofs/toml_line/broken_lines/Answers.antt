@@ -1,6 +1,4 @@
-use Rattle.std.proofs.Common.{rules, ◌≡◌, ◌∙◌, ◌≤◌, false, length, ap, arith}
-use Rattle.fault_words.specs.PolicyReasons.{first_lines, is_toml}
-use Rattle.fault_words.proofs.TomlLines.{broken_lines_are_some, first_lines-all}
+use Rattle.fault_words.proofs.Lemmas.{rules, ◌≡◌, ◌∙◌, ◌≤◌, false, length, ap, arith, first_lines, is_toml, broken_lines_are_some, first_lines-all}
 use Rattle.fault_words.proofs.toml_line.broken_lines.Goals as goal
 
 pub returns-then-branch-clause-broken : goal.returns-then-branch-clause-broken

@@ -1,6 +1,4 @@
-use Rattle.std.proofs.Common.{rules, ◌≡◌, ◌∙◌, ◌++◌, drop, take, ap, sym, append-nil}
-use Rattle.fault_words.specs.PolicyReasons.{first_lines}
-use Rattle.fault_words.proofs.TomlLines.{first_lines-zero}
+use Rattle.fault_words.proofs.Lemmas.{rules, ◌≡◌, ◌∙◌, ◌++◌, drop, take, ap, sym, append-nil, first_lines, first_lines-zero}
 use Rattle.fault_words.proofs.toml_line.first_lines.Goals as goal
 
 pub returns-then-left-eq0 : goal.returns-then-left-eq0

@@ -1,5 +1,4 @@
-use Rattle.std.proofs.Common.{◌≡◌, ◌++◌, take, drop}
-use Rattle.fault_words.specs.PolicyReasons.{first_lines}
+use Rattle.fault_words.proofs.Common.{◌≡◌, ◌++◌, take, drop, first_lines}
 use Rattle.fault_words.proofs.toml_line.first_lines.Given as goal
 
 abbrev pub invariant-loop-place : goal.invariant-loop-place

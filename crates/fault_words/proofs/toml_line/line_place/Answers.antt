@@ -1,9 +1,4 @@
-use Rattle.std.proofs.Common.{rules, ◌≡◌, ◌∙◌, None, ap, refl}
-use Rattle.toml.specs.Parse.{parse_document}
-use Rattle.toml.specs.View.{table_view}
-use Rattle.std.proofs.lemmas.Str.{is_utf8-from_IsUtf8}
-use Rattle.fault_words.specs.PolicyReasons.{line_at, line_words, no_text, no_toml, toml}
-use Rattle.fault_words.proofs.TomlLines.{no_text_test, text_is_no_toml, text_is_toml}
+use Rattle.fault_words.proofs.Lemmas.{rules, ◌≡◌, ◌∙◌, None, ap, refl, parse_document, table_view, is_utf8-from_IsUtf8, line_at, line_words, no_text, no_toml, toml, no_text_test, text_is_no_toml, text_is_toml}
 use Rattle.fault_words.proofs.toml_line.line_place.Goals as goal
 
 pub returns-in-Err : goal.returns-in-Err

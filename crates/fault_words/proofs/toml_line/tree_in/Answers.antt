@@ -1,6 +1,5 @@
-use Rattle.std.proofs.Common.{rules, ◌∙◌, sym}
+use Rattle.fault_words.proofs.Lemmas.{rules, ◌∙◌, sym, no_tree, tree_of_text}
 use Rattle.toml.specs.Errors.{IsMemory}
-use Rattle.fault_words.proofs.TomlLines.{no_tree, tree_of_text}
 use Rattle.fault_words.proofs.toml_line.tree_in.Goals as goal
 
 pub returns-in-Ok : goal.returns-in-Ok

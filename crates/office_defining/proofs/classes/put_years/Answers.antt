@@ -1,15 +1,5 @@
-use Rattle.std.proofs.Common.{rules, w64, ◌≡◌, Some, ap}
-use mir.Val.{SFits}
-use Rattle.std.proofs.lemmas.Int.{to_z-of_z}
-use Rattle.std.proofs.lemmas.Result.{on_ok_weaker}
-use Rattle.sqlite.specs.Held.{state}
-use Rattle.office_rows.specs.Rows.{with_class}
-use Rattle.office_rows.specs.Told.{class_closings}
-use Rattle.office_tables.specs.Tables.{tables_of}
-use Rattle.office_tables.proofs.InTurn.{inside_then}
-use Rattle.office_history.specs.Pictures.{years_number}
-use Rattle.office_by_rows.specs.Changes.{with_due_days, with_years}
-use Rattle.office_asking.proofs.ServedBy.{changed_as, changes_by, changes_then}
+use Rattle.office_defining.proofs.Common.{rules, w64, ◌≡◌, Some, ap, SFits, to_z-of_z, on_ok_weaker, state, with_class, class_closings, tables_of, inside_then, years_number, with_due_days, changed_as, changes_by, changes_then}
+use Rattle.office_by_rows.specs.Changes.{with_years}
 use Rattle.office_defining.proofs.DueDaysByRows.{closings_still}
 use Rattle.office_defining.proofs.classes.put_years.Goals as goal
 

@@ -1,16 +1,6 @@
-use Rattle.std.proofs.Common.{◌≡◌, rules, IsTrue, Ok, List, refl, sym, ap, subst, ◌∙◌, ◌+◌, take, [], ◌∷◌, ◌++◌}
+use Rattle.office_defining.proofs.Common.{◌≡◌, rules, IsTrue, Ok, List, refl, sym, ap, subst, ◌∙◌, ◌+◌, take, [], ◌∷◌, ◌++◌, on_ok_weaker, state, ClosingRow, GoesOnInTurn, tables_of, TableFault, in_turn, none_called, turn_next, turn_then, with_due_days, Changes, changed_as, changes_next, unchanged_by}
 use Rattle.std.proofs.lemmas.List.{take_all, take_more}
-use Rattle.std.proofs.lemmas.Result.{on_ok_weaker}
-use Rattle.sqlite.specs.Held.{state}
 use Rattle.sqlite.specs.declared.transaction.Transaction.{Transaction}
-use Rattle.office_rows.specs.Told.{ClosingRow}
-use Rattle.office_tables.specs.Calls.{GoesOnInTurn}
-use Rattle.office_tables.specs.Tables.{tables_of}
-use Rattle.office_tables.specs.declared.fault.TableFault.{TableFault}
-use Rattle.office_tables.proofs.InTurn.{in_turn, none_called, turn_next, turn_then}
-use Rattle.office_by_rows.specs.Changes.{with_due_days}
-use Rattle.office_asking.specs.Serving.{Changes}
-use Rattle.office_asking.proofs.ServedBy.{changed_as, changes_next, unchanged_by}
 use Rattle.office_defining.proofs.DueDaysByRows.{begins, days_with_series, goes_on, with_series}
 use Rattle.office_defining.proofs.classes.set_by_series.Goals.{then-not-follows+in_ok-set_series, else-not-follows}
 use Rattle.office_defining.proofs.classes.set_by_series.Goals as goal

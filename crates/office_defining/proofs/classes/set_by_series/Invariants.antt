@@ -1,8 +1,4 @@
-use Rattle.std.proofs.Common.{Ok, take, ◌∷◌}
-use Rattle.office_tables.specs.Calls.{GoesOnInTurn}
-use Rattle.office_tables.specs.declared.fault.TableFault.{TableFault}
-use Rattle.office_by_rows.specs.Changes.{with_due_days}
-use Rattle.office_asking.specs.Serving.{Changes}
+use Rattle.office_defining.proofs.Common.{Ok, take, ◌∷◌, GoesOnInTurn, TableFault, with_due_days, Changes}
 use Rattle.office_defining.proofs.DueDaysByRows.{EndsInSeries}
 use Rattle.office_defining.proofs.classes.set_by_series.Given as goal
 

@@ -1,12 +1,4 @@
-use Rattle.std.proofs.Common.{rules, ◌≡◌, ap}
-use Rattle.std.proofs.lemmas.Result.{on_ok_weaker}
-use Rattle.sqlite.specs.Held.{state}
-use Rattle.office_rows.specs.Told.{class_closings}
-use Rattle.office_tables.specs.Tables.{tables_of}
-use Rattle.office_tables.proofs.InTurn.{clean_first}
-use Rattle.office_by_rows.specs.Changes.{with_due_days}
-use Rattle.office_asking.proofs.RowsTold.{office_still}
-use Rattle.office_asking.proofs.ServedBy.{changed_after, changed_as}
+use Rattle.office_defining.proofs.Common.{rules, ◌≡◌, ap, on_ok_weaker, state, class_closings, tables_of, clean_first, with_due_days, office_still, changed_after, changed_as}
 use Rattle.office_defining.proofs.classes.set_days_of_class.Goals as goal
 
 pub returns-clause-changes : goal.returns-clause-changes

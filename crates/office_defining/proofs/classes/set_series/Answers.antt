@@ -1,17 +1,6 @@
-use Rattle.std.proofs.Common.{rules, ◌≡◌, w64, pos, Some, Ok, option_map, ap, ◌∙◌}
-use mir.Val.{SFits}
+use Rattle.office_defining.proofs.Common.{rules, ◌≡◌, w64, pos, Some, Ok, option_map, ap, ◌∙◌, SFits, to_z-of_z, on_ok_weaker, state, due_number, due_of, Tables, with_dues, tables_of, day_numbered, there_is, changed_as, changes_by}
 use Rattle.std.specs.Option.{ok_or}
-use Rattle.std.proofs.lemmas.Int.{to_z-of_z}
-use Rattle.std.proofs.lemmas.Result.{on_ok_weaker}
-use Rattle.sqlite.specs.Held.{state}
-use Rattle.office_core.specs.Retention.{due_number}
-use Rattle.office_core.specs.RetentionReading.{due_of}
-use Rattle.office_rows.specs.Rows.{Tables, with_dues}
-use Rattle.office_tables.specs.Tables.{tables_of}
 use Rattle.office_tables.specs.declared.fault.TableFault.TheVariants.{Store}
-use Rattle.office_by_rows.specs.Values.{day_numbered}
-use Rattle.office_asking.proofs.RowsTold.{there_is}
-use Rattle.office_asking.proofs.ServedBy.{changed_as, changes_by}
 use Rattle.office_defining.proofs.DueDaysByRows.{with_series}
 use Rattle.office_defining.proofs.classes.set_series.Goals as goal
 

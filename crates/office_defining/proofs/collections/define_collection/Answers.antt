@@ -1,12 +1,6 @@
-use Rattle.std.proofs.Common.{rules, ◌≡◌, ap, sym, Some, None, ◌∷◌, [], refl}
+use Rattle.office_defining.proofs.Common.{rules, ◌≡◌, ap, sym, Some, None, ◌∷◌, [], refl, with_collection, clean_first, inside_after, inside_failed, first_told, visit_on, office_still, allowed_by, changes_by, refused_by}
 use Rattle.office_core.specs.declared.request.Request.TheVariants as requests
 use Rattle.office_core.specs.declared.answer.Answer.TheVariants as answers
-use Rattle.office_rows.specs.Rows.{with_collection}
-use Rattle.office_tables.proofs.InTurn.{clean_first, inside_after, inside_failed}
-use Rattle.office_by_rows.specs.Refusals.{first_told}
-use Rattle.office_asking.specs.Asking.{visit_on}
-use Rattle.office_asking.proofs.RowsTold.{office_still}
-use Rattle.office_asking.proofs.ServedBy.{allowed_by, changes_by, refused_by}
 use Rattle.office_defining.proofs.collections.define_collection.Goals as goal
 
 pub returns-in-Some-clause-serves : goal.returns-in-Some-clause-serves

@@ -1,5 +1,4 @@
-use Rattle.std.proofs.Common.{◌≡◌, map, take}
-use Rattle.office_history.specs.Pictures.{caller_row}
+use Rattle.office_defining.proofs.Common.{◌≡◌, map, take, caller_row}
 use Rattle.office_defining.proofs.policy.caller_rows.Given as goal
 
 abbrev pub invariant-loop-caller : goal.invariant-loop-caller

@@ -1,7 +1,4 @@
-use Rattle.std.proofs.Common.{rules, ◌≡◌, map}
-use Rattle.office_history.specs.Pictures.{caller_row, rule_rows}
-use Rattle.office_by_rows.specs.Changes.{installed}
-use Rattle.office_asking.proofs.ServedBy.{changes_by}
+use Rattle.office_defining.proofs.Common.{rules, ◌≡◌, map, caller_row, rule_rows, installed, changes_by}
 use Rattle.office_defining.proofs.policy.install.Goals as goal
 
 pub returns-clause-changes : goal.returns-clause-changes

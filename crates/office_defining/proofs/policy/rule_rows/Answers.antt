@@ -1,5 +1,4 @@
-use Rattle.std.proofs.Common.{rules, ◌≡◌, ◌++◌, ◌∷◌, [], ◌∙◌, take}
-use Rattle.office_history.specs.Pictures.{rule_row, rule_rows}
+use Rattle.office_defining.proofs.Common.{rules, ◌≡◌, ◌++◌, ◌∷◌, [], ◌∙◌, take, rule_row, rule_rows}
 use Rattle.office_defining.proofs.RuleRows.{more_rows}
 use Rattle.office_defining.proofs.policy.rule_rows.Goals as goal
 

@@ -1,5 +1,4 @@
-use Rattle.std.proofs.Common.{◌≡◌, ◌+◌, take}
-use Rattle.office_history.specs.Pictures.{rule_rows}
+use Rattle.office_defining.proofs.Common.{◌≡◌, ◌+◌, take, rule_rows}
 use Rattle.office_defining.proofs.policy.rule_rows.Given as goal
 
 abbrev pub invariant-loop-rule : goal.invariant-loop-rule

@@ -1,10 +1,4 @@
-use Rattle.std.proofs.Common.{rules, ◌≡◌, true, false, ◌∙◌, Some}
-use Rattle.office_tables.proofs.InTurn.{clean_first, inside_after}
-use Rattle.office_asking.specs.Asking.{visit_on}
-use Rattle.office_asking.specs.Told.{held_target}
-use Rattle.office_asking.proofs.RowsTold.{office_still, told_before}
-use Rattle.office_holding.specs.Targets.{denial_of_name}
-use Rattle.office_holding.proofs.Denied.{no_name, of_name, tables_before}
+use Rattle.office_holding.proofs.Lemmas.{rules, ◌≡◌, true, false, ◌∙◌, Some, clean_first, inside_after, visit_on, held_target, office_still, told_before, denial_of_name, no_name, of_name, tables_before}
 use Rattle.office_holding.proofs.asking.name_denial.Goals as goal
 
 pub returns-then-not-branch-clause-reads : goal.returns-then-not-branch-clause-reads

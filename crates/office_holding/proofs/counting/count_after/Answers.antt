@@ -1,13 +1,4 @@
-use Rattle.std.proofs.Common.{rules, ◌≡◌, w64, pos, sym, ◌∙◌}
-use mir.Val.{SFits}
-use Rattle.std.proofs.lemmas.Int.{to_z-of_z}
-use Rattle.std.proofs.lemmas.Result.{IfOk-weaker}
-use Rattle.office_rows.specs.Rows.{due_numbered}
-use Rattle.office_tables.specs.declared.fault.TableFault.TheVariants.{Store}
-use Rattle.office_tables.proofs.InTurn.{clean_first, inside_after, inside_failed}
-use Rattle.office_asking.proofs.RowsTold.{there_is, office_still, told_before}
-use Rattle.office_holding.proofs.Denied.{tables_before}
-use Rattle.office_holding.proofs.Counted.{counted_told}
+use Rattle.office_holding.proofs.Lemmas.{rules, ◌≡◌, w64, pos, sym, ◌∙◌, SFits, to_z-of_z, IfOk-weaker, due_numbered, Store, clean_first, inside_after, inside_failed, there_is, office_still, told_before, tables_before, counted_told}
 use Rattle.office_holding.proofs.counting.count_after.Goals as goal
 
 pub returns-clause-inside : goal.returns-clause-inside

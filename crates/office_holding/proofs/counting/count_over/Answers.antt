@@ -1,10 +1,5 @@
-use Rattle.std.proofs.Common.{ap, sym, subst, w64}
-use Rattle.std.proofs.lemmas.Int.{to_z-of_z}
-use Rattle.office_rows.specs.Rows.{with_more_holds, with_more_holds_class}
-use Rattle.office_by_rows.specs.Changes.{counted_over}
+use Rattle.office_holding.proofs.Common.{ap, sym, subst, w64, to_z-of_z, with_more_holds, with_more_holds_class, counted_over, held_target, changes_by}
 use Rattle.office_asking.specs.Serving.{Changes}
-use Rattle.office_asking.specs.Told.{held_target}
-use Rattle.office_asking.proofs.ServedBy.{changes_by}
 use Rattle.office_holding.proofs.counting.count_over.Goals as goal
 
 pub returns-in-Collection-clause-changes : goal.returns-in-Collection-clause-changes

@@ -1,12 +1,4 @@
-use Rattle.std.proofs.Common.{rules, w64, sym, Some, pos}
-use mir.Val.{SFits}
-use Rattle.std.proofs.lemmas.Int.{to_z-of_z}
-use Rattle.std.proofs.lemmas.Result.{on_ok_weaker}
-use Rattle.office_rows.specs.Rows.{with_holds}
-use Rattle.office_tables.proofs.InTurn.{clean_first, inside_then}
-use Rattle.office_by_rows.specs.Changes.{counted_on}
-use Rattle.office_asking.proofs.RowsTold.{office_still}
-use Rattle.office_asking.proofs.ServedBy.{changed_after, changed_as, changes_by}
+use Rattle.office_holding.proofs.Common.{rules, w64, sym, Some, pos, SFits, to_z-of_z, on_ok_weaker, with_holds, clean_first, inside_then, counted_on, office_still, changed_after, changed_as, changes_by}
 use Rattle.office_holding.proofs.counting.count_over_deposit.Goals as goal
 
 pub returns-clause-inside : goal.returns-clause-inside

@@ -1,16 +1,5 @@
-use Rattle.std.proofs.Common.{rules, ◌≡◌, ◌∙◌, ap, subst, pos, refl, Some, IfOk}
-use Rattle.std.specs.Result.{result_err}
+use Rattle.office_holding.proofs.Lemmas.{rules, ◌≡◌, ◌∙◌, ap, subst, pos, refl, Some, IfOk, result_err, Tables, with_hold, clean_first, inside_after, inside_failed, allowed_rows, counted_over, new_hold, highest_hold, number_after, visit_on, held_target, office_still, allowed_by, changed_after, changed_as, refused_by, hold_request, hold_answered, hold_refused, hold_rows, tables_before}
 use Rattle.office_core.specs.declared.answer.Answer.TheVariants as answers
-use Rattle.office_rows.specs.Rows.{Tables, with_hold}
-use Rattle.office_tables.proofs.InTurn.{clean_first, inside_after, inside_failed}
-use Rattle.office_by_rows.specs.Changes.{allowed_rows, counted_over, new_hold}
-use Rattle.office_by_rows.specs.Refusals.{highest_hold, number_after}
-use Rattle.office_asking.specs.Asking.{visit_on}
-use Rattle.office_asking.specs.Told.{held_target}
-use Rattle.office_asking.proofs.RowsTold.{office_still}
-use Rattle.office_asking.proofs.ServedBy.{allowed_by, changed_after, changed_as, refused_by}
-use Rattle.office_holding.specs.Targets.{hold_request}
-use Rattle.office_holding.proofs.Denied.{hold_answered, hold_refused, hold_rows, tables_before}
 use Rattle.office_holding.proofs.placing.hold.Goals as goal
 
 pub returns-in_err-place-in-Ok-clause-inside : goal.returns-in_err-place-in-Ok-clause-inside

@@ -1,8 +1,4 @@
-use Rattle.std.proofs.Common.{rules, ◌≡◌, ◌∙◌, None}
-use Rattle.office_history.specs.Pictures.{held_deposit}
-use Rattle.office_asking.specs.Asking.{visit_on}
-use Rattle.office_asking.specs.Told.{held_target}
-use Rattle.office_holding.proofs.Denied.{name_denied, tables_before}
+use Rattle.office_holding.proofs.Lemmas.{rules, ◌≡◌, ◌∙◌, None, held_deposit, visit_on, held_target, name_denied, tables_before}
 use Rattle.office_holding.proofs.placing.hold_denial.Goals as goal
 
 pub returns-in_ok-said-in-Collection-clause-reads : goal.returns-in_ok-said-in-Collection-clause-reads

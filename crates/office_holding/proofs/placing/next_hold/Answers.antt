@@ -1,11 +1,4 @@
-use Rattle.std.proofs.Common.{rules, ◌≡◌, pos, Some, option_map, sym, ap, ◌∙◌}
-use Rattle.std.specs.Result.{result_err}
-use Rattle.std.proofs.lemmas.Result.{IfOk-weaker}
-use Rattle.office_tables.proofs.InTurn.{clean_first, inside_after, inside_failed}
-use Rattle.office_by_rows.specs.Refusals.{highest_hold, number_after}
-use Rattle.office_asking.proofs.RowsTold.{office_still, told_before}
-use Rattle.office_holding.proofs.Denied.{tables_before}
-use Rattle.office_holding.proofs.Counted.{full_told}
+use Rattle.office_holding.proofs.Lemmas.{rules, ◌≡◌, pos, Some, option_map, sym, ap, ◌∙◌, result_err, IfOk-weaker, clean_first, inside_after, inside_failed, highest_hold, number_after, office_still, told_before, tables_before, full_told}
 use Rattle.office_holding.proofs.placing.next_hold.Goals as goal
 
 pub returns-in_err-last-clause-inside : goal.returns-in_err-last-clause-inside

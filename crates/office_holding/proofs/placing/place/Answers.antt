@@ -1,12 +1,4 @@
-use Rattle.std.proofs.Common.{rules, w64, pos, Some}
-use mir.Val.{SFits}
-use Rattle.std.proofs.lemmas.Int.{to_z-of_z}
-use Rattle.office_rows.specs.Rows.{with_hold}
-use Rattle.office_tables.proofs.InTurn.{inside_then}
-use Rattle.office_by_rows.specs.Changes.{counted_over, new_hold}
-use Rattle.office_asking.specs.Told.{held_target}
-use Rattle.office_asking.proofs.ServedBy.{changes_by, changes_then}
-use Rattle.office_holding.proofs.Counted.{put_row}
+use Rattle.office_holding.proofs.Lemmas.{rules, w64, pos, Some, SFits, to_z-of_z, with_hold, inside_then, counted_over, new_hold, held_target, changes_by, changes_then, put_row}
 use Rattle.office_holding.proofs.placing.place.Goals as goal
 
 pub returns-clause-inside : goal.returns-clause-inside

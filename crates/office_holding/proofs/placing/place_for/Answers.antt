@@ -1,13 +1,4 @@
-use Rattle.std.proofs.Common.{rules, ◌≡◌, [], ◌∷◌, ◌∙◌, Some, None, ap, IfOk}
-use Rattle.std.specs.Result.{result_err}
-use Rattle.std.proofs.lemmas.Result.{IfOk-weaker}
-use Rattle.office_tables.proofs.InTurn.{clean_first, inside_then}
-use Rattle.office_by_rows.specs.Refusals.{full_of_holds, highest_hold, hold_denials, number_after}
-use Rattle.office_asking.specs.Asking.{visit_on}
-use Rattle.office_asking.specs.Told.{held_target}
-use Rattle.office_asking.proofs.FirstTold.{one_first}
-use Rattle.office_asking.proofs.RowsTold.{office_still, told_before}
-use Rattle.office_holding.proofs.Denied.{full_first, tables_before}
+use Rattle.office_holding.proofs.Lemmas.{rules, ◌≡◌, [], ◌∷◌, ◌∙◌, Some, None, ap, IfOk, result_err, IfOk-weaker, clean_first, inside_then, full_of_holds, highest_hold, hold_denials, number_after, visit_on, held_target, one_first, office_still, told_before, full_first, tables_before}
 use Rattle.office_holding.proofs.placing.place_for.Goals as goal
 
 pub returns-in-Some-clause-reads : goal.returns-in-Some-clause-reads

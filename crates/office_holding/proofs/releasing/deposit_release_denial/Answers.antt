@@ -1,12 +1,5 @@
-use Rattle.std.proofs.Common.{rules, ◌≡◌, ◌∙◌, Some, ap, sym}
-use Rattle.std.proofs.lemmas.Result.{IfOk-weaker}
+use Rattle.office_holding.proofs.Lemmas.{rules, ◌≡◌, ◌∙◌, Some, ap, sym, IfOk-weaker, Store, clean_first, inside_then, denial_at, release_denial_at, visit_on, office_still, there_is, told_before, tables_before}
 use Rattle.office_core.specs.declared.action.Action.TheVariants as acts
-use Rattle.office_tables.specs.declared.fault.TableFault.TheVariants.{Store}
-use Rattle.office_tables.proofs.InTurn.{clean_first, inside_then}
-use Rattle.office_by_rows.specs.Refusals.{denial_at, release_denial_at}
-use Rattle.office_asking.specs.Asking.{visit_on}
-use Rattle.office_asking.proofs.RowsTold.{office_still, there_is, told_before}
-use Rattle.office_holding.proofs.Denied.{tables_before}
 use Rattle.office_holding.proofs.releasing.deposit_release_denial.Goals as goal
 
 pub returns-clause-inside : goal.returns-clause-inside

@@ -1,12 +1,4 @@
-use Rattle.std.proofs.Common.{rules, w64, negsuc, Some, pos}
-use mir.Val.{SFits}
-use Rattle.std.proofs.lemmas.Int.{to_z-of_z}
-use Rattle.jiff.specs.Words.{epoch_day}
-use Rattle.office_rows.specs.Rows.{with_released}
-use Rattle.office_tables.proofs.InTurn.{inside_then}
-use Rattle.office_by_rows.specs.Changes.{counted_over}
-use Rattle.office_asking.specs.Told.{held_target}
-use Rattle.office_asking.proofs.ServedBy.{changes_by, changes_then}
+use Rattle.office_holding.proofs.Common.{rules, w64, negsuc, Some, pos, SFits, to_z-of_z, epoch_day, with_released, inside_then, counted_over, held_target, changes_by, changes_then}
 use Rattle.office_holding.proofs.releasing.end.Goals as goal
 
 pub returns-clause-inside : goal.returns-clause-inside

@@ -1,12 +1,4 @@
-use Rattle.std.proofs.Common.{rules, ◌≡◌, sym, ◌∙◌, Some, None, ap}
-use Rattle.std.specs.Result.{result_err}
-use Rattle.std.proofs.lemmas.Result.{IfOk-weaker}
-use Rattle.office_tables.proofs.InTurn.{clean_first, inside_after}
-use Rattle.office_by_rows.specs.Refusals.{release_denial_on}
-use Rattle.office_asking.specs.Asking.{visit_on}
-use Rattle.office_asking.specs.Told.{held_target}
-use Rattle.office_asking.proofs.RowsTold.{office_still, told_before}
-use Rattle.office_holding.proofs.Denied.{no_hold, release_refused, tables_before}
+use Rattle.office_holding.proofs.Lemmas.{rules, ◌≡◌, sym, ◌∙◌, Some, None, ap, result_err, IfOk-weaker, clean_first, inside_after, release_denial_on, visit_on, held_target, office_still, told_before, no_hold, release_refused, tables_before}
 use Rattle.office_holding.proofs.releasing.releasable_hold.Goals as goal
 
 pub returns-in_default-clause-reads : goal.returns-in_default-clause-reads

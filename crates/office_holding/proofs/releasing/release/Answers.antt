@@ -1,16 +1,6 @@
-use Rattle.std.proofs.Common.{rules, ◌≡◌, negsuc, refl, subst, ◌∙◌, ap, pos, Some, IfOk}
-use Rattle.std.specs.Result.{result_err}
-use Rattle.jiff.specs.Words.{epoch_day}
+use Rattle.office_holding.proofs.Lemmas.{rules, ◌≡◌, negsuc, refl, subst, ◌∙◌, ap, pos, Some, IfOk, result_err, epoch_day, Tables, hold_numbered, with_released, clean_first, inside_after, inside_failed, allowed_rows, counted_over, visit_on, held_target, office_still, allowed_by, changed_after, changed_as, refused_by, released_rows, tables_before}
 use Rattle.office_core.specs.declared.answer.Answer.TheVariants as answers
 use Rattle.office_core.specs.declared.request.Request.TheVariants as requests
-use Rattle.office_rows.specs.Rows.{Tables, hold_numbered, with_released}
-use Rattle.office_tables.proofs.InTurn.{clean_first, inside_after, inside_failed}
-use Rattle.office_by_rows.specs.Changes.{allowed_rows, counted_over}
-use Rattle.office_asking.specs.Asking.{visit_on}
-use Rattle.office_asking.specs.Told.{held_target}
-use Rattle.office_asking.proofs.RowsTold.{office_still}
-use Rattle.office_asking.proofs.ServedBy.{allowed_by, changed_after, changed_as, refused_by}
-use Rattle.office_holding.proofs.Denied.{released_rows, tables_before}
 use Rattle.office_holding.proofs.releasing.release.Goals as goal
 
 pub returns-in-Err-clause-serves : goal.returns-in-Err-clause-serves

@@ -1,10 +1,4 @@
-use Rattle.std.proofs.Common.{rules, ◌≡◌, ◌∙◌, ap, sym, Some, None}
-use Rattle.office_tables.specs.declared.fault.TableFault.TheVariants.{Store}
-use Rattle.office_history.specs.Pictures.{held_deposit}
-use Rattle.office_asking.specs.Asking.{visit_on}
-use Rattle.office_asking.proofs.RowsTold.{there_told}
-use Rattle.office_asking.specs.Told.{held_target}
-use Rattle.office_holding.proofs.Denied.{name_released, tables_before}
+use Rattle.office_holding.proofs.Lemmas.{rules, ◌≡◌, ◌∙◌, ap, sym, Some, None, Store, held_deposit, visit_on, there_told, held_target, name_released, tables_before}
 use Rattle.office_holding.proofs.releasing.release_denial.Goals as goal
 
 pub returns-in_ok-said-in-Collection-clause-reads : goal.returns-in_ok-said-in-Collection-clause-reads

@@ -1,9 +1,5 @@
-use Rattle.std.proofs.Common.{rules, ◌≡◌, ◌↔◌, IfErr, Option, Some, None, refl, sym, ◌∙◌}
-use Rattle.std.proofs.lemmas.Result.{IfErr-weaker}
+use Rattle.office_holding.proofs.Common.{rules, ◌≡◌, ◌↔◌, IfErr, Option, Some, None, refl, sym, ◌∙◌, IfErr-weaker, TableFault, Memory, Store, hold_by}
 use Rattle.office_core.specs.declared.answer.LiveHold.{LiveHold}
-use Rattle.office_tables.specs.declared.fault.TableFault.{TableFault}
-use Rattle.office_tables.specs.declared.fault.TableFault.TheVariants.{Memory, Store}
-use Rattle.office_by_rows.specs.Asking.{hold_by}
 use Rattle.office_holding.proofs.releasing.unless_refused.Goals as goal
 
 -- a fault that isn't one of the store is one for a hold

@@ -1,6 +1,4 @@
-use Rattle.sql_meaning.proofs.Results.{on_ok}
-use Rattle.office_tables.proofs.CollectionLemmas.{adds_collection}
-use Rattle.office_tables.proofs.SameContents.{add_collection_same}
+use Rattle.office_tables.proofs.Lemmas.{on_ok, adds_collection, add_collection_same}
 use Rattle.office_tables.proofs.classes.add_collection.Goals as goal
 
 pub returns-clause-becomes : goal.returns-clause-becomes

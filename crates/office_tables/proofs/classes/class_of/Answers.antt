@@ -1,9 +1,4 @@
-use Rattle.std.proofs.Common.{rules, sym, ◌∙◌}
-use Rattle.std.proofs.lemmas.Result.{IfOk-weaker}
-use Rattle.sqlite.specs.Held.{state}
-use Rattle.sqlite.specs.State.{HasCleanDisk}
-use Rattle.office_tables.proofs.ClassLemmas.{finds_years}
-use Rattle.office_tables.proofs.InTurn.{whatever}
+use Rattle.office_tables.proofs.Lemmas.{rules, sym, ◌∙◌, IfOk-weaker, state, HasCleanDisk, finds_years, whatever}
 use Rattle.office_tables.proofs.classes.class_of.Goals as goal
 
 pub returns : goal.returns

@@ -1,5 +1,4 @@
-use Rattle.std.proofs.Common.{◌≡◌, sym, ap, not, ◌∙◌, ◌==◌, length, rules, vec_len}
-use Rattle.office_tables.proofs.CollectionLemmas.{finds_collection}
+use Rattle.office_tables.proofs.Lemmas.{◌≡◌, sym, ap, not, ◌∙◌, ◌==◌, length, rules, vec_len, finds_collection}
 use Rattle.office_tables.proofs.classes.has_collection.Goals as goal
 
 pub returns-clause-same : goal.returns-clause-same

@@ -1,11 +1,4 @@
-use Rattle.std.proofs.Common.{rules, w64}
-use Rattle.std.proofs.lemmas.Int.{to_z-of_z}
-use Rattle.sqlite.specs.State.{HasCleanDisk}
-use Rattle.sqlite.specs.Held.{state}
-use Rattle.office_tables.specs.Tables.{tables_of}
-use Rattle.office_tables.proofs.Frames.{kept_once, same_after}
-use Rattle.office_tables.proofs.InTurn.{clean_first, inside_failed}
-use Rattle.office_tables.proofs.ClassLemmas.{puts_class}
+use Rattle.office_tables.proofs.Lemmas.{rules, w64, to_z-of_z, HasCleanDisk, state, tables_of, kept_once, same_after, clean_first, inside_failed, puts_class}
 use Rattle.office_tables.proofs.classes.put_class.Goals as goal
 
 pub returns-in_ok-add_class-clause-becomes : goal.returns-in_ok-add_class-clause-becomes

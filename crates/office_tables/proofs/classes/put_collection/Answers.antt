@@ -1,9 +1,4 @@
-use Rattle.std.proofs.Common.{sym, subst}
-use Rattle.sqlite.specs.State.{HasCleanDisk}
-use Rattle.sqlite.specs.Held.{state}
-use Rattle.office_tables.specs.Tables.{IsOffice}
-use Rattle.office_tables.proofs.Frames.{kept_once, same_after, same_as}
-use Rattle.office_tables.proofs.InTurn.{clean_first}
+use Rattle.office_tables.proofs.Lemmas.{sym, subst, HasCleanDisk, state, IsOffice, kept_once, same_after, same_as, clean_first}
 use Rattle.office_tables.proofs.classes.put_collection.Goals as goal
 
 pub returns-in_ok-add_collection-clause-contents : goal.returns-in_ok-add_collection-clause-contents

@@ -1,10 +1,4 @@
-use Rattle.std.proofs.Common.{rules, w64}
-use Rattle.std.proofs.lemmas.Int.{to_z-of_z}
-use Rattle.std.proofs.lemmas.Result.{IfOk-weaker}
-use Rattle.sqlite.specs.State.{HasCleanDisk}
-use Rattle.sqlite.specs.Held.{state}
-use Rattle.sql_meaning.proofs.Results.{on_ok}
-use Rattle.office_tables.proofs.ClassLemmas.{revises_class_same, revises_class}
+use Rattle.office_tables.proofs.Lemmas.{rules, w64, to_z-of_z, IfOk-weaker, HasCleanDisk, state, on_ok, revises_class_same, revises_class}
 use Rattle.office_tables.proofs.classes.revise_class.Goals as goal
 
 pub returns : goal.returns

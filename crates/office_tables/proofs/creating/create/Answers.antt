@@ -1,6 +1,4 @@
-use Rattle.std.proofs.Common.{rules}
-use Rattle.sqlite.specs.Held.{state}
-use Rattle.office_tables.proofs.CreateLemmas.{leaves_made}
+use Rattle.office_tables.proofs.Lemmas.{rules, state, leaves_made}
 use Rattle.office_tables.proofs.creating.create.Goals as goal
 
 pub returns-in-Ok-clause-durable : goal.returns-in-Ok-clause-durable

@@ -1,10 +1,6 @@
-use Rattle.std.proofs.Common.{◌≡◌, ℕ, List, map, drop, get_or, rules, subst, ◌+◌, ◌∷◌, Bor}
-use Rattle.std.proofs.lemmas.List.{at_drop_more}
-use Rattle.sqlite.specs.Held.{state}
-use Rattle.sql_meaning.specs.Making.{Builds}
+use Rattle.office_tables.proofs.Lemmas.{◌≡◌, ℕ, List, map, drop, slice_index_or as get_or, rules, subst, ◌+◌, ◌∷◌, Bor, at_drop_more, state, Builds, clean_first, none_called, turn_next}
 use Rattle.sql_meaning.proofs.Creating.{makes_next}
 use Rattle.sql_meaning.proofs.Growing.{grows_next, grown_none}
-use Rattle.office_tables.proofs.InTurn.{clean_first, none_called, turn_next}
 use Rattle.office_tables.proofs.creating.define.Goals as goal
 
 pub loop-text-preserved : goal.loop-text-preserved

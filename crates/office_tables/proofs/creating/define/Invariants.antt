@@ -1,11 +1,4 @@
-use Rattle.std.proofs.Common.{Ok, map, drop}
-use Rattle.sqlite.specs.Schema.{Schema}
-use Rattle.sqlite.specs.State.{HasCleanDisk}
-use Rattle.sqlite.specs.Held.{state}
-use Rattle.sql_meaning.specs.Making.{Builds}
-use Rattle.sql_meaning.specs.Growing.{Grows}
-use Rattle.sql_meaning.specs.Whole.{IsBlank, IsWhole}
-use Rattle.office_tables.specs.Calls.{GoesOnInTurn}
+use Rattle.office_tables.proofs.Common.{Ok, map, drop, Schema, HasCleanDisk, state, Builds, Grows, IsBlank, IsWhole, GoesOnInTurn}
 use Rattle.office_tables.proofs.creating.define.Given as goal
 
 abbrev pub invariant-loop-text : goal.invariant-loop-text

@@ -1,6 +1,4 @@
-use Rattle.std.proofs.lemmas.Result.{on_ok_weaker}
-use Rattle.office_tables.specs.Schema.{no_schema, office_schema}
-use Rattle.office_tables.proofs.CreateTexts.{builds_office}
+use Rattle.office_tables.proofs.Lemmas.{on_ok_weaker, no_schema, office_schema, builds_office}
 use Rattle.office_tables.proofs.creating.define_tables.Goals as goal
 
 pub returns-clause-made : goal.returns-clause-made

@@ -1,6 +1,4 @@
-use Rattle.std.proofs.Common.{pos}
-use Rattle.sql_meaning.proofs.Results.{on_ok}
-use Rattle.office_tables.proofs.CreateLemmas.{starts_office, starts_once}
+use Rattle.office_tables.proofs.Lemmas.{pos, on_ok, starts_office, starts_once}
 use Rattle.office_tables.proofs.creating.start.Goals as goal
 
 pub returns-clause-becomes : goal.returns-clause-becomes

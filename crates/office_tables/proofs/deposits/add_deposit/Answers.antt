@@ -1,9 +1,5 @@
-use Rattle.std.proofs.Common.{rules, refl, w64}
-use Rattle.std.proofs.lemmas.Int.{to_z-of_z}
-use Rattle.sql_meaning.proofs.Results.{on_ok}
-use Rattle.office_tables.specs.Deposits.{added_row}
+use Rattle.office_tables.proofs.Lemmas.{rules, refl, w64, to_z-of_z, on_ok, added_row, add_deposit_same}
 use Rattle.office_tables.proofs.DepositAdded.{bound_due, is_added}
-use Rattle.office_tables.proofs.SameContents.{add_deposit_same}
 use Rattle.office_tables.proofs.deposits.add_deposit.Goals as goal
 
 pub returns-clause-added : goal.returns-clause-added

@@ -1,8 +1,4 @@
-use Rattle.std.proofs.Common.{pos, w64}
-use Rattle.std.proofs.lemmas.Int.{to_z-of_z}
-use Rattle.office_tables.proofs.DepositLemmas.{marks_gone}
-use Rattle.office_tables.proofs.Frames.{kept_once}
-use Rattle.office_tables.proofs.SameContents.{mark_gone_same}
+use Rattle.office_tables.proofs.Lemmas.{pos, w64, to_z-of_z, marks_gone, kept_once, mark_gone_same}
 use Rattle.office_tables.proofs.deposits.mark_gone.Goals as goal
 
 pub returns-clause-becomes : goal.returns-clause-becomes

@@ -1,4 +1,4 @@
-use Rattle.office_tables.proofs.Frames.{kept_once}
+use Rattle.office_tables.proofs.Lemmas.{kept_once}
 use Rattle.office_tables.proofs.deposits.put_deposit_and_due.Goals as goal
 
 pub returns-clause-once : goal.returns-clause-once

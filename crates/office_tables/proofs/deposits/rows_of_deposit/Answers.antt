@@ -1,6 +1,4 @@
-use Rattle.std.proofs.Common.{pos}
-use Rattle.std.proofs.lemmas.Result.{IfOk-weaker}
-use Rattle.office_tables.proofs.DepositLemmas.{finds_deposit}
+use Rattle.office_tables.proofs.Lemmas.{pos, IfOk-weaker, finds_deposit}
 use Rattle.office_tables.proofs.deposits.rows_of_deposit.Goals as goal
 
 pub returns-clause-found : goal.returns-clause-found

@@ -1,5 +1,4 @@
-use Rattle.std.proofs.lemmas.Result.{IfOk-weaker}
-use Rattle.office_tables.proofs.DepositLemmas.{lists_deposits}
+use Rattle.office_tables.proofs.Lemmas.{IfOk-weaker, lists_deposits}
 use Rattle.office_tables.proofs.deposits.rows_of_deposits.Goals as goal
 
 pub returns-clause-found : goal.returns-clause-found

@@ -1,8 +1,4 @@
-use Rattle.std.proofs.Common.{w64}
-use Rattle.std.proofs.lemmas.Int.{to_z-of_z}
-use Rattle.office_tables.proofs.DueLemmas.{adds_holds_class}
-use Rattle.office_tables.proofs.Frames.{kept_once}
-use Rattle.office_tables.proofs.SameContents.{add_holds_class_same}
+use Rattle.office_tables.proofs.Lemmas.{w64, to_z-of_z, adds_holds_class, kept_once, add_holds_class_same}
 use Rattle.office_tables.proofs.dues.add_holds_class.Goals as goal
 
 pub returns-clause-becomes : goal.returns-clause-becomes

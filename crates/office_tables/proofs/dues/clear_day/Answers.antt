@@ -1,6 +1,4 @@
-use Rattle.std.proofs.Common.{pos}
-use Rattle.office_tables.proofs.DueLemmas.{clears_due}
-use Rattle.office_tables.proofs.SameContents.{clear_day_same}
+use Rattle.office_tables.proofs.Lemmas.{pos, clears_due, clear_day_same}
 use Rattle.office_tables.proofs.dues.clear_day.Goals as goal
 
 pub returns-clause-becomes : goal.returns-clause-becomes

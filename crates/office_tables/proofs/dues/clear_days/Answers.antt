@@ -1,6 +1,4 @@
-use Rattle.std.proofs.Common.{pos}
-use Rattle.office_tables.proofs.DueLemmas.{clears_dues}
-use Rattle.office_tables.proofs.SameContents.{clear_days_same}
+use Rattle.office_tables.proofs.Lemmas.{pos, clears_dues, clear_days_same}
 use Rattle.office_tables.proofs.dues.clear_days.Goals as goal
 
 pub returns-clause-becomes : goal.returns-clause-becomes

@@ -1,5 +1,4 @@
-use Rattle.std.proofs.lemmas.Result.{IfOk-weaker}
-use Rattle.office_tables.proofs.DueLemmas.{lists_beside}
+use Rattle.office_tables.proofs.Lemmas.{IfOk-weaker, lists_beside}
 use Rattle.office_tables.proofs.dues.rows_beside.Goals as goal
 
 pub returns-clause-found : goal.returns-clause-found

@@ -1,6 +1,4 @@
-use Rattle.std.proofs.Common.{pos}
-use Rattle.std.proofs.lemmas.Result.{IfOk-weaker}
-use Rattle.office_tables.proofs.DueLemmas.{finds_due}
+use Rattle.office_tables.proofs.Lemmas.{pos, IfOk-weaker, finds_due}
 use Rattle.office_tables.proofs.dues.rows_of_due.Goals as goal
 
 pub returns-clause-found : goal.returns-clause-found

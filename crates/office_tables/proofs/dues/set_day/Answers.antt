@@ -1,7 +1,4 @@
-use Rattle.std.proofs.Common.{pos, w64}
-use Rattle.std.proofs.lemmas.Int.{to_z-of_z}
-use Rattle.office_tables.proofs.DueLemmas.{sets_due}
-use Rattle.office_tables.proofs.SameContents.{set_day_same}
+use Rattle.office_tables.proofs.Lemmas.{pos, w64, to_z-of_z, sets_due, set_day_same}
 use Rattle.office_tables.proofs.dues.set_day.Goals as goal
 
 pub returns-clause-becomes : goal.returns-clause-becomes

@@ -1,8 +1,4 @@
-use Rattle.std.proofs.Common.{pos, w64}
-use Rattle.std.proofs.lemmas.Int.{to_z-of_z}
-use Rattle.office_tables.proofs.DueLemmas.{sets_holds}
-use Rattle.office_tables.proofs.Frames.{kept_once}
-use Rattle.office_tables.proofs.SameContents.{set_holds_same}
+use Rattle.office_tables.proofs.Lemmas.{pos, w64, to_z-of_z, sets_holds, kept_once, set_holds_same}
 use Rattle.office_tables.proofs.dues.set_holds.Goals as goal
 
 pub returns-clause-becomes : goal.returns-clause-becomes

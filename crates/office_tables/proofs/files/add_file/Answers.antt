@@ -1,7 +1,4 @@
-use Rattle.std.proofs.Common.{pos, w64}
-use Rattle.std.proofs.lemmas.Int.{to_z-of_z}
-use Rattle.std.proofs.lemmas.Result.{IfOk-weaker}
-use Rattle.office_tables.proofs.FileLemmas.{adds_file}
+use Rattle.office_tables.proofs.Lemmas.{pos, w64, to_z-of_z, IfOk-weaker, adds_file}
 use Rattle.office_tables.proofs.files.add_file.Goals as goal
 
 pub returns-clause-added : goal.returns-clause-added

@@ -1,13 +1,4 @@
-use Rattle.std.proofs.Common.{◌≡◌, ℤ, true, Option, Some, slice_get, option_map, pos, rules, sym, ap, subst, ◌∙◌}
-use Rattle.sqlite.specs.Order.{Row}
-use Rattle.sqlite.specs.Effect.{Database}
-use Rattle.sqlite.specs.Held.{state}
-use Rattle.sql_meaning.specs.Columns.{int_at}
-use Rattle.office_rows.specs.Rows.{content_numbered}
-use Rattle.office_tables.specs.Tables.{IsOffice, contents_of}
-use Rattle.office_tables.specs.Contents.{content_referred, is_intact}
-use Rattle.office_tables.proofs.FileLemmas.{reference_at}
-use Rattle.office_tables.proofs.InTurn.{clean_first}
+use Rattle.office_tables.proofs.Lemmas.{◌≡◌, ℤ, true, Option, Some, slice_get, option_map, pos, rules, sym, ap, subst, ◌∙◌, Row, Database, state, int_at, content_numbered, IsOffice, contents_of, content_referred, is_intact, reference_at, clean_first}
 use Rattle.office_tables.proofs.files.content_of_file.Goals as goal
 
 pub returns-in-Some-clause-intact : goal.returns-in-Some-clause-intact

@@ -1,14 +1,4 @@
-use Rattle.std.proofs.Common.{List, [], ℤ, map, pos, rules, sym, subst, ◌∙◌}
-use Rattle.sqlite.specs.Effect.{Database}
-use Rattle.sqlite.specs.State.{HasCleanDisk}
-use Rattle.sqlite.specs.Held.{state}
-use Rattle.sqlite.specs.Order.{Row}
-use Rattle.sql_meaning.specs.Columns.{int_at}
-use Rattle.office_tables.specs.Tables.{IsOffice}
-use Rattle.office_tables.specs.Contents.{AreFilesDropped, IsTidied}
-use Rattle.office_tables.proofs.ContentLemmas.{drop_contents, drop_once, drop_references, drop_used}
-use Rattle.office_tables.proofs.FileLemmas.{finds_contents}
-use Rattle.office_tables.proofs.InTurn.{clean_first}
+use Rattle.office_tables.proofs.Lemmas.{List, [], ℤ, map, pos, rules, sym, subst, ◌∙◌, Database, HasCleanDisk, state, Row, int_at, IsOffice, AreFilesDropped, IsTidied, drop_contents, drop_once, drop_references, drop_used, finds_contents, clean_first}
 use Rattle.office_tables.proofs.files.drop_files.Goals as goal
 
 pub returns : goal.returns

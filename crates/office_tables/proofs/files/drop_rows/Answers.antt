@@ -1,6 +1,4 @@
-use Rattle.std.proofs.Common.{pos}
-use Rattle.std.proofs.lemmas.Result.{IfOk-weaker}
-use Rattle.office_tables.proofs.FileLemmas.{drops_files}
+use Rattle.office_tables.proofs.Lemmas.{pos, IfOk-weaker, drops_files}
 use Rattle.office_tables.proofs.files.drop_rows.Goals as goal
 
 pub returns-clause-dropped : goal.returns-clause-dropped

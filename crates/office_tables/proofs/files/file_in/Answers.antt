@@ -1,9 +1,4 @@
-use Rattle.std.proofs.Common.{◌≡◌, List, ℕ, pos, string_bytes, Some, ap, sym, ◌∙◌}
-use Rattle.sqlite.specs.Order.{bytes}
-use Rattle.sqlite.specs.Held.{state}
-use Rattle.office_tables.specs.Contents.{content_at, is_intact, references_of}
-use Rattle.office_tables.specs.Tables.{contents_of, tables_of}
-use Rattle.office_tables.specs.Deposits.{shown_path}
+use Rattle.office_tables.proofs.Common.{◌≡◌, List, ℕ, pos, string_bytes, Some, ap, sym, ◌∙◌, bytes, state, content_at, is_intact, references_of, contents_of, tables_of, shown_path}
 use Rattle.office_tables.proofs.files.file_in.Goals as goal
 
 pub returns-clause-found : goal.returns-clause-found

@@ -1,17 +1,4 @@
-use Rattle.std.proofs.Common.{◌≡◌, ◌∙◌, arith, rules, pos, take, Bool, true, Option, Some, sym, subst}
-use Rattle.std.specs.List.{AllByRecursion}
-use Rattle.std.proofs.lemmas.List.{take_all}
-use Rattle.std.proofs.lemmas.List.Elements.{All-from_recursion}
-use Rattle.sqlite.specs.Order.{Row}
-use Rattle.sqlite.specs.Effect.{Database}
-use Rattle.sqlite.specs.Held.{state}
-use Rattle.sqlite_keyed.proofs.ListLemmas.{list_all_push}
-use Rattle.office_rows.specs.Rows.{FileRow, file_at}
-use Rattle.office_tables.specs.Tables.{IsOffice, tables_of, contents_of}
-use Rattle.office_tables.specs.Contents.{ShowsFile, content_at, is_intact, references_of}
-use Rattle.office_tables.specs.Deposits.{shown_path}
-use Rattle.office_tables.proofs.FileLemmas.{finds_next}
-use Rattle.office_tables.proofs.InTurn.{clean_first, turn_next}
+use Rattle.office_tables.proofs.Lemmas.{◌≡◌, ◌∙◌, arith, rules, pos, take, Bool, true, Option, Some, sym, subst, AllByRecursion, take_all, All-from_recursion, Row, Database, state, list_all_push, FileRow, file_at, IsOffice, tables_of, contents_of, ShowsFile, content_at, is_intact, references_of, shown_path, finds_next, clean_first, turn_next}
 use Rattle.office_tables.proofs.files.files_in.Goals as goal
 
 pub loop-row-preserved : goal.loop-row-preserved

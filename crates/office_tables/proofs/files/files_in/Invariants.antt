@@ -1,11 +1,4 @@
-use Rattle.std.proofs.Common.{Ok, ◌≡◌, map, take, pos, Some, true}
-use Rattle.std.specs.List.{AllByRecursion, list_all}
-use Rattle.office_rows.specs.Rows.{file_at}
-use Rattle.office_tables.specs.Deposits.{shown_path}
-use Rattle.office_tables.specs.Calls.{GoesOnInTurn}
-use Rattle.office_tables.specs.Contents.{Does, ShowsFile, content_at, is_intact, references_of}
-use Rattle.office_tables.specs.Tables.{tables_of, contents_of}
-use Rattle.office_tables.specs.declared.fault.TableFault.{TableFault}
+use Rattle.office_tables.proofs.Common.{Ok, ◌≡◌, map, take, pos, Some, true, AllByRecursion, list_all, file_at, shown_path, GoesOnInTurn, Does, ShowsFile, content_at, is_intact, references_of, tables_of, contents_of, TableFault}
 use Rattle.office_tables.proofs.files.files_in.Given as goal
 
 abbrev pub invariant-loop-row : goal.invariant-loop-row

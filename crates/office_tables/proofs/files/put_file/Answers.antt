@@ -1,9 +1,4 @@
-use Rattle.std.proofs.Common.{◌≡◌, List, ℕ, pos, rules, subst}
-use Rattle.sha2.specs.Sha256.{sha256}
-use Rattle.sqlite.specs.Held.{state}
-use Rattle.office_rows.specs.Rows.{FileRow}
-use Rattle.office_tables.specs.Contents.{IsMarkedPut}
-use Rattle.office_tables.proofs.ContentLemmas.{put_once}
+use Rattle.office_tables.proofs.Lemmas.{◌≡◌, List, ℕ, pos, rules, subst, sha256, state, FileRow, IsMarkedPut, put_once}
 use Rattle.office_tables.proofs.files.put_file.Goals as goal
 
 pub returns-clause-once : goal.returns-clause-once

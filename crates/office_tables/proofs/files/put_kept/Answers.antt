@@ -1,8 +1,4 @@
-use Rattle.std.proofs.Common.{pos, rules, w64}
-use Rattle.std.proofs.lemmas.Int.{to_z-of_z}
-use Rattle.std.proofs.lemmas.Result.{IfOk-weaker}
-use Rattle.office_tables.proofs.ContentLemmas.{is_marked_put, kept_office}
-use Rattle.office_tables.proofs.InTurn.{clean_first}
+use Rattle.office_tables.proofs.Lemmas.{pos, rules, w64, to_z-of_z, IfOk-weaker, is_marked_put, kept_office, clean_first}
 use Rattle.office_tables.proofs.files.put_kept.Goals as goal
 
 pub returns-clause-put : goal.returns-clause-put

@@ -1,8 +1,4 @@
-use Rattle.std.proofs.Common.{sym, subst}
-use Rattle.sqlite.specs.Held.{state}
-use Rattle.office_tables.specs.Tables.{contents_of}
-use Rattle.office_tables.specs.Contents.{StandOnce}
-use Rattle.office_tables.proofs.ContentLemmas.{stands_once}
+use Rattle.office_tables.proofs.Lemmas.{sym, subst, state, contents_of, StandOnce, stands_once}
 use Rattle.office_tables.proofs.files.put_marked.Goals as goal
 
 pub returns-clause-stands : goal.returns-clause-stands

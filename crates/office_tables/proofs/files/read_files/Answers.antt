@@ -1,15 +1,4 @@
-use Rattle.std.proofs.Common.{◌≡◌, pos, map, Some, true, sym, subst}
-use Rattle.std.specs.List.{AllByRecursion, list_all}
-use Rattle.std.proofs.lemmas.Result.{IfOk-weaker}
-use Rattle.sqlite.specs.Effect.{Database}
-use Rattle.sqlite.specs.State.{HasCleanDisk}
-use Rattle.sqlite.specs.Held.{state}
-use Rattle.office_rows.specs.Rows.{FileRow, file_at}
-use Rattle.office_tables.specs.Tables.{IsOffice, tables_of, contents_of}
-use Rattle.office_tables.specs.Contents.{ShowsFile, content_at, is_intact, references_of}
-use Rattle.office_tables.specs.Deposits.{shown_path}
-use Rattle.office_tables.proofs.FileLemmas.{gathers_files}
-use Rattle.office_tables.proofs.InTurn.{clean_first}
+use Rattle.office_tables.proofs.Lemmas.{◌≡◌, pos, map, Some, true, sym, subst, AllByRecursion, list_all, IfOk-weaker, Database, HasCleanDisk, state, FileRow, file_at, IsOffice, tables_of, contents_of, ShowsFile, content_at, is_intact, references_of, shown_path, gathers_files, clean_first}
 use Rattle.office_tables.proofs.files.read_files.Goals as goal
 
 pub returns-clause-found : goal.returns-clause-found

@@ -1,6 +1,4 @@
-use Rattle.std.proofs.Common.{pos}
-use Rattle.std.proofs.lemmas.Result.{IfOk-weaker}
-use Rattle.office_tables.proofs.FileLemmas.{finds_content}
+use Rattle.office_tables.proofs.Lemmas.{pos, IfOk-weaker, finds_content}
 use Rattle.office_tables.proofs.files.rows_of_file.Goals as goal
 
 pub returns-clause-found : goal.returns-clause-found

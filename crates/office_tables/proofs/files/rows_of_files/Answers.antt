@@ -1,6 +1,4 @@
-use Rattle.std.proofs.Common.{pos}
-use Rattle.std.proofs.lemmas.Result.{IfOk-weaker}
-use Rattle.office_tables.proofs.FileLemmas.{lists_files}
+use Rattle.office_tables.proofs.Lemmas.{pos, IfOk-weaker, lists_files}
 use Rattle.office_tables.proofs.files.rows_of_files.Goals as goal
 
 pub returns-clause-found : goal.returns-clause-found

@@ -1,11 +1,5 @@
-use Rattle.std.proofs.Common.{ℕ, ℤ, pos, w64, refl, rules, List, Option, None, Ok, option_map, Bor}
-use Rattle.std.proofs.lemmas.Int.{to_z-of_z}
-use Rattle.sqlite.specs.State.{HasCleanDisk, Executes}
-use Rattle.sqlite.specs.Held.{state}
-use Rattle.office_rows.specs.Rows.{HoldRow}
-use Rattle.office_tables.proofs.HoldLemmas.{params_of, puts_hold, hold_was_new, bound_number, bound_text}
+use Rattle.office_tables.proofs.Lemmas.{ℕ, ℤ, pos, w64, refl, rules, List, Option, None, Ok, option_map, Bor, to_z-of_z, HasCleanDisk, Executes, state, HoldRow, params_of, puts_hold, hold_was_new, bound_number, bound_text, add_hold_same}
 use Rattle.office_tables.proofs.HoldTexts.{put_text}
-use Rattle.office_tables.proofs.SameContents.{add_hold_same}
 use Rattle.office_tables.proofs.holds.add_hold.Goals as goal
 
 abbrev put : ℕ → Option ℕ → Option (Bor (List ℕ)) → Option (Bor (List ℕ)) → List ℕ → ℤ → HoldRow

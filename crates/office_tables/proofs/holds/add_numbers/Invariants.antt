@@ -1,5 +1,4 @@
-use Rattle.std.proofs.Common.{◌≡◌, map, pos, take, ◌++◌}
-use Rattle.sql_meaning.specs.Columns.{int_at}
+use Rattle.office_tables.proofs.Common.{◌≡◌, map, pos, take, ◌++◌, int_at}
 use Rattle.office_tables.proofs.holds.add_numbers.Given as goal
 
 abbrev pub invariant-loop-row : goal.invariant-loop-row

@@ -1,8 +1,4 @@
-use Rattle.std.proofs.Common.{pos, w64}
-use Rattle.std.proofs.lemmas.Int.{to_z-of_z}
-use Rattle.office_tables.proofs.HoldLemmas.{ends_hold}
-use Rattle.office_tables.proofs.Frames.{kept_once}
-use Rattle.office_tables.proofs.SameContents.{end_hold_same}
+use Rattle.office_tables.proofs.Lemmas.{pos, w64, to_z-of_z, ends_hold, kept_once, end_hold_same}
 use Rattle.office_tables.proofs.holds.end_hold.Goals as goal
 
 pub returns-clause-becomes : goal.returns-clause-becomes

@@ -1,6 +1,4 @@
-use Rattle.std.proofs.Common.{ap, length, not, rules, sym, w64, ◌==◌, ◌≡◌, ◌∙◌}
-use Rattle.std.proofs.lemmas.Int.{to_z-of_z}
-use Rattle.office_tables.proofs.ContentLemmas.{any_is}
+use Rattle.office_tables.proofs.Lemmas.{ap, length, not, rules, sym, w64, ◌==◌, ◌≡◌, ◌∙◌, to_z-of_z, any_is}
 use Rattle.office_tables.proofs.holds.has_release.Goals as goal
 
 pub returns-clause-found : goal.returns-clause-found

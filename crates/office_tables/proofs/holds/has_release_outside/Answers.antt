@@ -1,8 +1,4 @@
-use Rattle.std.proofs.Common.{pos, sym, subst, true, Ok, rules, w64}
-use Rattle.std.proofs.lemmas.Int.{to_z-of_z}
-use Rattle.office_tables.proofs.InTurn.{clean_first, inside_after, inside_failed}
-use Rattle.office_tables.specs.Tables.{IsOffice}
-use Rattle.office_tables.proofs.ReleaseLemmas.{gathers_outside}
+use Rattle.office_tables.proofs.Lemmas.{pos, sym, subst, true, Ok, rules, w64, to_z-of_z, clean_first, inside_after, inside_failed, IsOffice, gathers_outside}
 use Rattle.office_tables.proofs.holds.has_release_outside.Goals as goal
 
 pub returns-clause-found : goal.returns-clause-found

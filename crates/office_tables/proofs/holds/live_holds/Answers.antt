@@ -1,7 +1,4 @@
-use Rattle.std.proofs.Common.{pos, sym, subst}
-use Rattle.office_tables.specs.Tables.{IsOffice}
-use Rattle.office_tables.proofs.HoldLemmas.{gathers_live}
-use Rattle.office_tables.proofs.InTurn.{clean_first}
+use Rattle.office_tables.proofs.Lemmas.{pos, sym, subst, IsOffice, gathers_live, clean_first}
 use Rattle.office_tables.proofs.holds.live_holds.Goals as goal
 
 pub returns-clause-found : goal.returns-clause-found

@@ -1,6 +1,4 @@
-use Rattle.std.proofs.Common.{pos}
-use Rattle.std.proofs.lemmas.Result.{IfOk-weaker}
-use Rattle.office_tables.proofs.HoldLemmas.{lists_within}
+use Rattle.office_tables.proofs.Lemmas.{pos, IfOk-weaker, lists_within}
 use Rattle.office_tables.proofs.holds.rows_of_holds_within.Goals as goal
 
 pub returns-clause-found : goal.returns-clause-found

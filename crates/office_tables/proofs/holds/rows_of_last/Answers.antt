@@ -1,4 +1,4 @@
-use Rattle.std.proofs.lemmas.Result.{IfOk-weaker}
+use Rattle.office_tables.proofs.Common.{IfOk-weaker}
 use Rattle.office_tables.proofs.HoldLemmas.{finds_last}
 use Rattle.office_tables.proofs.holds.rows_of_last.Goals as goal
 

@@ -1,7 +1,4 @@
-use Rattle.std.proofs.Common.{pos, w64}
-use Rattle.std.proofs.lemmas.Int.{to_z-of_z}
-use Rattle.std.proofs.lemmas.Result.{IfOk-weaker}
-use Rattle.office_tables.proofs.ReleaseLemmas.{tells_outside_of_class, tells_outside_on, tells_outside_within}
+use Rattle.office_tables.proofs.Lemmas.{pos, w64, to_z-of_z, IfOk-weaker, tells_outside_of_class, tells_outside_on, tells_outside_within}
 use Rattle.office_tables.proofs.holds.rows_of_releases.Goals as goal
 
 pub returns-in-Deposit-clause-found : goal.returns-in-Deposit-clause-found

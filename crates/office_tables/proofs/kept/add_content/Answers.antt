@@ -1,7 +1,4 @@
-use Rattle.std.proofs.Common.{length, pos, rules, w64, ◌≡◌}
-use Rattle.std.proofs.lemmas.Int.{to_z-of_z}
-use Rattle.std.proofs.lemmas.Result.{IfOk-weaker}
-use Rattle.office_tables.proofs.ContentLemmas.{adds_content}
+use Rattle.office_tables.proofs.Lemmas.{length, pos, rules, w64, ◌≡◌, to_z-of_z, IfOk-weaker, adds_content}
 use Rattle.office_tables.proofs.kept.add_content.Goals as goal
 
 pub returns-clause-added : goal.returns-clause-added

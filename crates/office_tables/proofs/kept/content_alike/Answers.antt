@@ -1,10 +1,4 @@
-use Rattle.std.proofs.Common.{◌≡◌, Some, slice_get, option_map, rules, sym, ap, subst, ◌∙◌, w64}
-use Rattle.sqlite.specs.Order.{Row}
-use Rattle.std.proofs.lemmas.Int.{to_z-of_z}
-use Rattle.sqlite.specs.Held.{state}
-use Rattle.sql_meaning.specs.Columns.{int_at}
-use Rattle.office_tables.specs.Tables.{contents_of}
-use Rattle.office_tables.specs.Contents.{number_alike}
+use Rattle.office_tables.proofs.Common.{◌≡◌, Some, slice_get, option_map, rules, sym, ap, subst, ◌∙◌, w64, Row, to_z-of_z, state, int_at, contents_of, number_alike}
 use Rattle.office_tables.proofs.kept.content_alike.Goals as goal
 
 pub returns-in-Some-clause-found : goal.returns-in-Some-clause-found

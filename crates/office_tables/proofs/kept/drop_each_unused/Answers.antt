@@ -1,12 +1,4 @@
-use Rattle.std.proofs.Common.{◌≡◌, List, map, drop, get_or, rules, sym, ap, subst, ◌+◌, ◌∷◌, ◌∙◌, w64}
-use Rattle.std.proofs.lemmas.Int.{to_z-of_z}
-use Rattle.std.proofs.lemmas.List.{at_drop_more}
-use Rattle.sqlite.specs.Order.{Row}
-use Rattle.sqlite.specs.Held.{state}
-use Rattle.sql_meaning.specs.Columns.{int_at}
-use Rattle.office_tables.specs.Contents.{IsTidied}
-use Rattle.office_tables.proofs.ContentLemmas.{tidied_then}
-use Rattle.office_tables.proofs.InTurn.{clean_first, turn_next}
+use Rattle.office_tables.proofs.Lemmas.{◌≡◌, List, map, drop, slice_index_or as get_or, rules, sym, ap, subst, ◌+◌, ◌∷◌, ◌∙◌, w64, to_z-of_z, at_drop_more, Row, state, int_at, IsTidied, tidied_then, clean_first, turn_next}
 use Rattle.office_tables.proofs.kept.drop_each_unused.Goals as goal
 
 pub loop-row-preserved : goal.loop-row-preserved

@@ -1,8 +1,4 @@
-use Rattle.std.proofs.Common.{Ok, map, drop}
-use Rattle.sql_meaning.specs.Columns.{int_at}
-use Rattle.office_tables.specs.Calls.{GoesOnInTurn}
-use Rattle.office_tables.specs.Contents.{Does, IsTidied}
-use Rattle.office_tables.specs.declared.fault.TableFault.{TableFault}
+use Rattle.office_tables.proofs.Common.{Ok, map, drop, int_at, GoesOnInTurn, Does, IsTidied, TableFault}
 use Rattle.office_tables.proofs.kept.drop_each_unused.Given as goal
 
 abbrev pub invariant-loop-row : goal.invariant-loop-row

@@ -1,13 +1,4 @@
-use Rattle.std.proofs.Common.{◌≡◌, true, false, not, filter, rules, sym, subst, ◌∙◌, w64}
-use Rattle.sqlite.specs.Effect.{Database}
-use Rattle.sqlite.specs.State.{HasCleanDisk}
-use Rattle.std.proofs.lemmas.Int.{to_z-of_z}
-use Rattle.sqlite.specs.Held.{state}
-use Rattle.office_rows.specs.Rows.{is_content}
-use Rattle.office_tables.specs.Tables.{IsOffice, contents_of}
-use Rattle.office_tables.specs.Contents.{KeepsFiles}
-use Rattle.office_tables.proofs.ContentLemmas.{tidies_used, tidies_removed}
-use Rattle.office_tables.proofs.InTurn.{clean_first}
+use Rattle.office_tables.proofs.Lemmas.{◌≡◌, true, false, not, filter, rules, sym, subst, ◌∙◌, w64, Database, HasCleanDisk, to_z-of_z, state, is_content, IsOffice, contents_of, KeepsFiles, tidies_used, tidies_removed, clean_first}
 use Rattle.office_tables.proofs.kept.drop_unused.Goals as goal
 
 pub returns-in_ok-remove_content-clause-tidied : goal.returns-in_ok-remove_content-clause-tidied

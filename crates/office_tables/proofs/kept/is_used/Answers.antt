@@ -1,6 +1,4 @@
-use Rattle.std.proofs.Common.{◌≡◌, sym, ap, not, ◌∙◌, ◌==◌, length, rules, vec_len, w64}
-use Rattle.std.proofs.lemmas.Int.{to_z-of_z}
-use Rattle.office_tables.proofs.ContentLemmas.{any_is}
+use Rattle.office_tables.proofs.Lemmas.{◌≡◌, sym, ap, not, ◌∙◌, ◌==◌, length, rules, vec_len, w64, to_z-of_z, any_is}
 use Rattle.office_tables.proofs.kept.is_used.Goals as goal
 
 pub returns-clause-found : goal.returns-clause-found

@@ -1,6 +1,4 @@
-use Rattle.std.proofs.lemmas.Result.{IfOk-weaker}
-use Rattle.office_tables.proofs.ContentLemmas.{is_new_content}
-use Rattle.office_tables.proofs.InTurn.{clean_first}
+use Rattle.office_tables.proofs.Lemmas.{IfOk-weaker, is_new_content, clean_first}
 use Rattle.office_tables.proofs.kept.new_content.Goals as goal
 
 pub returns-clause-kept : goal.returns-clause-kept

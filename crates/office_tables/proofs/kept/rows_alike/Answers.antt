@@ -1,5 +1,4 @@
-use Rattle.std.proofs.lemmas.Result.{IfOk-weaker}
-use Rattle.office_tables.proofs.ContentLemmas.{finds_alike}
+use Rattle.office_tables.proofs.Lemmas.{IfOk-weaker, finds_alike}
 use Rattle.office_tables.proofs.kept.rows_alike.Goals as goal
 
 pub returns-clause-found : goal.returns-clause-found

@@ -1,5 +1,4 @@
-use Rattle.std.proofs.lemmas.Result.{IfOk-weaker}
-use Rattle.office_tables.proofs.ContentLemmas.{lists_contents}
+use Rattle.office_tables.proofs.Lemmas.{IfOk-weaker, lists_contents}
 use Rattle.office_tables.proofs.kept.rows_of_contents.Goals as goal
 
 pub returns-clause-found : goal.returns-clause-found

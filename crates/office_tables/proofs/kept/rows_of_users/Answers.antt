@@ -1,7 +1,4 @@
-use Rattle.std.proofs.Common.{w64}
-use Rattle.std.proofs.lemmas.Int.{to_z-of_z}
-use Rattle.std.proofs.lemmas.Result.{IfOk-weaker}
-use Rattle.office_tables.proofs.ContentLemmas.{finds_users}
+use Rattle.office_tables.proofs.Lemmas.{w64, to_z-of_z, IfOk-weaker, finds_users}
 use Rattle.office_tables.proofs.kept.rows_of_users.Goals as goal
 
 pub returns-clause-found : goal.returns-clause-found

@@ -1,5 +1,4 @@
-use Rattle.std.proofs.Common.{◌≡◌, ℤ, map, take}
-use Rattle.sql_meaning.specs.Columns.{int_at}
+use Rattle.office_tables.proofs.Common.{◌≡◌, ℤ, map, take, int_at}
 use Rattle.office_tables.proofs.kept.sizes_in.Given as goal
 
 abbrev pub invariant-loop-row : goal.invariant-loop-row

@@ -1,4 +1,4 @@
-use Rattle.office_tables.proofs.FileLemmas.{has_content, has_intact}
+use Rattle.office_tables.proofs.Lemmas.{has_content, has_intact}
 use Rattle.office_tables.proofs.laws.files_have_their_contents.Goals as goal
 
 pub returns-clause-there : goal.returns-clause-there

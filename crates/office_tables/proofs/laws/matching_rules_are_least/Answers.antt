@@ -1,5 +1,4 @@
-use Rattle.office_rows.specs.Matching.{fits_attempt}
-use Rattle.office_tables.specs.Tables.{tables_of}
+use Rattle.office_tables.proofs.Common.{fits_attempt, tables_of}
 use Rattle.office_tables.proofs.OrderLemmas.{first_is_least, first_passes, first_there, in_order, none_passes}
 use Rattle.office_tables.proofs.laws.matching_rules_are_least.Goals as goal
 

@@ -1,7 +1,4 @@
-use Rattle.std.proofs.lemmas.Result.{on_ok_weaker}
-use Rattle.office_tables.specs.Versions.{schema_at}
-use Rattle.office_tables.specs.declared.version.TableVersion.TheVariants.{Third, Fourth}
-use Rattle.office_tables.proofs.CreateTexts.{builds_hold_4}
+use Rattle.office_tables.proofs.Lemmas.{on_ok_weaker, schema_at, Third, Fourth, builds_hold_4}
 use Rattle.office_tables.proofs.MovedHolds.{copies_holds, empties_holds, holds_moved, new_is_empty}
 use Rattle.office_tables.proofs.moving.move_holds.Goals as goal
 

@@ -1,8 +1,4 @@
-use Rattle.std.proofs.Common.{pos}
-use Rattle.office_tables.specs.Versions.{schema_at}
-use Rattle.office_tables.specs.declared.version.TableVersion.TheVariants.{Fourth, Fifth}
-use Rattle.office_tables.proofs.CreateTexts.{builds_rule_5}
-use Rattle.office_tables.proofs.InTurn.{clean_first}
+use Rattle.office_tables.proofs.Lemmas.{pos, schema_at, Fourth, Fifth, builds_rule_5, clean_first}
 use Rattle.office_tables.proofs.MovedRules.{copies_rules, empties_rules, rules_moved, new_is_empty}
 use Rattle.office_tables.proofs.Versioned.{sets_version}
 use Rattle.office_tables.proofs.moving.renew_fourth.Goals as goal

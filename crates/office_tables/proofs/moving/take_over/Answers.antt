@@ -1,4 +1,4 @@
-use Rattle.office_tables.proofs.InTurn.{clean_first}
+use Rattle.office_tables.proofs.Lemmas.{clean_first}
 use Rattle.office_tables.proofs.moving.take_over.Goals as goal
 
 pub returns-clause-ran : goal.returns-clause-ran

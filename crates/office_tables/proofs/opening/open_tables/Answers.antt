@@ -1,4 +1,4 @@
-use Rattle.std.proofs.Common.{rules, pos, None, Some}
+use Rattle.office_tables.proofs.Common.{rules, pos, None, Some}
 use Rattle.office_tables.proofs.OpenLemmas.{tells_version, is_there}
 use Rattle.office_tables.proofs.opening.open_tables.Goals as goal
 

@@ -1,4 +1,4 @@
-use Rattle.std.proofs.lemmas.Result.{IfOk-weaker}
+use Rattle.office_tables.proofs.Common.{IfOk-weaker}
 use Rattle.office_tables.proofs.OfficeLemmas.{finds_limits}
 use Rattle.office_tables.proofs.opening.rows_of_limits.Goals as goal
 

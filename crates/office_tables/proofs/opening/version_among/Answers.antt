@@ -1,6 +1,4 @@
-use Rattle.std.proofs.Common.{◌∙◌, ◌+◌, drop, rules, arith}
-use Rattle.std.proofs.lemmas.List.{at_drop_more, at_drop_all}
-use Rattle.office_tables.specs.Opening.{known_row}
+use Rattle.office_tables.proofs.Common.{◌∙◌, ◌+◌, drop, rules, arith, at_drop_more, at_drop_all, known_row}
 use Rattle.office_tables.proofs.Looking.{passed_over}
 use Rattle.office_tables.proofs.opening.version_among.Goals as goal
 

@@ -1,5 +1,4 @@
-use Rattle.std.proofs.Common.{◌≡◌, drop}
-use Rattle.office_tables.specs.Opening.{known_row}
+use Rattle.office_tables.proofs.Common.{◌≡◌, drop, known_row}
 use Rattle.office_tables.proofs.opening.version_among.Given as goal
 
 abbrev pub invariant-loop-row : goal.invariant-loop-row

@@ -1,6 +1,4 @@
-use Rattle.sql_meaning.proofs.Results.{on_ok}
-use Rattle.office_tables.proofs.PolicyLemmas.{adds_caller}
-use Rattle.office_tables.proofs.SameContents.{add_caller_same}
+use Rattle.office_tables.proofs.Lemmas.{on_ok, adds_caller, add_caller_same}
 use Rattle.office_tables.proofs.policy.add_caller.Goals as goal
 
 pub returns-clause-becomes : goal.returns-clause-becomes

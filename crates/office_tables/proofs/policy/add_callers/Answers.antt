@@ -1,9 +1,4 @@
-use Rattle.std.proofs.Common.{rules, refl, subst}
-use Rattle.std.specs.Prelude.{Ok}
-use Rattle.office_rows.specs.Rows.{CallerRow, with_caller, with_callers}
-use Rattle.office_tables.specs.Calls.{Writes}
-use Rattle.office_tables.specs.declared.fault.TableFault.{TableFault}
-use Rattle.office_tables.proofs.PuttingEach.{puts_next}
+use Rattle.office_tables.proofs.Lemmas.{rules, refl, subst, Ok, CallerRow, with_caller, with_callers, Writes, TableFault, puts_next}
 use Rattle.office_tables.proofs.policy.add_callers.Goals as goal
 
 pub loop-caller-preserved : goal.loop-caller-preserved

@@ -1,6 +1,4 @@
-use Rattle.std.proofs.Common.{drop}
-use Rattle.office_rows.specs.Rows.{with_callers}
-use Rattle.office_tables.proofs.PuttingEach.{ArePut}
+use Rattle.office_tables.proofs.Lemmas.{drop, with_callers, ArePut}
 use Rattle.office_tables.proofs.policy.add_callers.Given as goal
 
 abbrev pub invariant-loop-caller : goal.invariant-loop-caller

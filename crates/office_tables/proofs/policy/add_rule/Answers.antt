@@ -1,9 +1,5 @@
-use Rattle.std.proofs.Common.{◌≡◌, rules, w64, string_bytes}
+use Rattle.office_tables.proofs.Lemmas.{◌≡◌, rules, w64, string_bytes, to_z-of_z, on_ok, adds_rule, add_rule_same}
 use mir.Val.{SFits}
-use Rattle.std.proofs.lemmas.Int.{to_z-of_z}
-use Rattle.sql_meaning.proofs.Results.{on_ok}
-use Rattle.office_tables.proofs.PolicyLemmas.{adds_rule}
-use Rattle.office_tables.proofs.SameContents.{add_rule_same}
 use Rattle.office_tables.proofs.policy.add_rule.Goals as goal
 
 pub returns-clause-becomes : goal.returns-clause-becomes

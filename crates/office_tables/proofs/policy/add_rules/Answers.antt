@@ -1,7 +1,4 @@
-use Rattle.std.proofs.Common.{rules, refl}
-use Rattle.office_rows.specs.Rows.{with_rule, with_rules}
-use Rattle.office_tables.proofs.InTurn.{in_turn, turn_failed}
-use Rattle.office_tables.proofs.PuttingEach.{puts_next}
+use Rattle.office_tables.proofs.Lemmas.{rules, refl, with_rule, with_rules, in_turn, turn_failed, puts_next}
 use Rattle.office_tables.proofs.policy.add_rules.Goals as goal
 
 pub loop-rule-preserved : goal.loop-rule-preserved

@@ -1,6 +1,4 @@
-use Rattle.std.proofs.Common.{drop}
-use Rattle.office_rows.specs.Rows.{with_rules}
-use Rattle.office_tables.proofs.PuttingEach.{ArePut}
+use Rattle.office_tables.proofs.Lemmas.{drop, with_rules, ArePut}
 use Rattle.office_tables.proofs.policy.add_rules.Given as goal
 
 abbrev pub invariant-loop-rule : goal.invariant-loop-rule

@@ -1,6 +1,4 @@
-use Rattle.sql_meaning.proofs.Results.{on_ok}
-use Rattle.office_tables.proofs.PolicyLemmas.{drops_rules}
-use Rattle.office_tables.proofs.SameContents.{drop_rules_same}
+use Rattle.office_tables.proofs.Lemmas.{on_ok, drops_rules, drop_rules_same}
 use Rattle.office_tables.proofs.policy.drop_rules.Goals as goal
 
 pub returns-clause-becomes : goal.returns-clause-becomes

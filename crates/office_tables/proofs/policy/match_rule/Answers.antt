@@ -1,9 +1,4 @@
-use Rattle.std.proofs.Common.{rules, sym, w64, ◌∙◌}
-use Rattle.std.proofs.lemmas.Int.{to_z-of_z}
-use Rattle.std.proofs.lemmas.Result.{IfOk-weaker}
-use Rattle.sqlite.specs.Held.{state}
-use Rattle.sqlite.specs.State.{HasCleanDisk}
-use Rattle.office_tables.proofs.InTurn.{whatever}
+use Rattle.office_tables.proofs.Lemmas.{rules, sym, w64, ◌∙◌, to_z-of_z, IfOk-weaker, state, HasCleanDisk, whatever}
 use Rattle.office_tables.proofs.MatchLemmas.{finds_match}
 use Rattle.office_tables.proofs.policy.match_rule.Goals as goal
 

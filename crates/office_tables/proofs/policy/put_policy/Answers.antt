@@ -1,10 +1,4 @@
-use Rattle.std.proofs.Common.{rules}
-use Rattle.sqlite.specs.State.{HasCleanDisk}
-use Rattle.sqlite.specs.Held.{state}
-use Rattle.office_tables.specs.Tables.{IsOffice, tables_of}
-use Rattle.office_tables.proofs.PolicyLemmas.{puts_policy}
-use Rattle.office_tables.proofs.Frames.{kept_once, same_after}
-use Rattle.office_tables.proofs.InTurn.{clean_first}
+use Rattle.office_tables.proofs.Lemmas.{rules, HasCleanDisk, state, IsOffice, tables_of, puts_policy, kept_once, same_after, clean_first}
 use Rattle.office_tables.proofs.policy.put_policy.Goals as goal
 
 pub returns : goal.returns

@@ -1,5 +1,4 @@
-use Rattle.std.proofs.lemmas.Result.{IfOk-weaker}
-use Rattle.office_tables.proofs.PolicyLemmas.{finds_role}
+use Rattle.office_tables.proofs.Lemmas.{IfOk-weaker, finds_role}
 use Rattle.office_tables.proofs.policy.rows_of_role.Goals as goal
 
 pub returns-clause-found : goal.returns-clause-found

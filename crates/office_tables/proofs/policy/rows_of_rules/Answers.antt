@@ -1,5 +1,4 @@
-use Rattle.std.proofs.lemmas.Result.{IfOk-weaker}
-use Rattle.office_tables.proofs.PolicyLemmas.{lists_rules}
+use Rattle.office_tables.proofs.Lemmas.{IfOk-weaker, lists_rules}
 use Rattle.office_tables.proofs.policy.rows_of_rules.Goals as goal
 
 pub returns-clause-found : goal.returns-clause-found

@@ -1,8 +1,4 @@
-use Rattle.std.proofs.Common.{◌≡◌, ap, subst, None, Err}
-use Rattle.office_rows.specs.Rows.{version_of, this_version}
-use Rattle.office_tables.specs.Opening.{IsKnownAsOther}
-use Rattle.office_tables.specs.declared.version.TableVersion.TheVariants.{Fifth}
-use Rattle.sqlite.specs.Held.{state}
+use Rattle.office_tables.proofs.Common.{◌≡◌, ap, subst, None, Err, version_of, this_version, IsKnownAsOther, Fifth, state}
 use Rattle.office_tables.proofs.FoundAgain.{goes_on, is_known, fails_only}
 use Rattle.office_tables.proofs.recovery.adopt.Goals as goal
 

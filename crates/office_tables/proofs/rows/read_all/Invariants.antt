@@ -1,4 +1,4 @@
-use Rattle.std.proofs.Common.{◌≡◌, map, take}
+use Rattle.office_tables.proofs.Common.{◌≡◌, map, take}
 use Rattle.office_tables.proofs.rows.read_all.Given as goal
 
 abbrev pub invariant-loop-row : goal.invariant-loop-row

@@ -1,6 +1,4 @@
-use Rattle.std.proofs.Common.{rules}
-use Rattle.sqlite.specs.Held.{state}
-use Rattle.sql_meaning.proofs.Inside.{stays_shown, stays_failed, goes_shown}
+use Rattle.office_tables.proofs.Common.{rules, state, stays_shown, stays_failed, goes_shown}
 use Rattle.office_tables.proofs.run.ask.Goals as goal
 
 pub returns-in-Err-clause-inside : goal.returns-in-Err-clause-inside

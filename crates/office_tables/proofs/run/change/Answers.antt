@@ -1,6 +1,4 @@
-use Rattle.std.proofs.Common.{rules}
-use Rattle.sqlite.specs.Held.{state}
-use Rattle.sql_meaning.proofs.Inside.{is_inside, goes_executed}
+use Rattle.office_tables.proofs.Common.{rules, state, is_inside, goes_executed}
 use Rattle.office_tables.proofs.run.change.Goals as goal
 
 pub returns-in-Ok-clause-ran : goal.returns-in-Ok-clause-ran

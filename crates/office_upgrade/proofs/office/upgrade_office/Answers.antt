@@ -1,5 +1,4 @@
-use Rattle.std.proofs.Common.{rules, ◌≡◌, Err, IsTrue, ap, ◌∙◌}
-use Rattle.sqlite.specs.Held.{state}
+use Rattle.office_upgrade.proofs.Common.{rules, ◌≡◌, Err, IsTrue, ap, ◌∙◌, state}
 use Rattle.office_upgrade.proofs.Again.{upgrades, takes_up, opens_older, lasts_found, leaves_office, keeps_office, goes_back, found_becomes, newest_survives, told_known, told_none, told_unknown}
 use Rattle.office_upgrade.proofs.office.upgrade_office.Goals as goal
 

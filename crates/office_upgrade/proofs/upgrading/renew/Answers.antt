@@ -1,7 +1,4 @@
-use Rattle.std.proofs.Common.{◌≡◌, pos, arith, rules}
-use Rattle.sqlite.specs.State.{HasCleanDisk}
-use Rattle.sqlite.specs.Held.{state}
-use Rattle.office_tables.specs.declared.version.TableVersion.TheVariants.{Third, Fourth, Fifth}
+use Rattle.office_upgrade.proofs.Common.{◌≡◌, pos, arith, rules, HasCleanDisk, state, Third, Fourth, Fifth}
 use Rattle.office_upgrade.proofs.Ending.{not_fourth, not_fifth}
 use Rattle.office_upgrade.proofs.upgrading.renew.Goals as goal
 

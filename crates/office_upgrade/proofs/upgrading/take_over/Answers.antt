@@ -1,15 +1,6 @@
-use Rattle.std.proofs.Common.{rules, ◌≡◌, ◌≢◌, ℤ, Some, w64, sym, subst, ◌∙◌}
+use Rattle.office_upgrade.proofs.Common.{rules, ◌≡◌, ◌≢◌, ℤ, Some, w64, sym, subst, ◌∙◌, OnOk, state, HasVersion, AllRows, BecomesAt, renewed, version_number, TableVersion, Fifth, clean_first, tells_version}
 use Rattle.std.proofs.lemmas.Int.{to_z-of_z}
-use Rattle.std.specs.Prelude.{OnOk}
 use Rattle.std.proofs.lemmas.Result.{on_ok_weaker}
-use Rattle.sqlite.specs.Held.{state}
-use Rattle.office_tables.specs.Opening.{HasVersion}
-use Rattle.office_tables.specs.Moving.{AllRows, BecomesAt, renewed}
-use Rattle.office_tables.specs.Versions.{version_number}
-use Rattle.office_tables.specs.declared.version.TableVersion.{TableVersion}
-use Rattle.office_tables.specs.declared.version.TableVersion.TheVariants.{Fifth}
-use Rattle.office_tables.proofs.InTurn.{clean_first}
-use Rattle.office_tables.proofs.OpenLemmas.{tells_version}
 use Rattle.office_upgrade.proofs.Ending.{is_renewed, seen_first}
 use Rattle.office_upgrade.proofs.upgrading.take_over.Goals as goal
 

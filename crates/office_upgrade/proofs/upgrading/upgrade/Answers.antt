@@ -1,12 +1,6 @@
-use Rattle.std.proofs.Common.{rules, ◌≡◌, ◌⊎◌, IsTrue, Ok, Err, true, false, refl, subst, sym, ◌∙◌, inl, inr}
-use Rattle.sqlite.specs.Held.{state}
-use Rattle.sqlite.specs.State.{HasCleanDisk}
+use Rattle.office_upgrade.proofs.Common.{rules, ◌≡◌, ◌⊎◌, IsTrue, Ok, Err, true, false, refl, subst, sym, ◌∙◌, inl, inr, state, HasCleanDisk, HasVersion, version_number, Fifth, is_there}
 use Rattle.office_tables.specs.declared.fault.TableFault.TheVariants as fault
-use Rattle.office_tables.specs.Opening.{HasVersion}
-use Rattle.office_tables.specs.Versions.{version_number}
-use Rattle.office_tables.specs.declared.version.TableVersion.TheVariants.{Fifth}
 use Rattle.office_upgrade.proofs.Ending.{Lasts, clean_before, commits, fails_only, lasts, lasts_back, taken_from}
-use Rattle.office_tables.proofs.OpenLemmas.{is_there}
 use Rattle.office_upgrade.proofs.upgrading.upgrade.Goals as goal
 
 pub returns-then-not-has_office-clause-failure : goal.returns-then-not-has_office-clause-failure

@@ -1,5 +1,4 @@
-use Rattle.std.proofs.Common.{◌≡◌, IfOk, subst, sym}
-use Rattle.office_history.specs.Answers.{allowed_answer}
+use Rattle.plain_office.proofs.Common.{◌≡◌, IfOk, subst, sym, allowed_answer}
 use Rattle.plain_office.proofs.answering.allowed_answer.Goals as goal
 
 pub returns-in-DownloadFile : goal.returns-in-DownloadFile

@@ -1,7 +1,4 @@
-use Rattle.std.proofs.Common.{◌∙◌, sym, ap, is_none}
-use Rattle.office_core.specs.declared.request.Request.TheVariants.{Dispose}
-use Rattle.office_history.specs.Refusals.{refusal}
-use Rattle.plain_office.proofs.WalkLemmas.{none_said, item_passes, item_fails}
+use Rattle.plain_office.proofs.Lemmas.{◌∙◌, sym, ap, is_none, Dispose, refusal, none_said, item_passes, item_fails}
 use Rattle.plain_office.proofs.answering.due_list.Goals.{then-is_none+in_ok-push, else-is_none}
 use Rattle.plain_office.proofs.answering.due_list.Goals as goal
 

@@ -1,7 +1,4 @@
-use Rattle.std.proofs.Common.{◌≡◌, ◌++◌, drop}
-use Rattle.std.specs.Prelude.{filter, is_none}
-use Rattle.office_core.specs.declared.request.Request.TheVariants.{Dispose}
-use Rattle.office_history.specs.Refusals.{refusal}
+use Rattle.plain_office.proofs.Common.{◌≡◌, ◌++◌, drop, filter, is_none, Dispose, refusal}
 use Rattle.plain_office.proofs.answering.due_list.Given as goal
 
 abbrev pub invariant-loop-number : goal.invariant-loop-number

@@ -1,6 +1,4 @@
-use Rattle.std.proofs.Common.{◌∙◌, sym}
-use Rattle.office_history.specs.Answers.{listed_record}
-use Rattle.plain_office.proofs.WalkLemmas.{item_told, item_silent}
+use Rattle.plain_office.proofs.Lemmas.{◌∙◌, sym, listed_record, item_told, item_silent}
 use Rattle.plain_office.proofs.answering.listed_records.Goals.{in-Some+in_ok-push, in_default}
 use Rattle.plain_office.proofs.answering.listed_records.Goals as goal
 

@@ -1,6 +1,4 @@
-use Rattle.std.proofs.Common.{◌≡◌, ◌++◌, drop}
-use Rattle.std.specs.List.{filter_map}
-use Rattle.office_history.specs.Answers.{listed_record}
+use Rattle.plain_office.proofs.Common.{◌≡◌, ◌++◌, drop, filter_map, listed_record}
 use Rattle.plain_office.proofs.answering.listed_records.Given as goal
 
 abbrev pub invariant-loop-number : goal.invariant-loop-number

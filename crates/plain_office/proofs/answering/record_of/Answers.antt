@@ -1,6 +1,5 @@
-use Rattle.std.proofs.Common.{◌∙◌, ap}
+use Rattle.plain_office.proofs.Common.{◌∙◌, ap, Deposit}
 use Rattle.bag_check.specs.Validity.{payload_files, payload_bytes}
-use Rattle.office_history.specs.Histories.{Deposit}
 use Rattle.plain_office.proofs.answering.record_of.Goals as goal
 
 pub returns : goal.returns

@@ -1,6 +1,4 @@
-use Rattle.std.proofs.Common.{◌∙◌, sym}
-use Rattle.office_history.specs.Answers.{told_hold}
-use Rattle.plain_office.proofs.WalkLemmas.{item_told, item_silent}
+use Rattle.plain_office.proofs.Lemmas.{◌∙◌, sym, told_hold, item_told, item_silent}
 use Rattle.plain_office.proofs.answering.told_holds.Goals.{in-Some+in_ok-push, in_default}
 use Rattle.plain_office.proofs.answering.told_holds.Goals as goal
 

@@ -1,6 +1,4 @@
-use Rattle.std.proofs.Common.{◌≡◌, ◌++◌, drop}
-use Rattle.std.specs.List.{filter_map}
-use Rattle.office_history.specs.Answers.{told_hold}
+use Rattle.plain_office.proofs.Common.{◌≡◌, ◌++◌, drop, filter_map, told_hold}
 use Rattle.plain_office.proofs.answering.told_holds.Given as goal
 
 abbrev pub invariant-loop-hold : goal.invariant-loop-hold

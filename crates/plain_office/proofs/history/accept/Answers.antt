@@ -1,8 +1,4 @@
-use Rattle.std.proofs.Common.{sym, subst}
-use Rattle.office_history.specs.Histories.{History}
-use Rattle.plain_office.specs.Changes.{change_seen}
-use Rattle.plain_office.specs.Offices.{HasRoom}
-use Rattle.plain_office.proofs.WalkLemmas.{within_grown}
+use Rattle.plain_office.proofs.Lemmas.{sym, subst, History, change_seen, HasRoom, within_grown}
 use Rattle.plain_office.proofs.history.accept.Goals as goal
 
 pub invariant_of-office-2 : goal.invariant_of-office-2

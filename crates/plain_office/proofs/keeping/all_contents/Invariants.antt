@@ -1,8 +1,5 @@
-use Rattle.std.proofs.Common.{◌≡◌, ◌++◌, drop}
-use Rattle.std.specs.List.{flat_map}
+use Rattle.plain_office.proofs.Common.{◌≡◌, ◌++◌, drop, flat_map, texts, contents_of}
 use Rattle.office_history.specs.Stocks.{files_of}
-use Rattle.bag_text.specs.Text.{texts}
-use Rattle.plain_office.specs.Stocks.{contents_of}
 use Rattle.plain_office.proofs.keeping.all_contents.Given as goal
 
 abbrev pub invariant-loop-number : goal.invariant-loop-number

@@ -1,6 +1,4 @@
-use Rattle.std.proofs.Common.{◌≡◌, drop, bytes_eq}
-use Rattle.std.specs.List.{list_any}
-use Rattle.bag_text.specs.Text.{texts}
+use Rattle.plain_office.proofs.Common.{◌≡◌, drop, bytes_eq, list_any, texts}
 use Rattle.plain_office.proofs.keeping.has_text.Given as goal
 
 abbrev pub invariant-loop-other : goal.invariant-loop-other

@@ -1,6 +1,4 @@
-use Rattle.std.proofs.Common.{◌≡◌, ◌++◌, drop}
-use Rattle.office_history.specs.Lists.{distinct_after, in_first_places}
-use Rattle.bag_text.specs.Text.{texts}
+use Rattle.plain_office.proofs.Common.{◌≡◌, ◌++◌, drop, distinct_after, in_first_places, texts}
 use Rattle.plain_office.proofs.keeping.in_first_places.Given as goal
 
 abbrev pub invariant-loop-text : goal.invariant-loop-text

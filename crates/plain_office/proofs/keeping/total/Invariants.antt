@@ -1,5 +1,4 @@
-use Rattle.std.proofs.Common.{◌≡◌, ◌+◌, drop, map, length, sum}
-use Rattle.bag_text.specs.Text.{texts}
+use Rattle.plain_office.proofs.Common.{◌≡◌, ◌+◌, drop, map, length, sum, texts}
 use Rattle.plain_office.proofs.keeping.total.Given as goal
 
 abbrev pub invariant-loop-text : goal.invariant-loop-text

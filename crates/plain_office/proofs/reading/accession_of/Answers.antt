@@ -1,7 +1,4 @@
-use Rattle.std.proofs.Common.{◌≡◌, ◌∙◌, ◌+◌, Some, None, arith}
-use Rattle.std.proofs.lemmas.Grind.{common_steps}
-use Rattle.office_history.specs.Histories.{deposits}
-use Rattle.plain_office.proofs.WalkLemmas.{accession_behind, accession_found}
+use Rattle.plain_office.proofs.Lemmas.{◌≡◌, ◌∙◌, ◌+◌, Some, None, arith, common_steps, deposits, accession_behind, accession_found}
 use Rattle.plain_office.proofs.reading.accession_of.Goals as goal
 
 pub returns-then-eq : goal.returns-then-eq

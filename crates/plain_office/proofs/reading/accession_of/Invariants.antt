@@ -1,7 +1,4 @@
-use Rattle.std.proofs.Common.{◌≡◌, ◌+◌, drop, length}
-use Rattle.std.specs.List.{filter_map}
-use Rattle.office_history.specs.Histories.{deposit_in}
-use Rattle.plain_office.proofs.WalkLemmas.{accession_behind}
+use Rattle.plain_office.proofs.Lemmas.{◌≡◌, ◌+◌, drop, length, filter_map, deposit_in, accession_behind}
 use Rattle.plain_office.proofs.reading.accession_of.Given as goal
 
 abbrev pub invariant-loop-change : goal.invariant-loop-change

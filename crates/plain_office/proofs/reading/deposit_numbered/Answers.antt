@@ -1,6 +1,4 @@
-use Rattle.std.proofs.Common.{arith}
-use Rattle.std.proofs.lemmas.Grind.{common_steps}
-use Rattle.plain_office.proofs.WalkLemmas.{numbered_next}
+use Rattle.plain_office.proofs.Lemmas.{arith, common_steps, numbered_next}
 use Rattle.plain_office.proofs.reading.deposit_numbered.Goals.{in-Some+else-left-eq1, in_default}
 use Rattle.plain_office.proofs.reading.deposit_numbered.Goals as goal
 

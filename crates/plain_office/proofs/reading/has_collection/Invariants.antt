@@ -1,6 +1,4 @@
-use Rattle.std.proofs.Common.{◌≡◌, drop, bytes_eq}
-use Rattle.std.specs.List.{list_any, filter_map}
-use Rattle.office_history.specs.Histories.{collection_in}
+use Rattle.plain_office.proofs.Common.{◌≡◌, drop, bytes_eq, list_any, filter_map, collection_in}
 use Rattle.plain_office.proofs.reading.has_collection.Given as goal
 
 abbrev pub invariant-loop-change : goal.invariant-loop-change

@@ -1,6 +1,4 @@
-use Rattle.std.proofs.Common.{◌≡◌, ◌+◌, drop, length}
-use Rattle.std.specs.List.{filter_map}
-use Rattle.office_history.specs.Histories.{hold_in}
+use Rattle.plain_office.proofs.Common.{◌≡◌, ◌+◌, drop, length, filter_map, hold_in}
 use Rattle.plain_office.proofs.reading.hold_count.Given as goal
 
 abbrev pub invariant-loop-change : goal.invariant-loop-change

@@ -1,7 +1,4 @@
-use Rattle.std.proofs.Common.{◌≡◌, drop}
-use Rattle.std.specs.List.{filter_map}
-use Rattle.office_history.specs.Lists.{item_numbered}
-use Rattle.office_history.specs.Histories.{hold_in}
+use Rattle.plain_office.proofs.Common.{◌≡◌, drop, filter_map, item_numbered, hold_in}
 use Rattle.plain_office.proofs.reading.hold_numbered.Given as goal
 
 abbrev pub invariant-loop-change : goal.invariant-loop-change

@@ -1,7 +1,4 @@
-use Rattle.std.proofs.Common.{◌≡◌, drop, option_copied}
-use Rattle.std.specs.Option.{option_or}
-use Rattle.office_history.specs.Lists.{last_said}
-use Rattle.office_history.specs.Histories.{installed_in}
+use Rattle.plain_office.proofs.Common.{◌≡◌, drop, option_copied, option_or, last_said, installed_in}
 use Rattle.plain_office.proofs.reading.installed_policy.Given as goal
 
 abbrev pub invariant-loop-change : goal.invariant-loop-change

@@ -1,6 +1,4 @@
-use Rattle.std.proofs.Common.{◌∙◌, is_none, sym, arith}
-use Rattle.office_history.specs.Histories.{destruction_day}
-use Rattle.plain_office.proofs.WalkLemmas.{filter_took, filter_passed}
+use Rattle.plain_office.proofs.Lemmas.{◌∙◌, is_none, sym, arith, destruction_day, filter_took, filter_passed}
 use Rattle.plain_office.proofs.reading.kept_numbers.Goals.{then-is_kept+in_ok-push, else-is_kept}
 use Rattle.plain_office.proofs.reading.kept_numbers.Goals as goal
 

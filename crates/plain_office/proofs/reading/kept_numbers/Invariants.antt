@@ -1,7 +1,4 @@
-use Rattle.std.proofs.Common.{◌≡◌, ◌+◌, ◌-◌, ◌++◌}
-use Rattle.std.specs.Prelude.{filter, is_none}
-use Rattle.std.specs.List.{range_with_len}
-use Rattle.office_history.specs.Histories.{destruction_day, kept_numbers}
+use Rattle.plain_office.proofs.Common.{◌≡◌, ◌+◌, ◌-◌, ◌++◌, filter, is_none, range_with_len, destruction_day, kept_numbers}
 use Rattle.plain_office.proofs.reading.kept_numbers.Given as goal
 
 abbrev pub invariant-loop-number : goal.invariant-loop-number

@@ -1,6 +1,4 @@
-use Rattle.std.proofs.Common.{◌∙◌, ◌&&◌, sym, arith}
-use Rattle.office_history.specs.Histories.{is_live, covers}
-use Rattle.plain_office.proofs.WalkLemmas.{filter_took, filter_passed}
+use Rattle.plain_office.proofs.Lemmas.{◌∙◌, ◌&&◌, sym, arith, is_live, covers, filter_took, filter_passed}
 use Rattle.plain_office.proofs.reading.live_holds.Goals.{then-holds_back+in_ok-push, else-holds_back}
 use Rattle.plain_office.proofs.reading.live_holds.Goals as goal
 

@@ -1,7 +1,4 @@
-use Rattle.std.proofs.Common.{◌≡◌, ◌+◌, ◌-◌, ◌++◌}
-use Rattle.std.specs.Prelude.{filter, ◌&&◌}
-use Rattle.std.specs.List.{range_with_len}
-use Rattle.office_history.specs.Histories.{is_live, covers, live_holds}
+use Rattle.plain_office.proofs.Common.{◌≡◌, ◌+◌, ◌-◌, ◌++◌, filter, ◌&&◌, range_with_len, is_live, covers, live_holds}
 use Rattle.plain_office.proofs.reading.live_holds.Given as goal
 
 abbrev pub invariant-loop-hold : goal.invariant-loop-hold

@@ -1,8 +1,5 @@
-use Rattle.std.proofs.Common.{◌≡◌, ◌∙◌, ◌∷◌, [], ℕ, List, Some, None, sym, ap}
-use Rattle.office_core.specs.FirstOf.{first_some}
+use Rattle.plain_office.proofs.Lemmas.{◌≡◌, ◌∙◌, ◌∷◌, [], ℕ, List, Some, None, sym, ap, first_some, denial, no_such_class, full_of_holds, one_only}
 use Rattle.office_core.specs.declared.action.Action.TheVariants as acts
-use Rattle.office_history.specs.Refusals.{denial, no_such_class, full_of_holds}
-use Rattle.plain_office.proofs.WalkLemmas.{one_only}
 use Rattle.plain_office.proofs.refusals.class_hold_refusal.Goals as goal
 
 pub returns : goal.returns

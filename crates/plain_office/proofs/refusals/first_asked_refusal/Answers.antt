@@ -1,7 +1,6 @@
-use Rattle.std.proofs.Common.{◌≡◌, ◌∙◌, ap, sym}
+use Rattle.plain_office.proofs.Common.{◌≡◌, ◌∙◌, ap, sym, facts_of, refusal_of}
 use Rattle.office_core.specs.Verdicts.{verdict_of}
 use Rattle.office_core.specs.declared.facts.Facts.{Facts}
-use Rattle.office_history.specs.Refusals.{facts_of, refusal_of}
 use Rattle.office_history.proofs.VerdictLemmas.{asked_verdict}
 use Rattle.plain_office.proofs.refusals.first_asked_refusal.Goals as goal
 

@@ -1,9 +1,5 @@
-use Rattle.std.proofs.Common.{◌≡◌, ◌∙◌, ◌∷◌, [], sym}
-use Rattle.std.proofs.lemmas.Result.{IfOk-weaker}
-use Rattle.office_core.specs.FirstOf.{first_some}
+use Rattle.plain_office.proofs.Lemmas.{◌≡◌, ◌∙◌, ◌∷◌, [], sym, IfOk-weaker, first_some, kept_refusals, no_file, first_in_front, first_behind, one_only}
 use Rattle.office_core.specs.declared.action.Action.TheVariants as acts
-use Rattle.office_history.specs.Refusals.{kept_refusals, no_file}
-use Rattle.plain_office.proofs.WalkLemmas.{first_in_front, first_behind, one_only}
 use Rattle.plain_office.proofs.refusals.first_file_refusal.Goals as goal
 
 pub returns-in-Some : goal.returns-in-Some

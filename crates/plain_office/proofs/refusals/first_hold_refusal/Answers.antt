@@ -1,8 +1,5 @@
-use Rattle.std.proofs.Common.{◌≡◌, ◌∙◌, ◌∷◌, [], sym}
-use Rattle.office_core.specs.FirstOf.{first_some}
+use Rattle.plain_office.proofs.Lemmas.{◌≡◌, ◌∙◌, ◌∷◌, [], sym, first_some, kept_refusals, full_of_holds, first_in_front}
 use Rattle.office_core.specs.declared.action.Action.TheVariants as acts
-use Rattle.office_history.specs.Refusals.{kept_refusals, full_of_holds}
-use Rattle.plain_office.proofs.WalkLemmas.{first_in_front}
 use Rattle.plain_office.proofs.refusals.first_hold_refusal.Goals as goal
 
 pub returns-in-Some : goal.returns-in-Some

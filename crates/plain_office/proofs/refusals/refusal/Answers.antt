@@ -1,4 +1,4 @@
-use Rattle.plain_office.proofs.WalkLemmas.{place_stands, place_passes}
+use Rattle.plain_office.proofs.Lemmas.{place_stands, place_passes}
 use Rattle.plain_office.proofs.refusals.refusal.Goals as goal
 
 pub returns-in-HoldDeposit : goal.returns-in-HoldDeposit

@@ -1,7 +1,4 @@
-use Rattle.std.proofs.Common.{◌≡◌, OnOk, sym, ap, subst, ◌∙◌}
-use Rattle.office_history.specs.Histories.{with_changes}
-use Rattle.plain_office.specs.Changes.{change_seen, changes_seen}
-use Rattle.office_history.proofs.Accepted.{grown_by_none}
+use Rattle.plain_office.proofs.Common.{◌≡◌, OnOk, sym, ap, subst, ◌∙◌, with_changes, change_seen, changes_seen, grown_by_none}
 use Rattle.plain_office.proofs.serving.make_change.Goals as goal
 
 pub accept-requires : goal.accept-requires

@@ -1,4 +1,4 @@
-use Rattle.std.proofs.Common.{◌∙◌, sym}
+use Rattle.plain_office.proofs.Common.{◌∙◌, sym}
 use Rattle.plain_office.proofs.RoomLemmas.{room_for}
 use Rattle.plain_office.proofs.serving.serve.Goals as goal
 

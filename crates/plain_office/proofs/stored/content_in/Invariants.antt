@@ -1,6 +1,5 @@
-use Rattle.std.proofs.Common.{◌≡◌, drop}
+use Rattle.plain_office.proofs.Common.{◌≡◌, drop, files_of}
 use Rattle.bag_text.specs.TransferForm.{content_at}
-use Rattle.bag_text.specs.TransferReading.{files_of}
 use Rattle.plain_office.proofs.stored.content_in.Given as goal
 
 abbrev pub invariant-loop-file : goal.invariant-loop-file

@@ -1,5 +1,4 @@
-use Rattle.bag_check.proofs.Common.{◌∙◌, rules}
-use Rattle.bag_check.proofs.Lemmas.{encodes}
+use Rattle.bag_check.proofs.Lemmas.{◌∙◌, rules, encodes}
 use Rattle.bag_check.proofs.display.AfterSpaceDisplay.fmt.Goals as goal
 
 pub returns-in-Some-clause-writes : goal.returns-in-Some-clause-writes

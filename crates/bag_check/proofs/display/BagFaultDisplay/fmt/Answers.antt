@@ -1,5 +1,4 @@
-use Rattle.bag_check.proofs.Common.{rules, named_fault}
-use Rattle.bag_check.proofs.Lemmas.{printed_parts}
+use Rattle.bag_check.proofs.Lemmas.{rules, named_fault, printed_parts}
 use Rattle.std.specs.Result.{IsOk}
 use Rattle.std.proofs.lemmas.Grind.{put_two}
 use Rattle.bag_check.proofs.display.BagFaultDisplay.fmt.Goals as goal

@@ -1,5 +1,4 @@
-use Rattle.bag_text.proofs.Common.{◌≡◌, ap, rules, is_some, listing_at}
-use Rattle.bag_text.proofs.Lemmas.{listing_is_entry, says_path}
+use Rattle.bag_text.proofs.Lemmas.{◌≡◌, ap, rules, is_some, listing_at, listing_is_entry, says_path}
 use Rattle.bag_text.proofs.listing.Manifest.get.Goals as goal
 
 pub returns-clause-entry : goal.returns-clause-entry

@@ -1,5 +1,4 @@
-use Rattle.bag_text.proofs.Common.{◌∙◌, List, ap, sym, File, content_at}
-use Rattle.bag_text.proofs.Lemmas.{content_stands, content_found, content_missing, none_copied}
+use Rattle.bag_text.proofs.Lemmas.{◌∙◌, List, ap, sym, File, content_at, content_stands, content_found, content_missing, none_copied}
 use Rattle.bag_text.proofs.set.BagSet.get.Goals as goal
 
 pub returns-clause-found : goal.returns-clause-found

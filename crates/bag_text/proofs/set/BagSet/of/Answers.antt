@@ -1,5 +1,4 @@
-use Rattle.bag_text.proofs.Common.{files_of}
-use Rattle.bag_text.proofs.Lemmas.{is_list, is_made, is_refused, has_fault}
+use Rattle.bag_text.proofs.Lemmas.{files_of, is_list, is_made, is_refused, has_fault}
 use Rattle.bag_text.proofs.set.BagSet.of.Goals as goal
 
 pub returns-clause-made : goal.returns-clause-made

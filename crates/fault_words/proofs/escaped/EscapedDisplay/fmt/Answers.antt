@@ -1,4 +1,4 @@
-use Rattle.std.proofs.Common.{◌∙◌, rules}
+use Rattle.fault_words.proofs.Common.{◌∙◌, rules}
 use Rattle.bag_check.proofs.CodeLemmas.{encodes}
 use Rattle.fault_words.proofs.escaped.EscapedDisplay.fmt.Goals as goal
 

@@ -1,4 +1,4 @@
-use Rattle.office_history.specs.Runs.{new}
+use Rattle.plain_office.proofs.Common.{new}
 use Rattle.plain_office.proofs.history.Office.create.Goals as goal
 
 pub returns-clause-legal : goal.returns-clause-legal

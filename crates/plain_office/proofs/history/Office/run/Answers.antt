@@ -1,5 +1,4 @@
-use Rattle.std.proofs.Common.{arith}
-use Rattle.std.proofs.lemmas.Grind.{common_steps}
+use Rattle.plain_office.proofs.Common.{arith, common_steps}
 use Rattle.plain_office.proofs.RunLemmas.{run_on, run_end, run_of}
 use Rattle.plain_office.proofs.history.Office.run.Goals as goal
 

@@ -1,8 +1,4 @@
-use Rattle.std.proofs.Common.{◌≡◌, ◌≤◌, ◌++◌, List, length, drop, vec_len, vec_capacity}
-use Rattle.office_core.specs.declared.answer.Answer.{Answer}
-use Rattle.office_history.specs.Histories.{History}
-use Rattle.plain_office.specs.Offices.{IsWantOfMemory}
-use Rattle.office_history.specs.Runs.{IsLegal, RunFailing}
+use Rattle.plain_office.proofs.Common.{◌≡◌, ◌≤◌, ◌++◌, List, length, drop, vec_len, vec_capacity, Answer, History, IsWantOfMemory, IsLegal, RunFailing}
 use Rattle.plain_office.proofs.history.Office.run.Given as goal
 
 abbrev pub invariant-loop-item : goal.invariant-loop-item

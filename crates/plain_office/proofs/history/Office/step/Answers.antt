@@ -1,5 +1,4 @@
-use Rattle.std.proofs.Common.{sym, subst}
-use Rattle.office_history.specs.Runs.{IsLegal, serve}
+use Rattle.plain_office.proofs.Common.{sym, subst, IsLegal, serve}
 use Rattle.plain_office.proofs.history.Office.step.Goals as goal
 
 pub returns-in-Ok-clause-legal : goal.returns-in-Ok-clause-legal
