@@ -19,7 +19,7 @@ use Rattle.bag_check.specs.FaultTexts.{fault_text, printed_text}
 use Rattle.bag_check.specs.Validity.{Report}
 use Rattle.bag_check.specs.Judging as judging
 
--- the fault that an answer names, or none: want of memory
+-- the fault that an answer names, or none where memory ran out
 abbrev pub named_fault : BagFault → Option Fault
 named_fault faults.NoDeclaration = Some NoDeclaration
 named_fault (faults.Declaration f) = Some (Declaration f)
@@ -40,7 +40,7 @@ named_fault faults.OxumWrong = Some OxumWrong
 named_fault (faults.ChecksumWrong name path) = Some (Breaks rules_of.ChecksumWrong name.now (cow_str_bytes path))
 named_fault faults.Memory = None
 
--- the fault that comes first of those that stand in the bag
+-- the fault that comes first of those that the bag has
 abbrev pub NamesFirst : List File → BagFault → Type 0
 NamesFirst bag fault = (first : Fault) × (named_fault fault ≡ Some first) × FirstFault bag first
 

@@ -20,7 +20,7 @@ Holds bag path content = Contains bag (record { path = path; content = content }
 abbrev pub HasFile : List File → List ℕ → Type 0
 HasFile bag path = (content : List ℕ) × Holds bag path content
 
--- no `/` stands in it
+-- it has no `/`
 abbrev pub IsTop : List ℕ → Type 0
 IsTop path = list_any (λ b. b == 47) path ≡ false
 

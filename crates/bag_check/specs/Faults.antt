@@ -54,7 +54,7 @@ IsBroken bag v rules_of.ChecksumWrong name path =
 abbrev pub HasOxum : List File → List ℕ → Type 0
 HasOxum bag value = (text : List ℕ) × (pairs : List Pair) × Holds bag info_path text × SaysInfo text pairs × Contains (oxums_of pairs) value
 
--- where a fault stands; from the manifests' texts on only in bags that declare a version
+-- where a fault applies; from the manifests' texts on only in bags that declare a version
 abbrev pub Stands : List File → Fault → Type 0
 Stands bag NoDeclaration = HasFile bag declaration_path → ⊥
 Stands bag (Declaration f) = (text : List ℕ) × Holds bag declaration_path text × (declaration_fault text ≡ Some f)
@@ -111,6 +111,6 @@ ComesFirst x y =
     (fault_number x < fault_number y)
     ⊎ ((fault_number x ≡ fault_number y) × PlaceBefore (fault_name x, fault_path x) (fault_name y, fault_path y))
 
--- The fault that is named of a bag: it stands, and none that stands comes before it.
+-- The fault that is named of a bag: it applies, and none that applies comes before it.
 abbrev pub FirstFault : List File → Fault → Type 0
 FirstFault bag fault = Stands bag fault × ((other : Fault) → Stands bag other → ComesFirst other fault → ⊥)

@@ -5,7 +5,7 @@ use Rattle.std.specs.Char.{is_ascii_digit}
 use Rattle.bag_text.specs.Text.{is_blank}
 use Rattle.bag_check.specs.Validity.{number_from}
 
--- the digits at the front of a text, and what stands after them
+-- the digits at the front of a text, and what follows them
 abbrev pub digit_len : List ℕ → ℕ
 digit_len t = position_or_len (λ b. not (is_ascii_digit b)) t
 
@@ -19,7 +19,7 @@ behind_digits t = drop (digit_len t) t
 abbrev pub number_spelled : List ℕ → Option ℕ
 number_spelled digits = if nat_le 1 (length digits) && nat_le (length digits) 20 then Some (number_from 0 digits) else None
 
--- what stands after a full stop
+-- what follows a full stop
 abbrev pub behind_stop : List ℕ → Option (List ℕ)
 behind_stop [] = None
 behind_stop (b ∷ t) = if b == 46 then Some t else None

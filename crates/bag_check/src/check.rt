@@ -1,4 +1,4 @@
-//! A bag is judged.
+//! Judging a bag: its counts, or its first fault.
 
 ghost use Rattle.std.specs.Prelude.{◌≡◌, ◌⊎◌, IfOk, IfErr, IsErrAnd, MatchResult, None, Some, map};
 ghost use Rattle.std.specs.List.{list_any};
@@ -118,7 +118,7 @@ fn keep_rules<'a>(
     Ok(())
 }
 
-/// The rules about what is listed, checksums aside, by their numbers.
+/// The rules about what is listed, without those about checksums, by their numbers.
 const LISTING_RULES: [Rule; 6] = [
     Rule::OutsidePayload,
     Rule::TagManifestListed,

@@ -26,7 +26,7 @@ pub fn oxum_counts()
         → (counts_of value ≡ Some (bytes, files)) ↔ NamesCounts value bytes files }
 {}
 
-/// No fault of the table stands in a valid bag, and a bag in which none stands is valid.
+/// No fault of the table applies to a valid bag, and a bag to which none applies is valid.
 pub fn no_fault_where_valid()
     ensures none { (files : List File) (v : Version) (fault : Fault) → IsBag files
         → Valid files v → Stands files fault → ⊥ }

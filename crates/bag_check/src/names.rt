@@ -13,7 +13,7 @@ pub enum Kind {
     Tag,
 }
 
-/// Whether a slash stands in a path.
+/// Whether a slash is in a path.
 fn has_slash(path: &[u8]) -> bool
     ensures { result ≡ list_any (λ b. b == 47) path.now }
 {

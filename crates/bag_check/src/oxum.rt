@@ -19,7 +19,7 @@ pub struct Counts {
     pub files: u128,
 }
 
-/// How many digits stand at the front.
+/// How many digits are at the front.
 fn digit_len(text: &[u8]) -> usize
     ensures { result ≡ digit_len text.now }
 {
@@ -28,7 +28,7 @@ fn digit_len(text: &[u8]) -> usize
         .unwrap_or(text.len())
 }
 
-/// The digits at the front, and what stands after them.
+/// The digits at the front, and what follows them.
 #[tactic(auto, using(crate::proofs::CountsLemmas::digits_fit))]
 fn split_digits(text: &[u8]) -> (&[u8], &[u8])
     ensures digits { result.0.now ≡ digits_in text.now }
@@ -61,7 +61,7 @@ fn read_number(digits: &[u8]) -> Option<u128>
     Some(number(digits))
 }
 
-/// The number at the front, and what stands after its digits.
+/// The number at the front, and what follows its digits.
 fn split_number(text: &[u8]) -> (Option<u128>, &[u8])
     ensures number { result.0 ≡ number_spelled (digits_in text.now) }
     ensures rest { result.1.now ≡ behind_digits text.now }
@@ -70,7 +70,7 @@ fn split_number(text: &[u8]) -> (Option<u128>, &[u8])
     (read_number(digits), rest)
 }
 
-/// What stands after a full stop.
+/// What follows a full stop.
 fn behind_stop(text: &[u8]) -> Option<&[u8]>
     ensures { option_copied result ≡ behind_stop text.now }
 {

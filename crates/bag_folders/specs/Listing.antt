@@ -24,7 +24,7 @@ joined folder name = if length folder == 0 then name else if length name == 0 th
 
 -- ---- one folder
 
--- An entry is told of what the system gave for a name: the name; or that it isn't UTF-8, and then, and then alone, that is why the entry is odd, and `?` stands for the name.
+-- An entry is told of what the system gave for a name: the name; or that it isn't UTF-8, and then, and then alone, that is why the entry is odd, and its path is `?`.
 abbrev pub IsToldOf : {R A F D : Type 0} → List ℕ → Result (DirEntry R A F D) Error → Entry → Type 0
 IsToldOf folder (Ok name) entry = (string_bytes entry.path ≡ joined folder (dir_entry_name name)) × (entry.kind ≢ Odd NotUtf8)
 IsToldOf folder (Err error) entry = (error_kind error ≡ InvalidFilename) × (entry.kind ≡ Odd NotUtf8) × (string_bytes entry.path ≡ joined folder (codes "?"))

@@ -31,7 +31,7 @@ judged_part given = take (max_form + 1) given
 
 -- ---- what is made of a bag
 
--- the folder in which a file stands: what is before the last slash of its path
+-- the folder that a file is in: what is before the last slash of its path
 unfoldable pub folder_of : List ℕ → Option (List ℕ)
 folder_of [] = None
 folder_of (b ∷ path) = option_or (option_map (λ folder. b ∷ folder) (folder_of path)) (if b == 47 then Some [] else None)
@@ -40,11 +40,11 @@ folder_of (b ∷ path) = option_or (option_map (λ folder. b ∷ folder) (folder
 abbrev pub needs_data : List (List ℕ) → Bool
 needs_data paths = list_any (λ path. bytes_eq path declaration_path) paths && not (list_any is_payload paths)
 
--- the folders that are made: those in which the files of these paths stand, and `data` for a bag without a payload
+-- the folders that are made: those that the files of these paths are in, and `data` for a bag without a payload
 abbrev pub folders_of : List (List ℕ) → List (List ℕ)
 folders_of paths = filter_map folder_of paths ++ (if needs_data paths then codes "data" ∷ [] else [])
 
--- something may stand where the folder is to be made, or fail
+-- something may be where the folder is to be made, or fail
 abbrev pub CanStop : UnpackFault → Type 0
 CanStop Exists = Unit {0}
 CanStop (Device trouble) = Unit {0}
@@ -58,7 +58,7 @@ MakesFiles files (Err fault) = CanStop fault
 
 -- ---- what comes of a text
 
--- the files of the bag whose form it is are made; or it is refused; only the form of a bag meets something that stands there
+-- the files of the bag whose form it is are made; or it is refused; only the form of a bag meets something that is there
 abbrev pub IsUnpackedFrom : List ℕ → Result Unpacked UnpackFault → Type 0
 IsUnpackedFrom text (Ok unpacked) = (files : List File) × IsFormOf files text × (unpacked.files ≡ length files)
 IsUnpackedFrom text (Err Exists) = (files : List File) × IsFormOf files text
@@ -89,7 +89,7 @@ IsUnpackedFromFile reads result = SomeFile reads (λ given. IsUnpackedFrom (judg
 abbrev pub IsUnpacked : Unpacked → Type 0
 IsUnpacked unpacked = (files : List File) × (text : List ℕ) × IsFormOf files text × (unpacked.files ≡ length files)
 
--- a text that may be read is refused so; something may stand where the folder is to be made, and a device may fail
+-- a text that may be read is refused so; something may be where the folder is to be made, and a device may fail
 abbrev pub MayBeUnreadable : UnpackFault → Type 0
 MayBeUnreadable Exists = Unit {0}
 MayBeUnreadable (Device trouble) = Unit {0}

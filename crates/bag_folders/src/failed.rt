@@ -16,7 +16,7 @@ use std::{fmt, io};
 pub enum Tried {
     /// The names in a folder were read.
     List,
-    /// It was asked what stands at a path.
+    /// It was asked what is at a path.
     Look,
     /// A file's bytes were read.
     Read,
@@ -73,7 +73,7 @@ impl fmt::Display for Trouble {
 
 impl Error for Trouble {}
 
-/// What a call stands on has failed.
+/// What a call depends on has failed.
 #[derive(Debug, Drop, thiserror::Error)]
 pub enum Failed {
     /// A file, a folder or another device.

@@ -40,7 +40,7 @@ pub fn path_under(alloc: Global, folder: &str, path: &str) -> Result<String, All
     format!(in alloc; "{folder}/{path}")
 }
 
-/// The path of a name in this folder. An empty text stands for no folder and for no name.
+/// The path of a name in this folder. An empty text means no folder, or no name.
 fn path_in(alloc: Global, folder: &str, name: &str) -> Result<String, AllocError>
     ensures { IfOk result (λ whole. string_bytes whole ≡ joined folder.now name.now) }
 {
@@ -90,8 +90,8 @@ fn entry_of<R: Files>(
     }
 }
 
-/// The entry of a name that the system didn't give. Where that is since the name isn't UTF-8, `?` stands
-/// for it.
+/// The entry of a name that the system didn't give. Where that is since the name isn't UTF-8, its path
+/// is `?`.
 fn unnamed_entry(alloc: Global, path: &str, folder: &str, error: io::Error) -> Result<Entry, Failed>
     ensures { IfOk result (λ entry. (error_kind error ≡ InvalidFilename)
         × (entry.kind ≡ Kind.Odd NotUtf8) × (string_bytes entry.path ≡ joined folder.now (codes "?"))) }

@@ -9,8 +9,8 @@ use std::io::Read;
 use std::rt::Files;
 use std::{fs, io};
 
-/// Appends the bytes of a file that has this size, which are read where they are to stand. Where it has
-/// another size by now, it changed while it was packed.
+/// Appends the bytes of a file that has this size, read to where they belong. A file that has another
+/// size by now was changed while it was packed.
 fn append_content<F: Read>(
     alloc: Global,
     path: &str,

@@ -48,7 +48,7 @@ fn needs_data(files: &[(&str, &[u8])]) -> bool
     has_declaration(files) && !has_payload(files)
 }
 
-/// The folder in which a file stands, where it stands in one.
+/// The folder that a file is in, where it is in one.
 fn folder_of<'a>(path: &'a str) -> Option<&'a str>
     ensures { option_copied result ≡ folder_of path.now }
 {
@@ -58,7 +58,7 @@ fn folder_of<'a>(path: &'a str) -> Option<&'a str>
     }
 }
 
-/// Adds the folder in which a file stands, where it stands in one.
+/// Adds the folder that a file is in, where it is in one.
 fn add_folder<'a>(folders: &mut Vec<&'a str>, path: &'a str) -> Result<(), AllocError>
     ensures { OnOk result
         (map (λ folder. folder.now) folders.new.items
@@ -72,7 +72,7 @@ fn add_folder<'a>(folders: &mut Vec<&'a str>, path: &'a str) -> Result<(), Alloc
     Ok(())
 }
 
-/// The folders in which the files stand.
+/// The folders that the files are in.
 fn needed_folders<'a>(
     alloc: Global,
     files: &[(&'a str, &'a [u8])],
@@ -92,7 +92,7 @@ pub fn folders_of<'a>(
     alloc: Global,
     files: &[(&'a str, &'a [u8])],
 ) -> Result<Vec<&'a str>, AllocError>
-    // They are those in which the files stand, and `data` where the bag has no payload.
+    // They are those that the files are in, and `data` where the bag has no payload.
     ensures { IfOk result (λ folders.
         map (λ folder. folder.now) folders.items ≡ folders_of (paths_found (files_of files.now))) }
 {
@@ -106,14 +106,14 @@ pub fn folders_of<'a>(
 
 /// What makes the folders and files of a bag, in a first folder.
 pub trait Maker {
-    /// Makes the first folder, where nothing stands under its name.
+    /// Makes the first folder, where nothing has its name.
     fn make_first(&mut self) -> Result<(), UnpackFault>
         ensures { IfErr result CanStop };
 
     /// Makes a folder of this path in the first one, and those above it.
     fn make_folder(&mut self, path: &str) -> Result<(), Failed>;
 
-    /// Makes a file of this path in the first folder, where none stands, and writes the bytes to it.
+    /// Makes a file of this path in the first folder, where there is none, and writes the bytes to it.
     fn make_file(&mut self, path: &str, content: &[u8]) -> Result<(), Failed>;
 }
 
@@ -171,7 +171,7 @@ fn make_folders<M: Maker>(maker: &mut M, folders: &[&str]) -> Result<(), Failed>
     Ok(())
 }
 
-/// Makes the files of a bag, whose folders stand.
+/// Makes the files of a bag, whose folders are there.
 fn make_files<M: Maker>(maker: &mut M, files: &[(&str, &[u8])]) -> Result<(), Failed> {
     for file in files {
         maker.make_file(file.0, file.1)?;
@@ -202,10 +202,10 @@ pub fn make_bag<M: Maker>(
     maker: &mut M,
     read: Result<BagSet<'_>, UnpackFault>,
 ) -> Result<Unpacked, UnpackFault>
-    // Where none was, that is said, whatever stands under the folder's name, and nothing is made.
+    // Where none was, that is said, whatever has the folder's name, and nothing is made.
     ensures unread { IfErr read.entry (λ fault. (result ≡ Err fault)
         × (maker.new ≡ maker.old)) }
-    // Else the files are counted, or something stands there or fails.
+    // Else the files are counted, or something is there or fails.
     ensures made { IfOk read.entry (λ bag. MakesFiles bag result) }
 {
     match read {

@@ -66,7 +66,7 @@ pub fn pack<'a, R: Files + AllocGlobal>(
     folder: &'a str,
     file: &str,
 ) -> Result<Packed, PackFault>
-    // What is packed is the form of some list of files, of so many files and bytes, and it is said whether
+    // What is packed is the form of some list of files, with these numbers of files and bytes, and it is said whether
     // a declaration is among them.
     ensures packed { IfOk result IsPacked }
     // It has all that the system lists under the folder.

@@ -23,7 +23,7 @@ fn name_beside(alloc: Global, file: &str, number: u32) -> Result<String, AllocEr
     }
 }
 
-/// Refuses a name at which something stands that is no file: a folder, a link, a device.
+/// Refuses a name that something has that is no file: a folder, a link, a device.
 fn check_place<R: Files + AllocGlobal>(rt: &R, file: &str) -> Result<(), Failed> {
     match fs::symlink_metadata(rt, file) {
         Ok(metadata) => {
@@ -74,7 +74,7 @@ fn write_and_rename<R: Files + AllocGlobal>(
     Ok(())
 }
 
-/// Writes a file whole, or leaves what stands under its name as it was.
+/// Writes a file whole, or leaves what has its name as it was.
 pub(crate) fn put<R: Files + AllocGlobal>(rt: &R, file: &str, bytes: &[u8]) -> Result<(), Failed> {
     check_place(rt, file)?;
     for number in 0..MOST_NAMES {

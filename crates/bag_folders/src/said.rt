@@ -108,7 +108,7 @@ fn odd_entry_said(alloc: Global, odd: &Odd) -> Result<Said, AllocError>
     })
 }
 
-/// What is said of a folder that was to be packed; or what failed, of which standard error is told.
+/// What is said of a folder that was to be packed; or what failed, which is printed to standard error.
 pub fn pack_said(alloc: Global, packing: Result<Packed, PackFault>) -> Result<Said, Failed>
     // What is said is so.
     ensures said { IfOk result (SaysOfPack packing) }
@@ -133,7 +133,7 @@ pub fn pack_said(alloc: Global, packing: Result<Packed, PackFault>) -> Result<Sa
     }
 }
 
-/// What is said of a form that was to be unpacked; or what failed, of which standard error is told.
+/// What is said of a form that was to be unpacked; or what failed, which is printed to standard error.
 pub fn unpack_said(alloc: Global, unpacking: Result<Unpacked, UnpackFault>) -> Result<Said, Failed>
     // What is said is so.
     ensures said { IfOk result (SaysOfUnpack unpacking) }

@@ -20,7 +20,7 @@ pub enum UnpackFault {
     /// The text has too many bytes.
     #[error("SIZE")]
     Size,
-    /// Something already stands where the folder is to be made.
+    /// Something is already where the folder is to be made.
     #[error("exists")]
     Exists,
     /// A file, a folder or another device failed.

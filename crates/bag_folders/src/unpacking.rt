@@ -44,13 +44,13 @@ pub fn unpack_from<F: Read, M: Maker>(
 }
 
 /// Makes the folder, and in it the files of the bag whose transfer form the file is. After a failure
-/// files that were made so far may stand.
+/// files that were made may be left.
 pub fn unpack<R: Files + AllocGlobal>(
     rt: &R,
     file: &str,
     folder: &str,
 ) -> Result<Unpacked, UnpackFault>
-    // What is unpacked is some bag, of so many files.
+    // What is unpacked is some bag, with this number of files.
     ensures unpacked { IfOk result IsUnpacked }
     // What is refused is so for a text that has the fault that is named.
     ensures refused { IfErr result MayBeUnreadable }

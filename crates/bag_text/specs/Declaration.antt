@@ -68,7 +68,7 @@ version_value text = option_and_then (after_label version_label) (slice_get (lin
 abbrev pub encoding_value : List ℕ → Option (List ℕ)
 encoding_value text = option_and_then (after_label encoding_label) (slice_get (lines text) 1)
 
--- whether a row of the faults stands
+-- whether a row of the faults applies
 abbrev pub declaration_has : List ℕ → DeclFault → Bool
 declaration_has text NotUtf8 = not (is_utf8 text)
 declaration_has text ByteOrderMark = has_mark text
@@ -78,7 +78,7 @@ declaration_has text UnsupportedVersion = option_map_or (λ value. not (is_suppo
 declaration_has text BadEncodingLine = option_map_or (λ value. length value == 0) (encoding_value text) true
 declaration_has text UnsupportedEncoding = option_map_or (λ value. not (is_utf8_name value)) (encoding_value text) true
 
--- the first row that stands
+-- the first row that applies
 abbrev pub declaration_fault : List ℕ → Option DeclFault
 declaration_fault text = find (declaration_has text)
     (NotUtf8 ∷ ByteOrderMark ∷ NotTwoLines ∷ BadVersionLine ∷ UnsupportedVersion ∷ BadEncodingLine ∷ UnsupportedEncoding ∷ [])

@@ -21,7 +21,7 @@ label_of line = drop_last_blanks (take (position_or_len is_colon line) line)
 abbrev pub value_of : List ℕ → List ℕ
 value_of line = skip_blanks (drop (position_or_len is_colon line + 1) line)
 
--- what stands before a line's first colon, and after it
+-- what comes before a line's first colon, and after it
 abbrev pub colon_cut : List ℕ → Option (List ℕ × List ℕ)
 colon_cut line =
     if list_any is_colon line then Some (take (position_or_len is_colon line) line, drop (position_or_len is_colon line + 1) line) else None
@@ -58,7 +58,7 @@ info_of text =
 
 -- ---- what a call answers, memory aside
 
--- the fault that an error names, none for want of memory
+-- the fault that an error names, none where memory ran out
 abbrev pub named_info_fault : InfoFault → Option InfoFault
 named_info_fault Memory = None
 named_info_fault fault = Some fault

@@ -8,7 +8,7 @@ abbrev pub after_end_of : List ℕ → List ℕ
 after_end_of [] = []
 after_end_of (b ∷ t) = if b == 13 && begins_with 10 t then drop 1 t else t
 
--- the first line of a text, and what stands after its end
+-- the first line of a text, and what follows its end
 abbrev pub first_line : List ℕ → List ℕ
 first_line t = take (position_or_len is_end t) t
 

@@ -21,7 +21,7 @@ abbrev pub percent : Version → Option ℕ
 percent V1_0 = Some 37
 percent V0_97 = None
 
--- the character that three bytes stand for, where they are a coded triple: %0A, %0D, in 1.0 also %25
+-- the character that three bytes mean, where they are a coded triple: %0A, %0D, in 1.0 also %25
 abbrev pub coded_character : Version → ℕ → ℕ → ℕ → Option ℕ
 coded_character v a b c =
     if not (a == 37) then None
@@ -125,7 +125,7 @@ pub record IsManifest (v : Version) (a : Algorithm) (text : List ℕ) : Type 0 w
 
 -- ---- the faults
 
--- what stands before the first blank, and after the blanks
+-- what comes before the first blank, and after the blanks
 abbrev pub sum_text : List ℕ → List ℕ
 sum_text line = take (position_or_len is_blank line) line
 

@@ -84,7 +84,7 @@ manifest_of v a text =
 
 -- ---- what a call answers, memory aside
 
--- the fault that an error names, none for want of memory
+-- the fault that an error names, none where memory ran out
 abbrev pub named_line_fault : LineFault → Option LineFault
 named_line_fault Memory = None
 named_line_fault fault = Some fault

@@ -1,4 +1,4 @@
--- Why a line of a manifest lists no good path (L5): seven causes, and the first of them that stands.
+-- Why a line of a manifest lists no good path (L5): seven causes, and the first of them that applies.
 use Rattle.std.specs.Prelude.{ℕ, Bool, not, List, [], ◌∷◌, length, Option, bytes_eq, codes, find, nat_lt, ◌==◌}
 use Rattle.std.specs.List.{list_any}
 use Rattle.std.specs.Str.{is_utf8}
@@ -9,7 +9,7 @@ use Rattle.bag_text.specs.Text.{begins_with}
 use Rattle.bag_text.specs.Paths.{max_path, segments}
 use Rattle.bag_text.specs.Manifest.{decode}
 
--- whether a cause stands: `*` at the front of the spelled path, and the others in the path that it spells
+-- whether a cause applies: `*` at the front of the spelled path, and the others in the path that it spells
 abbrev pub stands_for : List ℕ → List ℕ → PathCause → Bool
 stands_for spelled path Starred = begins_with 42 spelled
 stands_for spelled path NotUtf8 = not (is_utf8 path)
@@ -19,10 +19,10 @@ stands_for spelled path DotSegment = list_any (λ s. bytes_eq s (codes ".")) (se
 stands_for spelled path DotDotSegment = list_any (λ s. bytes_eq s (codes "..")) (segments path)
 stands_for spelled path Nul = list_any (λ b. b == 0) path
 
--- the causes that stand in the path itself, in their order
+-- the causes in the path itself, in their order
 abbrev pub own_causes : List PathCause
 own_causes = NotUtf8 ∷ TooLong ∷ EmptySegment ∷ DotSegment ∷ DotDotSegment ∷ Nul ∷ []
 
--- the first cause that stands
+-- the first cause that applies
 abbrev pub path_cause : Version → List ℕ → Option PathCause
 path_cause version spelled = find (stands_for spelled (decode version spelled)) (Starred ∷ own_causes)

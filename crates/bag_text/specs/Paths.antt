@@ -11,7 +11,7 @@ use Rattle.bag_text.specs.declared.path.PathFault.TheVariants.{Empty, TooLong, E
 abbrev pub max_path : ℕ
 max_path = 1024
 
--- what stands between the slashes
+-- what is between the slashes
 abbrev pub segments : List ℕ → List (List ℕ)
 segments path = slice_split (λ b. b == 47) path
 
@@ -27,7 +27,7 @@ pub record GoodPath (path : List ℕ) : Type 0 where
   pub no_dots : (segment : List ℕ) → Contains (segments path) segment → (segment ≢ codes ".") × (segment ≢ codes "..")
   pub no_nul : Contains path 0 → ⊥
 
--- whether a row of the faults stands
+-- whether a row of the faults applies
 abbrev pub path_has : List ℕ → PathFault → Bool
 path_has path Empty = length path == 0
 path_has path TooLong = nat_lt max_path (length path)
@@ -35,7 +35,7 @@ path_has path EmptySegment = list_any (λ s. length s == 0) (segments path)
 path_has path DotSegment = list_any is_dots_of (segments path)
 path_has path Nul = list_any (λ b. b == 0) path
 
--- the first row that stands
+-- the first row that applies
 abbrev pub path_fault : List ℕ → Option PathFault
 path_fault path = find (path_has path) (Empty ∷ TooLong ∷ EmptySegment ∷ DotSegment ∷ Nul ∷ [])
 

@@ -21,7 +21,7 @@ pub record HasSizes (p c : ℕ) : Type 0 where
   pub short_path : p ≤ max_path
   pub short_content : c ≤ max_content
 
--- what may stand at an entry's place: END LF, or a header
+-- what may be at an entry's place: END LF, or a header
 abbrev pub IsEndOrHeader : List ℕ → Type 0
 IsEndOrHeader t = (t ≡ ending) ⊎ ((p : ℕ) × (c : ℕ) × HasSizes p c × (t ≡ header p c))
 
@@ -42,7 +42,7 @@ EntryFault offset before head (OutOfOrder n) =
     (n ≡ offset) × ((path : List ℕ) × (content : List ℕ) × (more : List ℕ) × (length path ≡ head.path_len) × (length content ≡ head.content_len) × (head.rest ≡ path ++ content ++ 10 ∷ more) × (is_good path ≡ true) × (comes_before before path ≡ false))
 EntryFault offset before head fault = ⊥
 
--- what stands at an entry's place, where so many more files may stand
+-- what is at an entry's place, where this number of files may follow
 abbrev pub PlaceFault : ℕ → ℕ → List ℕ → List ℕ → SetFault → Type 0
 PlaceFault offset left before t Truncated =
     IsProperBeginning IsEndOrHeader t

@@ -16,7 +16,7 @@ ending = codes "END" ++ 10 ∷ []
 abbrev pub header : ℕ → ℕ → List ℕ
 header p c = codes "FILE " ++ decimal p ++ 32 ∷ [] ++ decimal c ++ 10 ∷ []
 
--- the sizes that a header gives, and what stands after it
+-- the sizes that a header gives, and what follows it
 pub record Head : Type 0 where
   pub path_len : ℕ
   pub content_len : ℕ

@@ -40,7 +40,7 @@ header_at text = do
   c ← number_at 10 0 max_content p.1
   Ok (record { path_len = p.0; content_len = c.0; rest = c.1 })
 
--- what stands at an entry's place: the end with what follows it, or a header
+-- what is at an entry's place: the end with what follows it, or a header
 pub data Place : Type 0 where
   End : List ℕ → Place
   Entry : Head → Place
@@ -72,7 +72,7 @@ abbrev pub result_at : {A : Type 0} → ℕ → Result A Flaw → Result A SetFa
 result_at offset (Ok x) = Ok x
 result_at offset (Err e) = Err (flaw_at offset e)
 
--- what follows from what stands there: none at the end, else a file and what stands after it
+-- what follows from what is there: none at the end, else a file and what follows it
 abbrev pub entry_of : ℕ → ℕ → List ℕ → Place → Result (Option (File × List ℕ)) SetFault
 entry_of offset left before (End rest) = if length rest == 0 then Ok None else Err TrailingBytes
 entry_of offset zero before (Entry head) = Err TooManyFiles
@@ -105,7 +105,7 @@ set_of text = do
 
 -- ---- what a call answers, memory aside
 
--- the fault that an error names, none for want of memory
+-- the fault that an error names, none where memory ran out
 abbrev pub named_set_fault : SetFault → Option SetFault
 named_set_fault Memory = None
 named_set_fault fault = Some fault

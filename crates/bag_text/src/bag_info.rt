@@ -25,7 +25,7 @@ pub enum InfoFault {
     NoColon(usize),
     /// I4: a line's label is empty.
     EmptyLabel(usize),
-    /// I5: a line continues a value, and no label stands before it.
+    /// I5: a line continues a value, and no label comes before it.
     StrayContinuation(usize),
     /// I6: a growth was refused.
     Memory,

@@ -12,7 +12,7 @@ use crate::path::{MAX_PATH, has_empty_segment, has_nul};
 use crate::text::{is_text, without_first_blanks};
 use std::alloc::{AllocError, Global};
 
-/// Why a line of a manifest lists no good path (L5): the first cause that stands, in this order.
+/// Why a line of a manifest lists no good path (L5): the first cause that applies, in this order.
 #[derive(Clone, Copy, Debug, PartialEq, Eq)]
 pub enum PathCause {
     /// The spelled path begins with `*`, by which checksum tools mark a binary file.
@@ -21,7 +21,7 @@ pub enum PathCause {
     NotUtf8,
     /// The path has more than 1,024 bytes.
     TooLong,
-    /// A segment is empty: two slashes stand side by side, or one at an end.
+    /// A segment is empty: two slashes follow one another, or one is at an end.
     EmptySegment,
     /// A segment is `.`.
     DotSegment,
@@ -67,14 +67,14 @@ fn spelled_in(line: &[u8]) -> &[u8]
     without_first_blanks(rest)
 }
 
-/// Why the line of a manifest of this version lists no good path: the first cause that stands. There
+/// Why the line of a manifest of this version lists no good path: the first cause that applies. There
 /// is none where the path is good.
 pub fn path_cause(
     alloc: Global,
     version: Version,
     line: &[u8],
 ) -> Result<Option<PathCause>, AllocError>
-    // It is the first of the seven that stands.
+    // It is the first of the seven that applies.
     ensures first { IfOk result (λ cause. cause ≡ path_cause version (path_text line.now)) }
     // One is found exactly where the line lists no good path.
     ensures found { IfOk result (λ cause.

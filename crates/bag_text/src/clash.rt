@@ -25,7 +25,7 @@ fn is_under(outer: &str, inner: &str) -> bool
     }
 }
 
-/// Whether a path begins another of the files, as a folder does: those paths stand together.
+/// Whether a path begins another of the files, as a folder does: those paths follow one another.
 fn has_under(files: &[(&str, &[u8])], outer: &str) -> bool
     requires { Ascends [] (files_of files.now) }
     ensures { result ≡ list_any (λ g. lies_under outer.now g.path) (files_of files.now) }

@@ -46,7 +46,7 @@ fn value_of<'a>(line: &'a [u8], label: &[u8]) -> Option<&'a [u8]>
     Some(trim_blanks(value))
 }
 
-/// How many bytes stand before the first full stop.
+/// How many bytes come before the first full stop.
 fn whole_len(value: &[u8]) -> usize
     ensures { result ≡ position_or_len (λ b. b == 46) value.now }
 {

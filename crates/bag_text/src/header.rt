@@ -1,4 +1,4 @@
-//! What stands at an entry's place in a transfer form.
+//! What is at an entry's place in a transfer form.
 
 ghost use Rattle.std.specs.Prelude.{◌≤◌};
 ghost use Rattle.bag_text.specs.Paths.{max_path};
@@ -11,7 +11,7 @@ pub enum Flaw {
     Bad,
 }
 
-/// The header of an entry, and what stands after it.
+/// The header of an entry, and what follows it.
 #[derive(Clone, Copy)]
 pub struct Header<'a> {
     pub path_len: usize,
@@ -21,7 +21,7 @@ pub struct Header<'a> {
     ghost content_fits: { content_len ≤ max_content },
 }
 
-/// What stands at an entry's place.
+/// What is at an entry's place.
 #[derive(Clone, Copy)]
 pub enum EntryPlace<'a> {
     End(&'a [u8]),

@@ -31,14 +31,14 @@ fn text_of(bytes: &[u8]) -> &str
     as_text(bytes).unwrap()
 }
 
-/// How many bytes stand before the first colon.
+/// How many bytes come before the first colon.
 fn label_len(line: &[u8]) -> usize
     ensures { result ≡ position_or_len is_colon line.now }
 {
     line.iter().position(|b| *b == b':').unwrap_or(line.len())
 }
 
-/// What stands before the first colon, and after it.
+/// What comes before the first colon, and after it.
 #[tactic(auto, using(crate::proofs::InfoReadLemmas::colon_fits))]
 fn split_colon(line: &[u8]) -> Option<(&[u8], &[u8])>
     ensures { option_map (λ x. (x.0.now, x.1.now)) result ≡ colon_cut line.now }
@@ -201,7 +201,7 @@ pub fn read_bag_info<'a>(alloc: Global, text: &'a [u8]) -> Result<BagInfo<'a>, I
         → Contains info.pairs.items (label, value)
         → IsBorrowedStr value ↔ (has_line_feed (cow_str_bytes value) ≡ false)) }
 
-    // A refusal names the first fault of the text, and where one stands it is the answer, unless memory runs out.
+    // A refusal names the first fault of the text, and where one applies it is the answer, unless memory runs out.
     ensures refused { IfErr result (λ fault. (fault ≡ Memory) ⊎ InfoFaultIs text.now fault) }
     ensures first_fault { (fault : InfoFault) → InfoFaultIs text.now fault →
         (result ≡ Err fault) ⊎ (result ≡ Err Memory) }

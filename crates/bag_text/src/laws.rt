@@ -68,7 +68,7 @@ pub fn one_list_of_lines()
     ensures one { (t : List ℕ) (ls : List (List ℕ)) → AreLines t ls → lines t ≡ ls }
 {}
 
-/// A path is good exactly where it is UTF-8 and no row of the faults stands.
+/// A path is good exactly where it is UTF-8 and no row of the faults applies.
 pub fn good_paths()
     ensures tested { (path : List ℕ) → GoodPath path ↔ (is_good path ≡ true) }
     ensures unless { (path : List ℕ) → is_utf8 path ≡ true →
@@ -80,14 +80,14 @@ pub fn one_path()
     ensures { (v : Version) (s p : List ℕ) → Spells v s p ↔ (decode v s ≡ p) }
 {}
 
-/// A path that a manifest of version 0.97 lists has no `%0A` or `%0D` in it: there these three characters always stand
-/// for the end of a line.
+/// A path that a manifest of version 0.97 lists has no `%0A` or `%0D` in it: there these three characters always mean
+/// the end of a line.
 pub fn coded_names()
     ensures { (s p : List ℕ) → Spells V0_97 s p → has_coded V0_97 p ≡ false }
 {}
 
 /// A text declares a version exactly where reading it answers that version, and where it declares none, reading answers
-/// the first fault that stands.
+/// the first fault that applies.
 pub fn declarations()
     ensures declared { (text : List ℕ) (version : Version) →
         (declaration_of text ≡ Ok version) ↔ Declares text version }

@@ -6,7 +6,7 @@ ghost use Rattle.bag_text.specs.Lines.{is_end, lines, numbered_line};
 ghost use Rattle.bag_text.specs.LineReading.{after_end_of};
 ghost use Rattle.bag_text.specs.Manifest.{LineIs};
 
-/// How many bytes stand before the first end.
+/// How many bytes come before the first end.
 fn line_len(text: &[u8]) -> usize
     ensures { result ≡ position_or_len is_end text.now }
 {
@@ -15,7 +15,7 @@ fn line_len(text: &[u8]) -> usize
         .unwrap_or(text.len())
 }
 
-/// What stands after an end.
+/// What follows an end.
 fn after_end(rest: &[u8]) -> &[u8]
     ensures { result.now ≡ after_end_of rest.now }
 {
@@ -26,7 +26,7 @@ fn after_end(rest: &[u8]) -> &[u8]
     }
 }
 
-/// The first line of a text, and what stands after its end.
+/// The first line of a text, and what follows its end.
 #[tactic(auto, using(crate::proofs::LineLemmas::lines_step, crate::proofs::LineLemmas::shorter, crate::proofs::LineLemmas::fits))]
 pub fn split_line(text: &[u8]) -> (&[u8], &[u8])
     requires { 0 < length text.now }
@@ -37,7 +37,7 @@ pub fn split_line(text: &[u8]) -> (&[u8], &[u8])
     (line, after_end(rest))
 }
 
-/// The line of this number, from 1, where the text has so many.
+/// The line of this number, from 1, where the text has that many.
 pub fn line_at(text: &[u8], number: usize) -> Option<&[u8]>
     ensures is { IfSome result (λ line. LineIs text.now number line.now) }
     ensures found { (line : List ℕ) →

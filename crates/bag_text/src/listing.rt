@@ -33,9 +33,9 @@ pub enum LineFault {
     NotUtf8,
     /// L2: the text begins with a byte order mark.
     ByteOrderMark,
-    /// L3: what stands before the first blank is not the right number of hex digits.
+    /// L3: what comes before the first blank is not the right number of hex digits.
     BadChecksum(usize),
-    /// L4: no path stands after the blanks.
+    /// L4: no path follows the blanks.
     NoPath(usize),
     /// L5: the spelled path begins with `*`, or the path is no good one.
     BadPath(usize),

@@ -30,7 +30,7 @@ use std::alloc::{AllocError, Global};
 use std::borrow::CowStr;
 use std::collections::BTreeMap;
 
-/// The character that a text's first three bytes stand for.
+/// The character that a text's first three bytes mean.
 fn first_coded(version: Version, text: &[u8]) -> Option<u8>
     ensures { result ≡ coded_front version text.now }
 {
@@ -153,7 +153,7 @@ fn read_checksum(algorithm: Algorithm, digits: &[u8]) -> Option<Checksum>
     }
 }
 
-/// How many bytes stand before the first blank.
+/// How many bytes come before the first blank.
 pub fn sum_len(line: &[u8]) -> usize
     ensures { result ≡ position_or_len is_blank line.now }
 {
@@ -267,7 +267,7 @@ fn read_lines<'a>(
 /// Reads a manifest (RFC 8493, section 2.1.3): what its lines list, ascending by path, or the first fault of the text.
 ///
 /// Each line is a checksum in hex digits, one or more blanks, and a spelled path; lines of blanks are skipped. In
-/// a spelled path `%0A` and `%0D` stand for LF and CR, and in version 1.0 `%25` for `%`.
+/// a spelled path `%0A` and `%0D` mean LF and CR, and in version 1.0 `%25` means `%`.
 /// A path in which nothing is decoded is borrowed from the text.
 pub fn read_manifest<'a>(
     alloc: Global,
@@ -286,13 +286,13 @@ pub fn read_manifest<'a>(
         ↔ LineLists (as_manifest version algorithm text.now) line path checksum) }
     ensures ascending { IfOk result (λ m. AscendingPaths (paths_of m)) }
 
-    // A path is borrowed exactly where no coded triple stands in its spelling.
+    // A path is borrowed exactly where no coded triple is in its spelling.
     ensures borrowed { IfOk result (λ m.
         (path : CowStr Global) (listing : Listing) (line : List ℕ)
         → Contains m.entries.entries (path, listing) → LineIs text.now listing.line line
         → IsBorrowedStr path ↔ (has_coded version (path_text line) ≡ false)) }
 
-    // A refusal names the first fault of the text, and where one stands it is the answer, unless memory runs out.
+    // A refusal names the first fault of the text, and where one applies it is the answer, unless memory runs out.
     ensures refused { IfErr result (λ fault.
         (fault ≡ Memory) ⊎ ManifestFault version algorithm text.now fault) }
     ensures first_fault { (fault : LineFault) → ManifestFault version algorithm text.now fault

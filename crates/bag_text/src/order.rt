@@ -1,4 +1,4 @@
-//! The order of paths, and what stands in a list of files that ascends.
+//! The order of paths, and what is in a list of files that ascends.
 
 ghost use Rattle.std.specs.Prelude.{◌≡◌, [], ◌∷◌, ◌++◌, option_copied};
 ghost use Rattle.bag_text.specs.Paths.{comes_before};

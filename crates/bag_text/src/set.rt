@@ -32,7 +32,7 @@ impl<'a> Model for BagSet<'a> {
 }
 
 impl<'a> BagSet<'a> {
-    /// The bag that a list of files is, as it stands, or the first fault of the list.
+    /// The bag that a list of files is, unchanged, or the first fault of the list.
     pub fn of(alloc: Global, files: &[(&'a str, &'a [u8])]) -> Result<BagSet<'a>, SetFault>
         // What is made is the list itself, and it is a bag.
         ensures made { IfOk result (λ set. (set ≡ files_of files.now) × IsBag set) }

@@ -11,7 +11,7 @@ use std::alloc::AllocFailed;
 pub enum SetFault {
     /// S1: the text doesn't begin with `BAGSET 1` and LF.
     BadOpening,
-    /// S2: neither the end nor a header stands here, or the byte after a content isn't LF.
+    /// S2: here is neither the end nor a header, or the byte after a content isn't LF.
     BadEntry(usize),
     /// S3: the text ends too soon.
     Truncated,

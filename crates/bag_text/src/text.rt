@@ -1,4 +1,4 @@
-//! Words on bytes that several formats use.
+//! Functions on bytes that several formats use.
 
 ghost use Rattle.std.specs.Prelude.{◌≡◌, if◌then◌else◌, Some, None, option_copied, List, [], ◌∷◌, length, ℕ};
 ghost use Rattle.bag_text.specs.Text.{is_blank, has_mark, skip_blanks, drop_last_blanks, trim_blanks};

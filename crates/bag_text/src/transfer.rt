@@ -22,7 +22,7 @@ pub const MAX_FILES: usize = 2000;
 /// a longer form is told from these.
 pub const MAX_FORM: u64 = 16_777_216;
 
-/// What stands after the bytes that a text must begin with.
+/// What follows the bytes that a text must begin with.
 #[tactic(auto, unfolding(crate::specs::TransferReading::literal_at))]
 fn literal<'a>(wanted: &[u8], text: &'a [u8]) -> Result<&'a [u8], Flaw>
     ensures { MatchResult result (λ rest. literal_at wanted.now text.now ≡ Ok rest.now)
@@ -77,7 +77,7 @@ fn digits<'a>(
     Err(Flaw::Short)
 }
 
-/// A number without leading zeros, and what stands after the byte that stops it.
+/// A number without leading zeros, and what follows the byte that stops it.
 #[tactic(auto, unfolding(crate::specs::TransferReading::number_at))]
 fn number<'a>(
     stop: u8,
@@ -134,7 +134,7 @@ fn read_place<'a>(text: &'a [u8]) -> Result<EntryPlace<'a>, Flaw>
     }
 }
 
-/// The file after a header, and what stands after it.
+/// The file after a header, and what follows it.
 #[tactic(auto, unfolding(crate::specs::TransferReading::file_at))]
 fn read_file<'a>(
     offset: usize,
@@ -185,7 +185,7 @@ fn place_or_fault<'a>(offset: usize, text: &'a [u8]) -> Result<EntryPlace<'a>, S
     }
 }
 
-/// The entry that a text begins with, and what stands after it, or none at the end.
+/// The entry that a text begins with, and what follows it, or none at the end.
 #[tactic(auto, unfolding(crate::specs::TransferReading::entry_at))]
 fn read_entry<'a>(
     offset: usize,

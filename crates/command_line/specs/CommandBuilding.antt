@@ -29,14 +29,14 @@ rules_for = map rule_for
 abbrev pub command_for : Usage → App
 command_for usage = command_of usage.name.now (rules_for usage.arguments.now)
 
--- the names of the arguments that have to stand
+-- the names of the arguments that have to be given
 abbrev pub needed_names : List Rule → List Text
 needed_names [] = []
 needed_names (rule ∷ rules) = if rule.required then rule.id ∷ needed_names rules else needed_names rules
 
 -- ---- how it is built
 
--- the argument is read by this rule, and has a value where it has to stand
+-- the argument is read by this rule, and has a value where it has to be given
 pub record IsReadBy (wanted : Rule) (arg : Arg) : Type 0 where
   pub id : arg.id.now ≡ wanted.id
   pub rule : rule_of arg ≡ wanted
@@ -67,7 +67,7 @@ pub record TakesArguments (name : Text) (rules : List Rule) (command : Command) 
 abbrev pub is_own_name : Text → Bool
 is_own_name name = not (length name == 0) && not (bytes_eq name (codes "help")) && not (bytes_eq name (codes "version"))
 
--- such names, none of which stands twice
+-- such names, none of which occurs twice
 abbrev pub are_names : List Text → Bool
 are_names [] = true
 are_names (name ∷ names) = is_own_name name && not (list_any (bytes_eq name) names) && are_names names

@@ -72,7 +72,7 @@ values_for subcommand words name = value_under (command_of_subcommand subcommand
 abbrev pub FindsText : (Text → Option Text) → Text → (Text → Type 0) → Type 0
 FindsText values name P = (text : Text) × (values name ≡ Some text) × P text
 
--- one decimal digit or more, and nothing else, which write this number; zeros may stand in front
+-- one decimal digit or more, and nothing else, which write this number; it may begin with zeros
 abbrev pub WritesNumber : Text → ℕ → Type 0
 WritesNumber text number = IsNumeral 10 text × (digits_value 10 text ≡ number)
 

@@ -1,4 +1,4 @@
-//! The words of the command line.
+//! The arguments of the command line, read.
 #![tactic(auto)]
 
 mod line;

@@ -9,7 +9,7 @@ pub const MAX_COUNT: u32 = 1_000_000;
 /// The last port.
 const MAX_PORT: u32 = 65_535;
 
-/// Whether a plus stands first, which `parse` would take.
+/// Whether a plus comes first, which `parse` would take.
 fn has_plus(text: &[u8]) -> bool
     ensures { result ≡ (slice_index text.now 0 == 43) }
 {
@@ -19,7 +19,7 @@ fn has_plus(text: &[u8]) -> bool
     }
 }
 
-/// The number that decimal digits write. Zeros may stand in front.
+/// The number that decimal digits write. It may begin with zeros.
 fn read_number(text: &str) -> Option<u32>
     ensures { MatchOption result ((number : ℕ)
         → WritesNumber text.now number → number < 2 ^ 32 → ⊥)

@@ -109,7 +109,7 @@ pub fn read_line<'a>(alloc: Global, words: &'a [&'a str]) -> Result<Line<'a>, Us
     // Where the first word names no subcommand, the text says so, and which there are.
     ensures uses { NamesNone (texts words.entry.now)
         → IfErr result (IsExplainedBy (usage_for VERSION.now (texts words.entry.now))) }
-    // Each line that can be written in plain words is read of them, memory aside.
+    // Each line that can be written in plain words is read of them, unless memory runs out.
     ensures plain { (line : Line) → IsPlainLine line → texts words.entry.now ≡ words_of line
         → Asks (texts words.entry.now) line × IfErr result (λ fault. fault ≡ Memory) }
 {

@@ -1,4 +1,4 @@
-//! Words that are no use of the program.
+//! Invalid arguments.
 
 ghost use Rattle.std.specs.Prelude.{◌≡◌, Some};
 ghost use Rattle.clap.specs.Words.{kind_of};
@@ -14,7 +14,7 @@ use std::fmt;
 /// Why a command line asks for nothing.
 #[derive(Debug, Drop)]
 pub enum UseFault {
-    /// The words are no use of the program. The text says why, or how the program is used.
+    /// The arguments are invalid. The text says why, or how the program is used.
     Use(String),
     /// A growth was refused.
     Memory,

@@ -74,7 +74,7 @@ fn name_or_none<'a>(text: &'a str) -> Option<Option<Name<'a>>>
     }
 }
 
-/// The fault of a word that is neither a name nor `-`, where this stands for it.
+/// The fault of a word that is neither a name nor `-`, where `-` means no name.
 fn no_name_fault(alloc: Global, place: &str) -> UseFault {
     let why = format!(in alloc;
         "{place} is a name (1 to 40 characters of a to z, 0 to 9, -, _ and .), or - for none\n"
@@ -85,8 +85,7 @@ fn no_name_fault(alloc: Global, place: &str) -> UseFault {
     }
 }
 
-/// The day that stands under `DAY`, or none where nothing does; nothing where a text stands there that
-/// is no day.
+/// The day that is given as `DAY`, or none where none is given; nothing where the text given is no day.
 fn day_or_none(matches: &ArgMatches<'_>) -> Option<Option<Day>>
     ensures { let finds = FindsDay (first_value (found_of matches.now)) (codes "DAY") in
         MatchOption result ((day : Option Date) → finds day → ⊥) finds }

@@ -7,7 +7,7 @@ use Rattle.office_core.specs.declared.policy_fault.PolicyFault.TheVariants.{Memo
 use Rattle.commands.specs.Explaining.{HasFault, SpellsPolicyBytes}
 use Rattle.commands.specs.declared.policy_file.RefusedPolicy.{RefusedPolicy}
 
--- the bytes are refused for their first fault, which is not want of memory, with its reason
+-- the bytes are refused for their first fault, which isn't that memory ran out, with its reason
 pub record IsPolicyRefused (bytes : List ℕ) (refused : RefusedPolicy) : Type 0 where
   pub fault : HasFault bytes refused.fault
   pub known : refused.fault ≢ Memory

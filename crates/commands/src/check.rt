@@ -116,7 +116,7 @@ fn bytes_outcome(alloc: Global, bytes: &[u8]) -> Result<Outcome, AllocError>
     }
 }
 
-/// Judges the bytes that were read: the line that `check` prints, what standard error is told, and how
+/// Judges the bytes that were read: the line that `check` prints, what is printed to standard error, and how
 /// it ends.
 pub fn check_outcome(alloc: Global, bytes: &[u8]) -> Result<Outcome, AllocError>
     // What is said is so.
@@ -129,8 +129,8 @@ pub fn check_outcome(alloc: Global, bytes: &[u8]) -> Result<Outcome, AllocError>
     // what is said.
     ensures valid { (files : List File) (v : Version) → IsFormOf files bytes.now → Valid files v
         → IfOk result (SaysValid (report_of v files)) }
-    // A bag that isn't valid is refused with its first fault, and standard error is told it in words, by
-    // what stands in the bag.
+    // A bag that isn't valid is refused with its first fault, and standard error has it in words, by
+    // what is in the bag.
     ensures invalid { (files : List File) (fault : Fault)
         → IsFormOf files bytes.now → FirstFault files fault
         → IfOk result (SaysInvalid files fault) }

@@ -10,11 +10,11 @@ pub enum Ending {
     Accepted,
     /// The answer is no.
     Refused,
-    /// The words are no use of the program, or name no day where the policy needs one.
+    /// The arguments are invalid, or name no day where the policy needs one.
     Misused,
     /// A device or memory failed, and standard error was told so.
     Failed,
-    /// Standard error failed, when it was to be told of a failure or why the words are no use.
+    /// Standard error failed, when a failure, or what is wrong with the arguments, was to be printed to it.
     Unsaid,
 }
 

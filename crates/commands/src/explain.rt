@@ -38,7 +38,7 @@ fn is_caller_listed(policy: &Policy, caller: &str) -> bool
     callers.iter().any(|listed| listed.name.as_str() == caller)
 }
 
-/// What standard error is told of the caller: that the policy doesn't list it, where that is so.
+/// What is printed of the caller to standard error: that the policy doesn't list it, where that is so.
 fn unlisted_line(alloc: Global, policy: &Policy, caller: &str) -> Result<Option<String>, AllocError>
     ensures { IfOk result (λ line.
         option_map string_bytes line ≡ unlisted_line policy.now caller.now) }
@@ -63,7 +63,7 @@ fn with_line(before: Option<String>, line: String) -> Result<String, AllocError>
     Ok(lines)
 }
 
-/// What standard error is told of the rule of this number, which denies.
+/// What is printed of the rule of this number, which denies.
 fn denial_line(alloc: Global, policy: &Policy, number: usize) -> Result<String, AllocError>
     ensures { IfOk result (λ line. string_bytes line ≡ denial_line policy.now number) }
 {
@@ -76,7 +76,7 @@ fn denial_line(alloc: Global, policy: &Policy, number: usize) -> Result<String, 
     }
 }
 
-/// What standard error is told where no rule matches.
+/// What is printed to standard error where no rule matches.
 fn default_line(alloc: Global) -> Result<String, AllocError>
     ensures { IfOk result (λ line. string_bytes line ≡ default_line) }
 {
@@ -219,7 +219,7 @@ fn bytes_outcome(alloc: Global, bytes: &[u8], asked: &Asked<'_>) -> Result<Outco
 }
 
 /// Says which rule of the policy decides: the line that `explain` prints of the bytes of the policy
-/// file, what standard error is told, and how it ends.
+/// file, what is printed to standard error, and how it ends.
 pub fn explain_outcome(
     alloc: Global,
     bytes: &[u8],
@@ -236,13 +236,13 @@ pub fn explain_outcome(
         → IsAllowedBy policy asked.now day rule
         → IfOk result (λ outcome. Prints outcome (allow_text rule)
         (unlisted_line policy asked.now.caller.now) Accepted) }
-    // And likewise where it denies: then standard error is told the rule in words too.
+    // And likewise where it denies: then standard error has the rule in words too.
     ensures denied { (policy : PolicyValue) (day : Date) (rule : ℕ)
         → SpellsPolicyBytes bytes.now policy → IsOnDay bytes.now asked.now day
         → IsDeniedBy policy asked.now day rule
         → IfOk result (λ outcome. Prints outcome (deny_text rule)
         (Some (denied_lines policy asked.now.caller.now rule)) Refused) }
-    // Where no rule matches, it is denied by default, of which standard error is told.
+    // Where no rule matches, it is denied by default, and standard error says so.
     ensures by_default { (policy : PolicyValue) (day : Date)
         → SpellsPolicyBytes bytes.now policy → IsOnDay bytes.now asked.now day
         → IsUndecided policy asked.now day
@@ -252,7 +252,7 @@ pub fn explain_outcome(
     // told that a day is missing and why, and it ends as misused.
     ensures undated { (policy : PolicyValue) → SpellsPolicyBytes bytes.now policy
         → WantsDay bytes.now asked.now → IfOk result SaysDayMissing }
-    // A file that is no policy is refused with its first fault, and standard error is told it in words,
+    // A file that is no policy is refused with its first fault, and standard error has it in words,
     // with its place.
     ensures refused { (fault : PolicyFault) → HasFault bytes.now fault
         → IfOk result (SaysBadPolicy bytes.now fault) }

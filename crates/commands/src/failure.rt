@@ -1,4 +1,4 @@
-//! What the program stands on, and fails with it.
+//! Failures of what the program depends on: devices and memory.
 
 ghost use Rattle.std.specs.Prelude.{◌≡◌};
 ghost use Rattle.std.specs.IoError.{error_kind};
@@ -6,7 +6,7 @@ ghost use Rattle.commands.specs.Failing.{failure_of, message_of};
 
 use std::io::{Error, ErrorKind};
 
-/// A failure of what the program stands on.
+/// A failure of a device or of memory.
 #[derive(Clone, Copy, Debug, PartialEq, Eq)]
 pub enum Failure {
     /// A file, a standard stream or another device failed.

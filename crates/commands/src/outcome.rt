@@ -1,4 +1,4 @@
-//! What comes out of a run: what is printed, what standard error is told, and how the program ends.
+//! The outcome of a run: what it prints to standard output and to standard error, and how the program ends.
 
 use crate::ending::Ending;
 

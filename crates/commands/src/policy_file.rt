@@ -1,4 +1,4 @@
-//! The policy that the bytes of a file are.
+//! Reading a policy from the bytes of a file.
 
 ghost use Rattle.std.specs.Prelude.{◌≡◌, ◌≢◌, ◌⊎◌, ℕ, IfErr, IfOk, IfSome, List, string_bytes};
 ghost use Rattle.office_core.specs.declared.policy_fault.PolicyFault.TheVariants.{Memory};
@@ -11,7 +11,7 @@ use office_core::{Policy, PolicyFault, read_policy};
 use std::alloc::{AllocError, Global};
 use std::io::Read;
 
-/// Why the bytes of a file are no policy: their first fault, and what standard error is told of it, in
+/// Why the bytes of a file are no policy: their first fault, and what is printed of it to standard error, in
 /// lines with their ends.
 #[derive(Debug, Drop)]
 pub struct RefusedPolicy {

@@ -1,4 +1,4 @@
-//! Why there is nothing to say.
+//! Why a run has nothing to say: a device or memory failed.
 
 ghost use Rattle.std.specs.Prelude.{◌≡◌};
 ghost use Rattle.std.specs.IoError.{error_kind};

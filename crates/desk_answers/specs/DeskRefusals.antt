@@ -37,7 +37,7 @@ methods_text [] = []
 methods_text (method ∷ []) = method_text method
 methods_text (method ∷ next ∷ more) = method_text method ++ (codes ", " ++ methods_text (next ∷ more))
 
--- RFC 9110, section 10.2.1: the field `Allow` names the methods that the target takes. It stands where the method was wrong (section 15.5.6), and nowhere else.
+-- RFC 9110, section 10.2.1: the field `Allow` names the methods that the target takes. It is there where the method was wrong (section 15.5.6), and nowhere else.
 abbrev pub allow_fields : DeskRefusal → List (List ℕ × List ℕ)
 allow_fields (WrongMethod pattern) = (codes "Allow", methods_text (methods_of pattern)) ∷ []
 allow_fields refusal = []

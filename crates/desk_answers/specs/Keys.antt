@@ -10,7 +10,7 @@ abbrev pub key_comes_before : List ℕ → Members → Bool
 key_comes_before key no_members = true
 key_comes_before key (member next value ms) = is_lt (slice_cmp nat_cmp key next)
 
--- the keys of each object in the value ascend, so no key stands twice
+-- the keys of each object in the value ascend, so no key occurs twice
 abbrev mutual
   pub has_ascending_keys : Data → Bool
   has_ascending_keys null = true

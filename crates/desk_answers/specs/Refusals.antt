@@ -46,7 +46,7 @@ no_such_data subject = object_of ((codes "error", string (codes "NoSuch")) ∷ (
 abbrev pub denied_data : Data → Data
 denied_data rule = object_of ((codes "error", string (codes "Denied")) ∷ (codes "rule", rule) ∷ [])
 
--- the refusal's name, and the day of what stands in the way
+-- the refusal's name, and the day of what is in the way
 abbrev pub day_data : List ℕ → Date → Data
 day_data name day = object_of ((codes "day", string (day_text day)) ∷ (codes "error", string name) ∷ [])
 

@@ -28,7 +28,7 @@ abbrev pub body_of : Content → List ℕ
 body_of (json value) = compact_text value
 body_of (octets bytes) = bytes
 
--- what stands before the body, with the empty line. `allow` is the line of that field, or nothing.
+-- what comes before the body, with the empty line. `allow` is the line of that field, or nothing.
 abbrev pub head_text : Status → MediaType → ℕ → List ℕ → List ℕ
 head_text status kind len allow =
     codes "HTTP/1.1 " ++ (status_text status

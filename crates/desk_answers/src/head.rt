@@ -24,7 +24,7 @@ impl MediaType {
     }
 }
 
-/// What stands before a body of `len` bytes. `allow` is a whole line, or nothing.
+/// What comes before a body of `len` bytes. `allow` is a whole line, or nothing.
 fn head(
     alloc: Global,
     status: Status,

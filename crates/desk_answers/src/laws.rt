@@ -50,7 +50,7 @@ pub fn statuses()
     ensures of_the_desk { (refusal : DeskRefusal) → 400 ≤ code_of (desk_status refusal) }
 {}
 
-/// `Allow` stands where the status is 405, and nowhere else. It names the methods of the target, in
+/// There is an `Allow` where the status is 405, and nowhere else. It names the methods of the target, in
 /// the order of the alphabet.
 pub fn allowed_methods()
     ensures stands { (refusal : DeskRefusal)
@@ -61,7 +61,7 @@ pub fn allowed_methods()
     ensures in_order { (pattern : Pattern) → IsInAlphabet (map method_text (methods_of pattern)) }
 {}
 
-/// The keys of each object in a body ascend, so no key stands in it twice.
+/// The keys of each object in a body ascend, so no key occurs in it twice.
 pub fn ascending_keys()
     ensures answers { (answer : Answer)
         → content_has_ascending_keys (content_of answer) ≡ true }

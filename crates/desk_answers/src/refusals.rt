@@ -79,7 +79,7 @@ fn denied_by_default_value(alloc: Global) -> Result<Value, AllocError>
     object(alloc, &members)
 }
 
-/// The name of a refusal with the day of what stands in the way.
+/// The name of a refusal with the day of what is in the way.
 fn day_value(alloc: Global, name: &str, day: Day) -> Result<Value, AllocError>
     ensures { IfOk result (λ value. view value ≡ day_data name.now day) }
 {

@@ -18,7 +18,7 @@ pub(crate) trait Told {
         ensures { IfOk result (λ text. text.items ≡ compact_text (told self.now)) };
 }
 
-/// What stands before the items of a list that is the one member of an object.
+/// What comes before the items of a list that is the one member of an object.
 fn opening(alloc: Global, key: &str) -> Result<Vec<u8>, AllocError>
     ensures { IfOk result (λ text. text.items
         ≡ codes "{" ++ (compact_text (string key.now) ++ codes ":[")) }
@@ -27,7 +27,7 @@ fn opening(alloc: Global, key: &str) -> Result<Vec<u8>, AllocError>
     Ok(format!(in alloc; "{{{key}:[")?.into_bytes())
 }
 
-/// Puts what is told of the item behind the text, and a comma before it unless it is the first.
+/// Puts what is told of the item after the text, and a comma before it unless it is the first.
 fn push_item<T: Told>(
     alloc: Global,
     text: &mut Vec<u8>,

@@ -54,7 +54,7 @@ abbrev pub KeepsWriteError : Option Error → Option Error → Result ℕ Error 
 KeepsWriteError old new result bytes =
     MatchResult result (λ n. IsZeroWrite (took_nothing n bytes) old new) (λ error. new ≡ Some error)
 
--- the device failed in between: the number rose, or stands at its last value
+-- the device failed in between: the number rose, or is at its last value
 abbrev pub HasFailed : ℕ → ℕ → Type 0
 HasFailed old new = (old < new) ⊎ (new ≡ 2 ^ 64 - 1)
 

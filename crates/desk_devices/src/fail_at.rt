@@ -42,7 +42,7 @@ pub struct FailAt<M> {
 }
 
 impl<M> FailAt<M> {
-    /// A device that works for so many calls: it fails from its call `calls` on, counted from 0.
+    /// A device that works for this number of calls: it fails from its call `calls` on, counted from 0.
     pub fn new(memory: M, portion: Portion, calls: u64) -> FailAt<M>
         ensures memory { result.memory ≡ memory }
         ensures portion { result.portion ≡ portion }

@@ -18,7 +18,7 @@ pub enum FillFault {
     Memory,
 }
 
-/// Reads on until there are at least so many bytes: what the reader gives is added to them. The
+/// Reads on until there are at least this many bytes: what the reader gives is added to them. The
 /// reader isn't called once they are there: another call could fail, and only `Read`, which says
 /// that there were too few, allows a failure.
 pub fn fill<R: Read>(

@@ -1,4 +1,4 @@
--- What the bodies of routes say. A body is a JSON text (RFC 8259) in UTF-8 (its section 8.1), as `serde_json` reads it: of a key that stands twice in an object the last value stays, and the members are in the order of their keys. Which objects a route takes is Depot's own rule.
+-- What the bodies of routes say. A body is a JSON text (RFC 8259) in UTF-8 (its section 8.1), as `serde_json` reads it: of a key that occurs twice in an object the last value stays, and the members are in the order of their keys. Which objects a route takes is Depot's own rule.
 use Rattle.std.specs.Prelude.{◌≡◌, ℕ, ◌≤◌, List, Option, Some, None, IsUtf8, codes}
 use Rattle.serde_json.specs.Data.{Data, null, number, string, object, no_members, member, unsigned}
 use Rattle.serde_json.specs.Read.{read}

@@ -18,7 +18,7 @@ pub record BeginsTriplet (text : List ℕ) : Type 0 where
   pub writes_high : WritesDigit first high
   pub writes_low : WritesDigit second low
 
--- the bytes that a text stands for: from the front, each triplet for its octet, and any other byte for itself
+-- the bytes that a text means: from the front, each triplet its octet, and any other byte itself
 pub data StandsFor : List ℕ → List ℕ → Type 0 where
   nothing : StandsFor [] []
   triplet : (first second high low : ℕ) (rest bytes : List ℕ) → WritesDigit first high → WritesDigit second low → StandsFor rest bytes → StandsFor (37 ∷ (first ∷ (second ∷ rest))) ((16 * high + low) ∷ bytes)

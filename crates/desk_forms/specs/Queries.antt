@@ -9,7 +9,7 @@ use Rattle.office_core.specs.Names.{IsName, IsAccession}
 use Rattle.desk_forms.specs.declared.query.Listing.{Listing}
 use Rattle.desk_forms.specs.declared.query.DepositQuery.{DepositQuery}
 
--- the text that a key or a value stands for
+-- the text that a key or a value means
 abbrev pub text_of : List ℕ → List ℕ
 text_of bytes = utf8_lossy (decode bytes)
 
@@ -17,7 +17,7 @@ text_of bytes = utf8_lossy (decode bytes)
 abbrev pub query_pairs : List ℕ → List (List ℕ × List ℕ)
 query_pairs query = map (λ p. (text_of p.0, text_of p.1)) (raw_pairs query)
 
--- the values that stand under a key, in their order
+-- the values under a key, in their order
 abbrev pub values_under : List ℕ → List (List ℕ × List ℕ) → List (List ℕ)
 values_under key pairs = map (λ p. p.1) (filter (λ p. pointwise nat_eq p.0 key) pairs)
 
@@ -25,11 +25,11 @@ values_under key pairs = map (λ p. p.1) (filter (λ p. pointwise nat_eq p.0 key
 abbrev pub HasOnly : List (List ℕ) → List (List ℕ × List ℕ) → Type 0
 HasOnly keys pairs = All (λ p. Contains keys p.0) pairs
 
--- the key stands in one pair, whose value is this
+-- the key occurs in one pair, whose value is this
 abbrev pub StandsOnce : List ℕ → List (List ℕ × List ℕ) → List ℕ → Type 0
 StandsOnce key pairs value = values_under key pairs ≡ value ∷ []
 
--- the key stands in one pair, whose value is this name, or in none
+-- the key occurs in one pair, whose value is this name, or in none
 abbrev pub GivesName : List ℕ → List (List ℕ × List ℕ) → Option (List ℕ) → Type 0
 GivesName key pairs None = values_under key pairs ≡ []
 GivesName key pairs (Some name) = StandsOnce key pairs name × IsName name

@@ -9,13 +9,13 @@ ghost use Rattle.desk_forms.specs.declared.body.HoldBody.{HoldBody};
 ghost use Rattle.desk_forms.specs.declared.query.DepositQuery.{DepositQuery};
 ghost use Rattle.desk_forms.specs.declared.query.Listing.{Listing};
 
-/// A path decodes to what it stands for, each triplet from the front for its octet (RFC 3986,
+/// A path decodes to what it means, each triplet from the front to its octet (RFC 3986,
 /// section 2.1), and to nothing else.
 pub fn decoded_paths()
     ensures { (path bytes : List ℕ) → (percent_decode path ≡ bytes) ↔ StandsFor path bytes }
 {}
 
-/// A key stands once, with a value, exactly where one pair has the key, and that value. It has no
+/// A key occurs once, with a value, exactly where one pair has the key, and that value. It has no
 /// values exactly where no pair has it.
 pub fn counted_keys()
     ensures once { (key value : List ℕ) (pairs : List (List ℕ × List ℕ))

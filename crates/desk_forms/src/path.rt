@@ -30,7 +30,7 @@ impl OwnedPath {
     }
 }
 
-/// The bytes that a path stands for: each `%` and two hexadecimal digits give the byte that they
+/// The bytes that a path means: each `%` and two hexadecimal digits give the byte that they
 /// write, once. Any other byte stays itself, `+` and a `%` without two such digits too.
 pub fn decode_path(alloc: Global, path: &str) -> Result<OwnedPath, AllocError>
     ensures { IfOk result (λ decoded. decoded ≡ percent_decode path.now) }

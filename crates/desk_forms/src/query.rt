@@ -101,7 +101,7 @@ fn check_keys(alloc: Global, query: &[u8], keys: &[&str]) -> Result<(), QueryFau
     Ok(())
 }
 
-/// The value under a key: `BadQuery` where the key stands in more than one pair.
+/// The value under a key: `BadQuery` where the key occurs in more than one pair.
 fn find_value<'a>(
     alloc: Global,
     query: &'a [u8],
@@ -125,7 +125,7 @@ fn find_value<'a>(
     Ok(found)
 }
 
-/// The value under a key that stands in one pair.
+/// The value under a key that occurs in one pair.
 fn need_value<'a>(
     alloc: Global,
     query: &'a [u8],
@@ -165,7 +165,7 @@ fn own_accession(alloc: Global, text: &str) -> Result<OwnedAccession, QueryFault
     }
 }
 
-/// The name under a key, where the key stands.
+/// The name under a key, where there is the key.
 fn find_name(alloc: Global, query: &[u8], key: &str) -> Result<Option<OwnedName>, QueryFault>
     ensures found { IfOk result (λ name. GivesName key.now (query_pairs query.now) name) }
     ensures refused { result ≡ Err QueryFault.BadQuery → (name : Option (List ℕ))
@@ -177,7 +177,7 @@ fn find_name(alloc: Global, query: &[u8], key: &str) -> Result<Option<OwnedName>
     }
 }
 
-/// The name under a key that stands.
+/// The name under a key that has to be there.
 fn need_name(alloc: Global, query: &[u8], key: &str) -> Result<OwnedName, QueryFault>
     ensures found { IfOk result
         (λ name. StandsOnce key.now (query_pairs query.now) name × IsName name) }
@@ -187,7 +187,7 @@ fn need_name(alloc: Global, query: &[u8], key: &str) -> Result<OwnedName, QueryF
     own_name(alloc, need_value(alloc, query, key)?.as_str())
 }
 
-/// The accession number under a key that stands.
+/// The accession number under a key that has to be there.
 fn need_accession(alloc: Global, query: &[u8], key: &str) -> Result<OwnedAccession, QueryFault>
     ensures found { IfOk result (λ accession.
         StandsOnce key.now (query_pairs query.now) accession × IsAccession accession) }
@@ -197,7 +197,7 @@ fn need_accession(alloc: Global, query: &[u8], key: &str) -> Result<OwnedAccessi
     own_accession(alloc, need_value(alloc, query, key)?.as_str())
 }
 
-/// The day under a key that stands.
+/// The day under a key that has to be there.
 fn need_day(alloc: Global, query: &[u8], key: &str) -> Result<Day, QueryFault>
     ensures found { IfOk result
         (λ day. StandsOnce key.now (query_pairs query.now) (day_text day) × IsDay day) }

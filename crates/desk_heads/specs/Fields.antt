@@ -1,4 +1,4 @@
--- What the fields of a head say under a name, which may stand on several lines (RFC 9110, section 5.2). That such lines are counted and not joined is Depot's own rule.
+-- What the fields of a head say under a name, which may occur on several lines (RFC 9110, section 5.2). That such lines are counted and not joined is Depot's own rule.
 use Rattle.std.specs.Prelude.{ℕ, Bool, List, [], ◌∷◌, map, filter}
 use Rattle.std.specs.Str.{str_eq_ignore_ascii_case}
 use Rattle.httparse.specs.Grammar.{RequestHead}
@@ -19,7 +19,7 @@ values_among name fields = map (λ field. field.1) (filter (is_named name) field
 abbrev pub values_of : List ℕ → RequestHead → List (List ℕ)
 values_of name head = values_among name (fields_of head)
 
--- how often a field stands, and its value where it stands once
+-- how often a field occurs, and its value where it occurs once
 pub data Occurrence : Type 0 where
   absent repeated : Occurrence
   once : List ℕ → Occurrence

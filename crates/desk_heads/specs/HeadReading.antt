@@ -1,4 +1,4 @@
--- What a reader of a head answers. Where a head ends stands in `Heads`; the answers are Depot's own.
+-- What a reader of a head answers. `Heads` says where a head ends; the answers are Depot's own.
 use Rattle.std.specs.Prelude.{◌≡◌, ℕ, List, Option, Result, Ok, Err, ⊤}
 use Rattle.std.specs.Io.KnownBytes.{IsAtEnd}
 use Rattle.desk_heads.specs.Ends.{head_at}

@@ -28,7 +28,7 @@ pub record HeadContents : Type 0 where
   -- how many bytes follow the head
   pub body_length : ℕ
 
--- how often the field of a name stands in a head
+-- how often the field of a name occurs in a head
 abbrev pub occurrence_in : RequestHead → List ℕ → Occurrence
 occurrence_in head name = occurrence_of (values_of name head)
 
@@ -42,7 +42,7 @@ encoding_refusal repeated = Some Chunked
 abbrev pub is_length_text : List ℕ → Bool
 is_length_text text = nat_le 1 (length text) && nat_le (length text) max_length_digits && list_all is_ascii_digit text
 
--- `Content-Length` (RFC 9110, section 8.6) stands once at most, as 1 to 20 digits of a number that isn't over the limit
+-- `Content-Length` (RFC 9110, section 8.6) occurs once at most, as 1 to 20 digits of a number that isn't over the limit
 abbrev pub length_refusal : Occurrence → Option HeadRefusal
 length_refusal absent = None
 length_refusal (once text) = if is_length_text text then answer_if (nat_lt max_body (digits_value 10 text)) TooLarge else Some BadLength
@@ -54,7 +54,7 @@ body_length_of absent = 0
 body_length_of (once text) = digits_value 10 text
 body_length_of repeated = 0
 
--- `Depot-Caller`, Depot's own field, stands once at most
+-- `Depot-Caller`, Depot's own field, occurs once at most
 abbrev pub caller_refusal : Occurrence → Option HeadRefusal
 caller_refusal absent = None
 caller_refusal (once text) = None
@@ -86,7 +86,7 @@ abbrev pub unless_refused : {A : Type 0} → Option HeadRefusal → A → Result
 unless_refused None contents = Ok contents
 unless_refused (Some refusal) contents = Err refusal
 
--- the first refusal that stands, else what the head says
+-- the first refusal that applies, else what the head says
 unfoldable pub judgement_of : RequestHead → Result HeadContents HeadRefusal
 judgement_of head = unless_refused (first_some (head_refusals head)) (head_contents head)
 

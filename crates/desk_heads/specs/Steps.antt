@@ -1,4 +1,4 @@
--- Which refusals stand of a front, each by itself, and what a head says, as relations. The rules are those of `Heads`; the order of the steps is Depot's own.
+-- Which refusals apply to a front, each by itself, and what a head says, as relations. The rules are those of `Heads`; the order of the steps is Depot's own.
 use Rattle.std.specs.Prelude.{◌≡◌, ◌≤◌, ◌<◌, ◌⊎◌, ℕ, List, [], ◌∷◌, length, Option, Some, None, codes, All}
 use Rattle.std.specs.Char.{IsAsciiDigit}
 use Rattle.std.specs.Str.Parse.{digits_value}
@@ -16,7 +16,7 @@ pub record IsLengthText (text : List ℕ) : Type 0 where
   pub few : length text ≤ max_length_digits
   pub digits : All IsAsciiDigit text
 
--- the refusal stands of a head, whatever else does
+-- the refusal applies to a head, whatever else does
 abbrev pub StandsOfHead : RequestHead → HeadRefusal → Type 0
 StandsOfHead head BadHead = ⊥
 StandsOfHead head Chunked = 0 < length (values_of (codes "transfer-encoding") head)
@@ -24,7 +24,7 @@ StandsOfHead head BadLength = (1 < length (values_of (codes "content-length") he
 StandsOfHead head TooLarge = (text : List ℕ) × (values_of (codes "content-length") head ≡ text ∷ []) × IsLengthText text × (max_body < digits_value 10 text)
 StandsOfHead head TwoCallers = 1 < length (values_of (codes "depot-caller") head)
 
--- the refusal stands of a front
+-- the refusal applies to a front
 abbrev pub RefusalStands : List ℕ → HeadRefusal → Type 0
 RefusalStands front BadHead = IsHead front → ⊥
 RefusalStands front refusal = (head : RequestHead) × SpellsHead front head × StandsOfHead head refusal
@@ -37,12 +37,12 @@ step_of BadLength = 3
 step_of TooLarge = 3
 step_of TwoCallers = 4
 
--- the refusal stands, and none of an earlier step does
+-- the refusal applies, and none of an earlier step does
 pub record StandsFirst (front : List ℕ) (refusal : HeadRefusal) : Type 0 where
   pub stands : RefusalStands front refusal
   pub first : (earlier : HeadRefusal) → step_of earlier < step_of refusal → RefusalStands front earlier → ⊥
 
--- the caller is the name that stands alone under `Depot-Caller`
+-- the caller is the one name under `Depot-Caller`
 abbrev pub NamesCaller : List (List ℕ) → Option (List ℕ) → Type 0
 NamesCaller values (Some name) = (values ≡ name ∷ []) × IsName name
 NamesCaller values None = (name : List ℕ) → values ≡ name ∷ [] → IsName name → ⊥

@@ -7,7 +7,7 @@ ghost use Rattle.desk_heads.specs.View.{occurrence_seen};
 
 use httparse::spans::HeaderSpan;
 
-/// How often a field stands in a head, and its value where it stands once.
+/// How often a field occurs in a head, and its value where it occurs once.
 #[derive(Clone, Copy, Debug, PartialEq, Eq)]
 pub(crate) enum Field<'a> {
     Absent,

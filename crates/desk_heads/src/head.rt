@@ -20,9 +20,9 @@ const MAX_FIELDS: usize = 64;
 /// What a head says of its request.
 #[derive(Debug, Drop)]
 pub struct Head<'a> {
-    /// The word of the request line, as it stands.
+    /// The word of the request line, undecoded.
     pub method: &'a str,
-    /// The target of the request line, as it stands.
+    /// The target of the request line, undecoded.
     pub target: &'a str,
     /// The name in `Depot-Caller`, if the head has one and it is a name.
     pub caller: Option<Name<'a>>,

@@ -32,7 +32,7 @@ pub fn one_judgement()
         → Judges front first → Judges front second → first ≡ second }
 {}
 
-/// A front is refused for a reason exactly where that reason stands and none of an earlier step
+/// A front is refused for a reason exactly where that reason applies and none of an earlier step
 /// does. The steps are: it is no head; it has a `Transfer-Encoding`; its `Content-Length`; its
 /// `Depot-Caller`.
 pub fn first_refusal()
@@ -40,7 +40,7 @@ pub fn first_refusal()
         → Judges front (Err refusal) ↔ StandsFirst front refusal }
 {}
 
-/// A front is taken as saying something exactly where its head says that and no refusal stands.
+/// A front is taken as saying something exactly where its head says that and no refusal applies.
 pub fn taken_heads()
     ensures { (front : List ℕ) (contents : HeadContents) → Judges front (Ok contents)
         ↔ (SaysContents front contents × ((refusal : HeadRefusal) → RefusalStands front refusal → ⊥)) }

@@ -1,4 +1,4 @@
--- What a reader of a request answers. What is heard of the bytes stands in `Hearing`; the answers are Depot's own.
+-- What a reader of a request answers. `Hearing` says what is heard of the bytes; the answers are Depot's own.
 use Rattle.std.specs.Prelude.{ℕ, List, Result, Ok, Err, ⊤}
 use Rattle.desk_routes.specs.declared.refusal.DeskRefusal.TheVariants.{Truncated}
 use Rattle.desk_hearing.specs.Asking.{HeardValue}

@@ -59,7 +59,7 @@ HasHeadTooFar input = (max_head ≤ length input) × HasNoHead input
 abbrev pub EndsInHead : List ℕ → Type 0
 EndsInHead input = (length input < max_head) × HasNoHead input
 
--- its head is refused for this, the first reason that stands
+-- its head is refused for this, the first reason that applies
 abbrev pub RefusesHead : List ℕ → HeadRefusal → Type 0
 RefusesHead input refusal = (head rest : List ℕ) × BeginsWithHead input head rest × StandsFirst head refusal
 

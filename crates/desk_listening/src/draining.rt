@@ -18,7 +18,7 @@ pub enum Drained {
     Failed,
 }
 
-/// Reads and drops what still comes, so many bytes at most. The reader isn't called again after an
+/// Reads and drops what still comes, at most this number of bytes. The reader isn't called again after an
 /// end or a failure.
 pub fn drain<R: Read>(reader: &mut Counted<R>, most: usize) -> Drained
     ensures given { (given : List ℕ)

@@ -31,8 +31,8 @@ pub(crate) fn open<P: Peer>(peer: &mut P, wait: Duration) -> io::Result<Ends<P::
     })
 }
 
-/// Ends what is written to a peer, and drops what it still sends: a socket that is closed while bytes
-/// stand unread in it may take back what was written.
+/// Ends what is written to a peer, and drops what it still sends: a socket that is closed while it has
+/// unread bytes may take back what was written.
 pub(crate) fn hang_up<P: Peer>(
     peer: &mut P,
     reader: &mut Counted<P::Reader>,

@@ -1,4 +1,4 @@
-//! The desk behind a listening socket: connections served one after the other.
+//! The desk at a listening socket: connections served one after the other.
 #![tactic(auto)]
 
 mod accepting;

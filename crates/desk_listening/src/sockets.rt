@@ -44,7 +44,7 @@ impl Listener for Sockets<'_> {
     fn close(&mut self, _stream: Socket) {}
 }
 
-/// A connected socket, or an end of it. They share one descriptor, so a want of descriptors shows when
+/// A connected socket, or an end of it. They share one descriptor, so a lack of descriptors shows when
 /// a connection is accepted, and not after that.
 #[derive(Debug, Drop)]
 pub struct Socket(Rc<TcpStream>);

@@ -1,5 +1,5 @@
-//! What standard error is told as the desk serves: that requests failed because memory ran out or the store failed, and
-//! that they succeed again.
+//! What is printed to standard error as the desk serves: that requests failed because memory ran out or the store
+//! failed, and that they succeed again.
 #![tactic(auto)]
 
 mod lines;

@@ -1,4 +1,4 @@
-//! The lines of the log. They take no memory, since they are told where it has run out.
+//! The lines of the log. They take no memory, since they are written when it has run out.
 
 ghost use Rattle.std.specs.Prelude.{◌≡◌, ◌≤◌, length};
 ghost use Rattle.desk_log.specs.Lines.{end_line, failed_line, failure_name, kind_name, line_front, success_line, success_name};

@@ -1,4 +1,4 @@
-//! Lines that the log is told.
+//! Writing lines to the log.
 
 ghost use Rattle.std.specs.Prelude.{◌∷◌, []};
 ghost use Rattle.desk_log.specs.Lines.{end_line};

@@ -9,7 +9,7 @@ use Rattle.office_core.specs.Names.{is_name}
 use Rattle.desk_routes.specs.declared.place.Place.{Place}
 use Rattle.desk_routes.specs.declared.place.Place.TheVariants as places
 
--- which pattern a path has, with the texts that stand for its name, its number and its path
+-- which pattern a path has, with the texts for its name, its number and its path
 pub data Parts : Type 0 where
   class collection deposit holds_of_deposit bag audit hold : List ℕ → Parts
   file : List ℕ → List ℕ → Parts
@@ -70,7 +70,7 @@ parts_of path =
     (option_or (after_prefix (codes "/holds/") (last_part hold) path)
     (after_prefix (codes "/holds") (nothing_more holds) path))))))
 
--- 1 to 7 digits, of which the first is no zero, unless it stands alone
+-- 1 to 7 digits, of which the first is no zero, unless it is the only one
 abbrev pub is_number : List ℕ → Bool
 is_number [] = false
 is_number (b ∷ []) = is_ascii_digit b

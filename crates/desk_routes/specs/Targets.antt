@@ -3,7 +3,7 @@
 use Rattle.std.specs.Prelude.{◌≡◌, ◌≢◌, ◌⊎◌, ℕ, ◌==◌, List, [], ◌∷◌, ◌++◌, if◌then◌else◌}
 use Rattle.std.specs.List.{AllByRecursion}
 
--- the path is what stands before the first `?`, and the query is what follows it
+-- the path is what comes before the first `?`, and the query is what follows it
 abbrev pub Splits : List ℕ → List ℕ → List ℕ → Type 0
 Splits target path query = AllByRecursion (λ b. b ≢ 63) path × ((target ≡ path ++ 63 ∷ query) ⊎ ((target ≡ path) × (query ≡ [])))
 

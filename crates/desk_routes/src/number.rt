@@ -15,7 +15,7 @@ fn is_number(text: &[u8]) -> bool
     }
 }
 
-/// The number that 1 to 7 digits write, of which the first is no zero unless it stands alone.
+/// The number that 1 to 7 digits write, of which the first is no zero unless it is the only one.
 pub(crate) fn read_number(text: &str) -> Option<u32>
     ensures { result ≡ number_of text.now }
 {

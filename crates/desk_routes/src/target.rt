@@ -3,7 +3,7 @@
 ghost use Rattle.std.specs.Prelude.{◌≡◌};
 ghost use Rattle.desk_routes.specs.Targets.{path_part, query_part};
 
-/// The path and the query of a target: what stands before its first `?`, and what follows it. A
+/// The path and the query of a target: what comes before its first `?`, and what follows it. A
 /// target without a `?` has the empty query.
 pub fn split_target(target: &str) -> (&str, &str)
     ensures path { result.0.now ≡ path_part target.now }

@@ -1,4 +1,4 @@
--- What standard error is told of a bag that is refused: the fault's sentence, in which a line of a manifest is told by what stands in it, and what else is said of the path
+-- What standard error is told of a bag that is refused: the fault's sentence, in which a line of a manifest is told by what is in it, and what else is said of the path
 -- that the fault names.
 use Rattle.std.specs.Prelude.{ℕ, List, [], ◌∷◌, ◌++◌, Option, Some, None, option_and_then}
 use Rattle.std.specs.Option.{option_map_or}
@@ -21,7 +21,7 @@ use Rattle.fault_words.specs.ManifestLines.{likeness, likeness_words, words_of_b
 use Rattle.fault_words.specs.PathNotes.{coding_in, coding_words, other_form, words_of_other_form}
 use Rattle.fault_words.specs.declared.manifest_line.OtherLine.{OtherLine}
 
--- ---- what stands in the bag
+-- ---- what is in the bag
 
 -- the version that it declares
 abbrev pub version_in : List File → Option Version
@@ -74,7 +74,7 @@ sought_path fault = None
 abbrev pub form_line : List File → Option (List ℕ) → List ℕ
 form_line files sought = option_map_or (λ file. words_of_other_form file ++ 10 ∷ []) (option_and_then (other_form files) sought) []
 
--- what stands for the end of a line or a percent sign in the printed path, likewise
+-- what means the end of a line or a percent sign in the printed path, likewise
 abbrev pub coding_line : Option (List ℕ) → List ℕ
 coding_line named = option_map_or (λ coding. coding_words coding ++ 10 ∷ []) (option_and_then coding_in named) []
 
@@ -83,7 +83,7 @@ coding_line named = option_map_or (λ coding. coding_words coding ++ 10 ∷ []) 
 abbrev pub bag_lines : List File → Fault → List ℕ
 bag_lines files fault = ((sentence_of files fault ++ 10 ∷ []) ++ form_line files (sought_path fault)) ++ coding_line (named_path fault)
 
--- of the fault that an answer names, or of want of memory
+-- of the fault that an answer names, or where memory ran out
 abbrev pub sentence_or : List File → Option Fault → List ℕ
 sentence_or files None = words_or None
 sentence_or files (Some fault) = sentence_of files fault

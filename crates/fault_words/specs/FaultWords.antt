@@ -118,7 +118,7 @@ bag_words OxumForm = codes "the Payload-Oxum of bag-info.txt is not two numbers 
 bag_words OxumTwice = codes "bag-info.txt has more than one Payload-Oxum (B15)"
 bag_words OxumWrong = codes "the bytes and files that Payload-Oxum in bag-info.txt names are not those of the payload (B16)"
 
--- of the fault that an answer names, or of want of memory
+-- of the fault that an answer names, or where memory ran out
 abbrev pub words_or : Option Fault → List ℕ
 words_or None = codes "memory ran out (B18)"
 words_or (Some fault) = bag_words fault
@@ -141,7 +141,7 @@ broken_rule_words fault = []
 
 -- ---- of a policy
 
--- 0 stands for the rules as a whole
+-- 0 means the rules as a whole
 abbrev pub policy_rule_words : ℕ → List ℕ
 policy_rule_words number =
     if number == 0 then codes "the rules of the policy are no array: each begins with the line [[rule]] (Y5)"

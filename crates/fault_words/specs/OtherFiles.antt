@@ -11,7 +11,7 @@ use Rattle.fault_words.specs.declared.other_file.OtherFile.TheVariants.{Folder, 
 abbrev pub begins : List ℕ → List ℕ → Bool
 begins bytes front = starts_with nat_eq bytes front
 
--- `ustar` stands at byte 257
+-- `ustar` is at byte 257
 abbrev pub has_tar_mark : List ℕ → Bool
 has_tar_mark bytes = begins (drop 257 bytes) (codes "ustar")
 

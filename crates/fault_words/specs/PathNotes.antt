@@ -26,7 +26,7 @@ words_of_other_form file = codes "the bag has " ++ printed_text file ++ codes ",
 abbrev pub has_percent : List ℕ → Bool
 has_percent path = list_any (λ b. b == 37) path
 
--- which of them stand in a path
+-- which of them a path has
 abbrev pub coding_in : List ℕ → Option Coding
 coding_in path =
     if list_any is_end path && has_percent path then Some Both
@@ -34,7 +34,7 @@ coding_in path =
     else if has_percent path then Some Percent
     else None
 
--- what stands for them in its printed form
+-- what means them in its printed form
 abbrev pub meaning_words : Coding → List ℕ
 meaning_words LineEnd = codes "%0A or %0D is the end of a line"
 meaning_words Percent = codes "%25 is a percent sign"

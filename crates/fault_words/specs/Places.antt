@@ -1,4 +1,4 @@
--- Where a fault of a policy stands, as it is printed.
+-- Where a fault of a policy is, as it is printed.
 use Rattle.std.specs.Prelude.{List, ℕ, []}
 use Rattle.fault_words.specs.PolicyReasons.{caller_words, key_words, line_words}
 use Rattle.fault_words.specs.declared.place.Place.{Place}

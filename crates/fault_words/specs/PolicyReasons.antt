@@ -1,4 +1,4 @@
--- What standard error is told of a policy's file that is refused: the fault's sentence, and where in the file it stands.
+-- What standard error is told of a policy's file that is refused: the fault's sentence, and where in the file it is.
 use Rattle.std.specs.Prelude.{◌≡◌, ℕ, zero, suc, Bool, true, false, not, List, [], ◌∷◌, ◌++◌, ◌==◌, Option, Some, None, codes, count_by, decimal, find, is_none, is_some, option_and_then, option_map, slice_get, take, if◌then◌else◌}
 use Rattle.std.specs.Option.{option_map_or}
 use Rattle.std.specs.Str.{is_utf8}
@@ -46,7 +46,7 @@ pub record BreaksToml (bytes : List ℕ) (line : ℕ) : Type 0 where
   pub is_good : is_toml (first_lines before bytes) ≡ true
   pub is_broken : is_toml (first_lines line bytes) ≡ false
 
--- the line in which the byte at this place stands, from 1
+-- the line that has the byte at this place, from 1
 abbrev pub line_at : ℕ → List ℕ → ℕ
 line_at place bytes = suc (count_by (λ byte. byte == 10) (take place bytes))
 
@@ -122,7 +122,7 @@ place_in fault tree = []
 
 -- ---- what is told
 
--- where the fault stands, as far as it is known
+-- where the fault is, as far as it is known
 abbrev pub IsFaultPlace : List ℕ → PolicyFault → List ℕ → Type 0
 IsFaultPlace bytes NotToml place = IsLinePlace bytes place
 IsFaultPlace bytes fault place = place ≡ option_map_or (place_in fault) (tree_in bytes) []

@@ -1,4 +1,4 @@
-//! What standard error is told of a bag that is refused.
+//! What is printed to standard error of a bag that is refused.
 
 ghost use Rattle.std.specs.Prelude.{◌≡◌, ◌++◌, ◌∷◌, [], IfOk, option_and_then, option_copied, string_bytes};
 ghost use Rattle.std.specs.Option.{option_map_or};

@@ -6,7 +6,7 @@ ghost use Rattle.fault_words.specs.Denials.{action_words, counts_always, days_wo
 use office_core::{ActionPattern, Day, Pattern, Rule};
 use std::fmt;
 
-/// What a rule asks of what this word stands for.
+/// What a rule asks of the action, the collection or another part that this word names.
 #[derive(Clone, Copy)]
 struct Asks<'a> {
     what: &'a str,

@@ -8,7 +8,7 @@ use bag_text::SetFault;
 use std::fmt;
 
 /// What is said of the files of a folder, in the order of their paths. Where one file is at fault, its
-/// path stands in front.
+/// path comes in front.
 pub fn folder_words(fault: SetFault) -> &'static str
     ensures { result.now ≡ folder_words fault }
 {

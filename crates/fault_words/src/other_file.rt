@@ -43,7 +43,7 @@ impl OtherFile {
     }
 }
 
-/// Whether `ustar` stands where a tar file has it.
+/// Whether `ustar` is where a tar file has it.
 fn has_tar_mark(bytes: &[u8]) -> bool
     ensures { result ≡ has_tar_mark bytes.now }
 {

@@ -69,7 +69,7 @@ impl<'a> fmt::Display for OtherForm<'a> {
     }
 }
 
-/// What stands in a path that its printed form may be mistaken for.
+/// What a path has that its printed form may be mistaken for.
 #[derive(Clone, Copy, Debug, PartialEq, Eq)]
 pub enum Coding {
     /// The end of a line, LF or CR.
@@ -92,7 +92,7 @@ fn has_percent(path: &[u8]) -> bool
     path.iter().any(|b| *b == b'%')
 }
 
-/// What of these stands in a path.
+/// Which of these a path has.
 pub fn coding_in(path: &str) -> Option<Coding>
     ensures { result ≡ coding_in path.now }
 {
@@ -108,7 +108,7 @@ pub fn coding_in(path: &str) -> Option<Coding>
     }
 }
 
-/// What stands for it in the printed path.
+/// What it means in the printed path.
 fn meaning_words(coding: Coding) -> &'static str
     ensures { result.now ≡ meaning_words coding }
 {

@@ -1,4 +1,4 @@
-//! Where a fault of a policy stands, in words.
+//! Where a fault of a policy is, in words.
 
 ghost use Rattle.std.specs.Prelude.{Some};
 ghost use Rattle.fault_words.specs.Places.{place_words};
@@ -6,7 +6,7 @@ ghost use Rattle.fault_words.specs.Places.{place_words};
 use crate::escaped::Escaped;
 use std::fmt;
 
-/// Where a fault of a policy stands, to be printed after its sentence.
+/// Where a fault of a policy is, to be printed after its sentence.
 #[derive(Clone, Copy)]
 pub enum Place<'a> {
     /// It isn't known.

@@ -1,4 +1,4 @@
-//! What standard error is told of a policy's file that is refused.
+//! What is printed to standard error of a policy file that is refused.
 
 ghost use Rattle.std.specs.Prelude.{◌≡◌, ◌++◌, ◌∷◌, [], IfOk, Some, is_some, option_copied, string_bytes};
 ghost use Rattle.std.specs.Option.{option_map_or};
@@ -87,7 +87,7 @@ fn caller_place(tree: &Table) -> Place<'_>
     }
 }
 
-/// Where in the tree the fault stands.
+/// Where in the tree the fault is.
 fn place_in(tree: &Table, fault: PolicyFault) -> Place<'_>
     ensures { place_words result ≡ place_in fault (table_view tree.now) }
 {
@@ -121,7 +121,7 @@ fn tree_reason(alloc: Global, bytes: &[u8], fault: PolicyFault) -> Result<String
     }
 }
 
-/// The lines that standard error is told of a policy's file whose first fault this is: its sentence,
+/// The lines that are printed to standard error of a policy file whose first fault this is: its sentence,
 /// and the line, the key or the caller, where one is known.
 pub fn policy_reason(alloc: Global, bytes: &[u8], fault: PolicyFault) -> Result<String, AllocError>
     ensures { IfOk result (λ text. IsPolicyReason bytes.now fault (string_bytes text)) }

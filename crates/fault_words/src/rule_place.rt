@@ -148,7 +148,7 @@ fn key_place(key: Option<&str>) -> Place<'_>
     }
 }
 
-/// Where in the rule with this number, from 1, the fault stands.
+/// Where in the rule with this number, from 1, the fault is.
 pub fn rule_place(tree: &Table, number: usize) -> Place<'_>
     ensures { place_words result ≡ place_in (BadRule number) (table_view tree.now) }
 {

@@ -31,7 +31,7 @@ fn is_toml(alloc: Global, bytes: &[u8]) -> Result<bool, AllocError>
     Ok(tree_in(alloc, bytes)?.is_some())
 }
 
-/// The line in which the byte at this place stands, from 1.
+/// The line that has the byte at this place, from 1.
 fn line_at(bytes: &[u8], place: usize) -> usize
     requires { place ≤ length bytes.now }
     ensures line { result ≡ line_at place bytes.now }
@@ -40,7 +40,7 @@ fn line_at(bytes: &[u8], place: usize) -> usize
     bytes[..place].iter().filter(|byte| **byte == b'\n').count() + 1
 }
 
-/// The first so many lines, each with its end.
+/// This number of lines from the first on, each with its end.
 fn first_lines(bytes: &[u8], count: usize) -> &[u8]
     ensures { result.now ≡ first_lines count bytes.now }
 {

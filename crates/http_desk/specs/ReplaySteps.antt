@@ -12,7 +12,7 @@ use Rattle.http_desk.specs.declared.replaying.ReplayStop.{ReplayStop}
 use Rattle.http_desk.specs.declared.replaying.ReplayStop.TheVariants as stops
 use Rattle.http_desk.specs.declared.replaying.ReplayFault.{ReplayFault}
 
--- what stands after so many records: a record; nothing, or a beginning; or what is no record, whatever follows
+-- what follows this number of records: a record; nothing, or a beginning; or what is no record, whatever follows
 abbrev pub FoundBehind : ℕ → Found → List ℕ → Type 0
 FoundBehind count (found.Whole day bytes rest) input = IsRecord day bytes.now × (input ≡ record_text day bytes.now ++ rest.now) × (count < max_records)
 FoundBehind count found.More input = WantsMore input

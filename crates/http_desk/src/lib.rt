@@ -1,5 +1,5 @@
-//! The desk: bytes of HTTP in, exact bytes of answers out, over an office. Here stand replays: records of requests, each
-//! answered in turn by the record of its answer. The calls on one request stand in the crates `desk_*`, and those on a
+//! The desk: bytes of HTTP in, exact bytes of answers out, over an office. Here are replays: records of requests, each
+//! answered in turn by the record of its answer. The calls on one request are in the crates `desk_*`, and those on a
 //! whole request are handed on.
 #![tactic(auto)]
 

@@ -11,7 +11,7 @@ use crate::digits::read_length;
 use office_core::Day;
 use std::str;
 
-/// What stands at a record's place.
+/// What is at a record's place.
 #[derive(Clone, Copy, Debug, PartialEq, Eq)]
 pub enum Found<'a> {
     /// A record.
@@ -107,7 +107,7 @@ fn after_line<'a>(line: &'a [u8], body: &'a [u8]) -> Found<'a>
     }
 }
 
-/// What stands at a record's place: a record and what follows it; a beginning, where more bytes are
+/// What is at a record's place: a record and what follows it; a beginning, where more bytes are
 /// wanted; or what no bytes that follow make a record. A line is judged once its line feed has come,
 /// or once it is longer than a record's line can be.
 pub fn record_at(bytes: &[u8]) -> Found<'_>

@@ -21,7 +21,7 @@ const MAX_RECORDS: u64 = 1_000_000;
 /// Why a replay did not come to the end of its input.
 #[derive(Clone, Copy, Debug, PartialEq, Eq)]
 pub enum ReplayStop {
-    /// What stands at a record's place is no record, or follows as many as there may be.
+    /// What is at a record's place is no record, or follows as many as there may be.
     BadRecord {
         /// The record's place, counted from 1.
         index: u64,
@@ -46,7 +46,7 @@ pub struct ReplayFault {
 }
 
 impl ReplayFault {
-    /// A stop between two records, so many of which are answered.
+    /// A stop between two records, after this number of answered ones.
     fn between(stop: ReplayStop, count: u64) -> ReplayFault
         ensures { result ≡ record { stop = stop; done = count; answered = count } }
     {
@@ -57,7 +57,7 @@ impl ReplayFault {
         }
     }
 
-    /// A stop where no record stands after so many.
+    /// A stop where no record follows this number of records.
     fn bad_record(count: u64) -> ReplayFault
         requires { count ≤ max_records }
         ensures { result
@@ -66,7 +66,7 @@ impl ReplayFault {
         ReplayFault::between(ReplayStop::BadRecord { index: count + 1 }, count)
     }
 
-    /// A stop at the record after so many.
+    /// A stop at the record after this number of them.
     fn behind(count: u64, unwritten: Unwritten) -> ReplayFault
         requires { count < max_records }
         ensures { result ≡ fault_behind count unwritten }
@@ -90,7 +90,7 @@ impl ReplayFault {
     }
 }
 
-/// What stands after so many records. After as many as there may be, anything is no record.
+/// What follows this number of records. After as many as there may be, anything is no record.
 fn found_behind(count: u64, pending: &[u8]) -> Found<'_>
     requires { count ≤ max_records }
     ensures { FoundBehind count result pending.now }

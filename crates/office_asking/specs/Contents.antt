@@ -1,4 +1,4 @@
--- The contents that stand beside the tables, and which of them each file has: what a request makes of them, and which of them it serves.
+-- The contents beside the tables, and which of them each file has: what a request makes of them, and which of them it serves.
 use Rattle.std.specs.Prelude.{◌≡◌, ℕ, ℤ, pos, Bool, true, List, [], ◌∷◌, ◌++◌, Result, Ok, Err}
 use Rattle.std.specs.List.{list_all}
 use Rattle.sha2.specs.Sha256.{sha256}

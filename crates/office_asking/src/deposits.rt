@@ -46,8 +46,8 @@ pub fn days_in(row: &DepositRow) -> Result<DepositDays, TableFault>
     })
 }
 
-/// The deposit of that row, where the rules do not deny it and it is kept; else the refusal that stands
-/// first.
+/// The deposit of that row, where the rules do not deny it and it is kept; else the first refusal that
+/// applies.
 fn unless_refused(
     deposit: DepositRow,
     denied: Option<Refusal>,
@@ -70,7 +70,7 @@ fn unless_refused(
 }
 
 /// The deposit of that number, where the caller may do that with it on that day and it is kept; else
-/// the refusal that stands first.
+/// the first refusal that applies.
 ///
 /// Fails with `Memory` or `Store`.
 pub fn kept_deposit<S: Alter>(

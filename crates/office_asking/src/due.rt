@@ -1,4 +1,4 @@
-//! What stands against the destruction of a deposit: its due day, and the holds that cover it.
+//! What speaks against the destruction of a deposit: its due day, and the holds that cover it.
 
 ghost use Rattle.std.specs.Prelude.{◌≡◌, IfSome, None, ℕ, Some, [], option_map, pos, true};
 ghost use Rattle.office_rows.specs.Rows.{due_numbered, limits_of, live_holds};
@@ -70,7 +70,7 @@ fn check_count<S: Alter>(tx: &mut Transaction<'_, S>, count: i64) -> Result<(), 
 }
 
 /// The least live hold that covers the deposit of that number, which is of that collection and that class and
-/// covered by so many. The holds are asked only where there are some, and one has to be found then.
+/// covered by this number of holds. The holds are asked only where there are some, and one has to be found then.
 fn counted_hold<S: Alter>(
     alloc: Global,
     tx: &mut Transaction<'_, S>,

@@ -1,5 +1,5 @@
 //! What a request asks of the tables before it is answered: who asks, which rule decides, which
-//! deposit is meant, and which refusal stands first.
+//! deposit is meant, and which refusal comes first.
 #![tactic(auto)]
 
 mod asker;

@@ -1,5 +1,5 @@
-//! What the numbers and texts of rows stand for. What stands for nothing is of a row that no accepted
-//! change writes, which is a fault of the store.
+//! What the numbers and texts of rows mean. A row with a value that means nothing comes from no accepted
+//! change, and is a fault of the store.
 
 ghost use Rattle.std.specs.Prelude.{◌≡◌, Err, IfErr, IfOk, Ok, OnErr, OnOk, if◌then◌else◌, pos, true};
 ghost use Rattle.std.specs.Option.{ok_or};
@@ -87,7 +87,7 @@ pub fn due_numbered(number: Option<i64>) -> Result<Due, TableFault>
     }
 }
 
-/// The years that the number of a class's row stands for.
+/// The years that the number of a class's row means.
 pub fn years_numbered(number: i64) -> Result<Years, TableFault>
     ensures reads { result ≡ ok_or (years_of_number number) TableFault.Store }
     ensures store { IfErr result (λ fault. fault ≡ TableFault.Store) }
@@ -125,7 +125,7 @@ pub fn text_of_kind<K: TextKind>(alloc: Global, text: &str) -> Result<OwnedText<
     ensures text { IfOk result (λ owned. owned ≡ text.now) }
     ensures kind { OnOk result (K.is_of_kind text.now ≡ true) }
     ensures failure { IfErr result IsFailure }
-    // A text of the kind fails for want of memory alone, and what is none is a fault of the store.
+    // A text of the kind fails for lack of memory alone, and what is none is a fault of the store.
     ensures memory { K.is_of_kind text.now ≡ true → IfErr result (λ fault. fault ≡ Memory) }
     ensures store { (K.is_of_kind text.now ≡ true → ⊥) → result ≡ Err Store }
 {

@@ -70,7 +70,7 @@ path_cmp f g = slice_cmp nat_cmp f.path g.path
 abbrev pub files_by_path : ℤ → Tables → List FileRow
 files_by_path n t = sort_by path_cmp (files_of n t)
 
--- the files that stand in the tables for the deposit of that number, ascending by path
+-- the files that the tables have for the deposit of that number, ascending by path
 abbrev pub stored_files : ℕ → Tables → List File
 stored_files n t = map file_in (files_by_path (pos n) t)
 
@@ -78,7 +78,7 @@ stored_files n t = map file_in (files_by_path (pos n) t)
 abbrev pub bag_in : Tables → ℕ → Option Answer
 bag_in t n = if is_none (list_fault (stored_files n t)) then Some (answers.Bag (set_text (stored_files n t))) else None
 
--- the content of the file that stands there at a path, which is any bytes: a path that no bag may have is that of no file, whatever stands there
+-- the content of the file that is there at a path, which is any bytes: a path that no bag may have is that of no file, whatever is there
 abbrev pub content_stored : ℕ → List ℕ → Tables → Option (List ℕ)
 content_stored n path t = if is_good path then option_map (λ (file : FileRow). file.content) (file_at (pos n) path t.files) else None
 
@@ -130,7 +130,7 @@ listed_records t visit wanted = do
   role ← role_in t visit.caller
   things_told (listed_record t role visit.day wanted) (beside t.deposits t.dues)
 
--- the number of the deposit that stands there, where the rules allow that it is destroyed; what is kept of its due day is one, allowed or not
+-- the number of the deposit that is there, where the rules allow that it is destroyed; what is kept of its due day is one, allowed or not
 abbrev pub place_told : Tables → List ℕ → Date → PlaceRow → Option (Option ℕ)
 place_told t role day place = do
   due ← due_of_number place.due

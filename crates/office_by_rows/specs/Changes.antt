@@ -22,7 +22,7 @@ use Rattle.office_by_rows.specs.Refusals.{highest_deposit, highest_hold, number_
 
 -- ---- the policy
 
--- its callers and rules stand in the place of all that were there
+-- its callers and rules replace all that were there
 abbrev pub installed : PolicyValue → Tables → Tables
 installed policy t = with_policy (map caller_row policy.callers) (rule_rows 1 policy.rules) t
 
@@ -116,7 +116,7 @@ released day k t = do
 
 -- ---- a disposal
 
--- the day stands in the row of the deposit, and it has no files
+-- the row of the deposit has the day, and the deposit has no files
 abbrev pub destroyed : ℕ → Date → Tables → Tables
 destroyed n day t = without_files (pos n) (with_gone (pos n) (epoch_day day) t)
 

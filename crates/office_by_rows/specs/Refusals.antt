@@ -1,5 +1,5 @@
 -- Which requests are refused, and why, by the rows of an office: for each request the refusals that it may meet, in their order, each as the
--- rows tell it. The first that stands is answered. A disposal reads all that it may need before it judges.
+-- rows tell it. The first that applies is answered. A disposal reads all that it may need before it judges.
 use Rattle.std.specs.Prelude.{ℕ, ◌+◌, ℤ, pos, not, nat_le, ◌++◌, List, [], ◌∷◌, Option, Some, None, is_none, is_some, option_map, unwrap_or, if◌then◌else◌}
 use Rattle.jiff.specs.Types.{Date}
 use Rattle.office_core.specs.FirstOf.{◌>>=◌, answer_if}
@@ -116,7 +116,7 @@ disposal_refusal t visit n row = do
 
 -- ---- in their order
 
--- the first of these that stands, where each before it is told
+-- the first of these that applies, where each before it is told
 abbrev pub first_told : List (Option (Option Refusal)) → Option (Option Refusal)
 first_told [] = Some None
 first_told (None ∷ more) = None
@@ -137,7 +137,7 @@ of_hold (Some row) these = these row
 abbrev pub kept_refusals : Tables → Visit → Action → DepositRow → List (Option (Option Refusal))
 kept_refusals t visit action row = denial_at t visit action row ∷ gone_refusal row ∷ []
 
--- the first of these that stands against a deposit, or E1 where there is no such deposit
+-- the first of these that applies to a deposit, or E1 where there is no such deposit
 abbrev pub kept_refusal : Tables → Visit → Action → ℕ → Option (Option Refusal)
 kept_refusal t visit action n = first_told (of_deposit (deposit_numbered (pos n) t.deposits) (kept_refusals t visit action))
 
@@ -193,6 +193,6 @@ refusals t visit (Release k) = of_hold (hold_numbered (pos k) t.holds) (λ row. 
 refusals t visit (Dispose n) = of_deposit (deposit_numbered (pos n) t.deposits) (λ row. disposal_refusal t visit n row ∷ [])
 refusals t visit DueList = []
 
--- the first refusal that stands, or none where the request is allowed
+-- the first refusal that applies, or none where the request is allowed
 abbrev pub refusal : Tables → Visit → Request → Option (Option Refusal)
 refusal t visit request = first_told (refusals t visit request)

@@ -1,4 +1,4 @@
--- How much an office keeps, by its contents, which stand beside its tables. None where a size is below 0, or where the sizes come to more than
+-- How much an office keeps, by its contents, which are beside its tables. None where a size is below 0, or where the sizes come to more than
 -- a count of 64 bits tells.
 use Rattle.std.specs.Prelude.{ℕ, ℤ, nat_le, List, map, length, sum, Option, Some}
 use Rattle.office_core.specs.FirstOf.{◌>>=◌, answer_if}

@@ -1,4 +1,4 @@
--- What the numbers and texts of rows stand for. None where they stand for nothing: no accepted change writes such a row, and no
+-- What the numbers and texts of rows mean. None where they mean nothing: no accepted change writes such a row, and no
 -- answer but a failure rests on it.
 use Rattle.std.specs.Prelude.{ℕ, zero, suc, ℤ, pos, negsuc, neg_ℤ, int_le, ◌&&◌, ◌||◌, Bool, List, [], ◌∷◌, Option, Some, None, find, bytes_eq, codes, is_some, option_map, if◌then◌else◌}
 use Rattle.std.specs.List.{cons_option, flat_map, filter_map, range_with_len}

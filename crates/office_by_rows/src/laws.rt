@@ -1,4 +1,4 @@
-//! Laws of what rows come to.
+//! Laws of what an office makes of its rows.
 
 ghost use Rattle.std.specs.Prelude.{◌≡◌, ℕ, ℤ, Bool, List, Some};
 ghost use Rattle.jiff.specs.Types.{Date};

@@ -1,4 +1,4 @@
-//! What the rows of an office come to, whichever rows they are: functions over rows alone.
+//! What an office answers by its rows, and what it makes of them, whichever they are: functions over rows alone.
 #![tactic(auto)]
 
 pub mod laws;

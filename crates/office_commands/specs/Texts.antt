@@ -137,7 +137,7 @@ install_failure fault = Failed (table_fault fault) (Some (Install fault))
 abbrev pub IsUninstalled : CommandFault → Type 0
 IsUninstalled fault = (tables : TableFault) × tables_of.IsFailure tables × (fault ≡ install_failure tables)
 
--- a device that failed with this error, which may be want of memory
+-- a device that failed with this error, which may be that memory ran out
 abbrev pub device_failure : ErrorKind → StoreFault
 device_failure OutOfMemory = Memory
 device_failure _ = Device

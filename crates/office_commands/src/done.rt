@@ -1,4 +1,4 @@
-//! How a command that came to its end ends.
+//! How a command ends that did its work.
 
 ghost use Rattle.office_commands.specs.Works.{IsQuiet};
 

@@ -1,4 +1,4 @@
-//! Why a command on a store doesn't come to its end, and what standard error is told of it.
+//! Why a command on a store fails, and what is printed of that to standard error.
 
 ghost use Rattle.std.specs.Prelude.{◌≡◌, ◌++◌, IfOk, None, Some, false, string_bytes};
 ghost use Rattle.commands.specs.Explaining.{bad_policy_text};
@@ -10,7 +10,7 @@ use office_tables::TableFault;
 use std::alloc::{AllocError, Global};
 use std::{fmt, io};
 
-/// A failure of a store, or of what the program stands on.
+/// A failure of a store, or of what the program depends on.
 #[derive(Clone, Copy, Debug, PartialEq, Eq)]
 pub enum StoreFault {
     /// There is no office: nothing is there, or it is another database.
@@ -51,7 +51,7 @@ pub enum Cause {
     Refused(io::Error),
     /// The store could not be opened.
     Open(sqlite::Error),
-    /// The log could not be copied into the store. What was changed stands in the log.
+    /// The log could not be copied into the store. What was changed is in the log.
     Close(sqlite::Error),
     /// The address of the desk could not be had.
     Listen(io::Error),

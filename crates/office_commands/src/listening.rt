@@ -1,4 +1,4 @@
-//! The desk behind a listening socket.
+//! The desk at a listening socket.
 
 ghost use Rattle.std.specs.Prelude.{◌≡◌, ℕ, IfErr, IfOk, List, OnOk, Some, string_bytes};
 ghost use Rattle.std.specs.Io.KnownBytes.{Appends};

@@ -15,7 +15,7 @@ pub enum Work<P> {
     /// Answer the records of requests that the input gives. Where there is a policy, it is installed first,
     /// and the office made where there is none.
     Replay { policy: Option<P> },
-    /// Serve so many connections to this port of 127.0.0.1, one after the other, on that day. With the
+    /// Serve this number of connections to this port of 127.0.0.1, one after the other, on that day. With the
     /// port 0 the machine picks one.
     Serve { day: Day, port: u16, count: u32 },
 }

@@ -56,7 +56,7 @@ digits n = (48 + n / 10) ∷ (48 + n % 10) ∷ []
 abbrev pub day_text : Date → List ℕ
 day_text date = digits (unsigned_abs date.year / 100) ++ digits (unsigned_abs date.year % 100) ++ 45 ∷ [] ++ digits date.month ++ 45 ∷ [] ++ digits date.day
 
--- 29 February stands in leap years alone
+-- 29 February comes in leap years alone
 abbrev pub is_missing : ℤ → ℕ → ℕ → Bool
 is_missing year month day = (month == 2) && not (is_leap_year year) && (day == 29)
 

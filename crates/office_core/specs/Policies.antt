@@ -206,7 +206,7 @@ has_bad_caller tree = is_bad_among (caller_entries tree)
 abbrev pub has_too_many : Members → Bool
 has_too_many tree = nat_lt max_rules (length (rules_of tree)) || nat_lt max_callers (length (callers_of tree))
 
--- the faults from Y2 to Y6, each where it stands
+-- the faults from Y2 to Y6, each where it applies
 abbrev pub faults : Members → List (Option PolicyFault)
 faults tree =
     answer_if (has_bad_version tree) BadVersion
@@ -292,7 +292,7 @@ HasDays rule = IsDay rule.first × IsDay rule.last × (epoch_day rule.first ≤�
 abbrev pub IsNamedCaller : Caller → Type 0
 IsNamedCaller caller = IsName caller.name × IsName caller.role
 
--- each caller stands once: no later one has its name
+-- each caller occurs once: no later one has its name
 abbrev pub EachCallerOnce : List Caller → Type 0
 EachCallerOnce [] = Unit {0}
 EachCallerOnce (caller ∷ more) = AllByRecursion (λ other. caller.name ≢ other.name) more × EachCallerOnce more
@@ -306,7 +306,7 @@ pub record IsPolicy (policy : PolicyValue) : Type 0 where
   pub few_callers : length policy.callers ≤ max_callers
 
 -- ---- what a call answers, memory aside
--- The fault that an answer names: none for want of memory, which says nothing of the text.
+-- The fault that an answer names: none where memory ran out, which says nothing of the text.
 abbrev pub named_policy_fault : PolicyFault → Option PolicyFault
 named_policy_fault Memory = None
 named_policy_fault fault = Some fault

@@ -8,8 +8,8 @@ use jiff_core::civil;
 use std::fmt;
 use std::marker::Model;
 
-// It has the parts of a date of `jiff_core`, and not that date: else the crates above would load all that stands
-// on it in each of their checks.
+// It has the parts of a date of `jiff_core`, and isn't that date: else each check of the crates above would
+// load all that `jiff_core` uses.
 /// A date of the civil calendar, from -9999-01-01 to 9999-12-31.
 #[derive(Clone, Copy, PartialEq, Eq, PartialOrd, Ord)]
 pub struct Date {

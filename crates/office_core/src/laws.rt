@@ -78,7 +78,7 @@ pub fn allowed_disposal()
 {}
 
 /// What a text spells is a policy: it asks for names, the days of a rule are days of the office, the
-/// first not after the last, each caller stands once, and there are no more rules and callers than a
+/// first not after the last, each caller occurs once, and there are no more rules and callers than a
 /// policy may have.
 pub fn spelled_policies()
     ensures { (text : List ℕ) (policy : PolicyValue)

@@ -24,7 +24,7 @@ pub const MAX_CALLERS: usize = 1_000;
 
 /// A policy: callers, each with its role, and rules, of which the first that matches decides.
 /// Callers, roles and what the rules ask for are names, no rule's first day comes after its last,
-/// each caller stands once, and there are at most 200 rules and 1,000 callers.
+/// each caller occurs once, and there are at most 200 rules and 1,000 callers.
 #[derive(Debug, Drop)]
 pub struct Policy {
     callers: Vec<Caller>,
@@ -128,7 +128,7 @@ pub fn read_policy(alloc: Global, text: &str) -> Result<Policy, PolicyFault>
     ensures reads { (policy : PolicyValue) → SpellsPolicy text.now policy
         → MatchResult result (λ read. read ≡ policy) (λ fault. fault ≡ Memory) }
 
-    // A refusal names the first fault of the text, and where one stands it is the answer, unless
+    // A refusal names the first fault of the text, and where one applies it is the answer, unless
     // memory runs out.
     ensures refused { IfErr result (λ fault. (fault ≡ Memory) ⊎ HasFirstFault text.now fault) }
     ensures first_fault { (fault : PolicyFault) → HasFirstFault text.now fault

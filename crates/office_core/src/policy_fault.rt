@@ -8,7 +8,7 @@ use std::alloc::AllocFailed;
 use std::error::Error;
 use std::fmt;
 
-/// Why a text is no policy. The first that stands is named.
+/// Why a text is no policy. The first that applies is named.
 #[derive(Clone, Copy, Debug, PartialEq, Eq)]
 pub enum PolicyFault {
     /// Y1: the text is no TOML.

@@ -1,4 +1,4 @@
-//! What stands at a key of a TOML table, and which keys a rule may have.
+//! What is at a key of a TOML table, and which keys a rule may have.
 
 ghost use Rattle.std.specs.Prelude.{◌≡◌, option_copied, option_map};
 ghost use Rattle.toml.specs.Data.{get_member};
@@ -16,7 +16,7 @@ pub fn value_at<'a>(table: &'a Table, key: &str) -> Option<&'a Value>
     table.get(key)
 }
 
-/// The text of a key, where a text stands there.
+/// The text of a key, where a text is there.
 pub fn text_at<'a>(table: &'a Table, key: &str) -> Option<&'a str>
     ensures { option_copied result ≡ text_at key.now (table_view table.now) }
 {

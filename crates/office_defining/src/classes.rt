@@ -19,7 +19,7 @@ use office_tables::{ClosingRow, TableFault, put_class, rows_of_class, set_dues};
 use sqlite::{Alter, Transaction};
 use std::alloc::Global;
 
-/// The number of a class's row that stands for the years: -1 for permanent.
+/// The number in a class's row that means these years: -1 for permanent.
 fn years_number(years: Years) -> i64
     ensures { result ≡ years_number years }
 {

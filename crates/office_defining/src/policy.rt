@@ -35,7 +35,7 @@ fn caller_rows(alloc: Global, callers: &[Caller]) -> Result<Vec<CallerRow>, Tabl
     Ok(rows)
 }
 
-/// The number that stands for an effect.
+/// The number that means an effect.
 fn effect_number(effect: Effect) -> i64
     ensures { result ≡ effect_number effect }
 {
@@ -97,7 +97,7 @@ fn rule_rows(alloc: Global, policy: &Policy) -> Result<Vec<RuleRow>, TableFault>
     Ok(rows)
 }
 
-/// Installs a policy: its callers and rules stand in the place of all that were there.
+/// Installs a policy: its callers and rules replace all that were there.
 ///
 /// Fails with `Memory` or `Store`.
 pub fn install<S: Alter>(

@@ -1,4 +1,4 @@
--- What requests do to the rows of an office, and to the contents that stand beside them, whichever they are.
+-- What requests do to the rows of an office, and to the contents beside them, whichever they are.
 use Rattle.std.specs.Prelude.{◌≡◌, ◌⊎◌, List, [], ◌∷◌, Some}
 use Rattle.office_core.specs.Policies.{PolicyValue}
 use Rattle.office_core.specs.declared.answer.Answer.{Answer}

@@ -113,7 +113,7 @@ abbrev pub LeavesInstalled : {T E : Type 0} → State → State → Result T E �
 LeavesInstalled old new result = (made : Trees) × LeavesAlso old new made × OnOk result (made ≡ new.now.trees)
 
 -- whatever rows the tables of an office held, an answer that is no failure is the one that they told: an audit is the report on the
--- files that stood there, no answer rests on a row that tells nothing, and no bytes are served but under their SHA-256
+-- files that were there, no answer rests on a row that tells nothing, and no bytes are served but under their SHA-256
 abbrev pub IsToldByRows : State → Item → Answer → Type 0
 IsToldByRows old item given = (IsFailure given → ⊥) → IsOffice old.now → RowsTell (rows_of old.now) (visit_on item.0 item.1.now) item.2 given
 

@@ -23,7 +23,7 @@ Upgrades old new = (version : TableVersion) (h : History) → IsKeptAt version h
 abbrev pub TakesUp : State → State → Type 0
 TakesUp old new = (version : TableVersion) (h : History) → IsLeftAt version h old.now.trees → IsKeptBy h new
 
--- whichever stood there, kept or left by a crash, a crash leaves it by the tables of this version, and leaves nothing else
+-- whichever was there, kept or left by a crash, a crash leaves it by the tables of this version, and leaves nothing else
 abbrev pub UpgradeLasts : State → State → Type 0
 UpgradeLasts old new = (version : TableVersion) (h : History) → IsTrue old.is_open → IsLeftAt version h old.now.trees
     → (left : Trees) → new.may_leave left → IsLeftOf h left
@@ -32,12 +32,12 @@ UpgradeLasts old new = (version : TableVersion) (h : History) → IsTrue old.is_
 abbrev pub IsLeftOfUpgrade : TableVersion → History → Trees → Type 0
 IsLeftOfUpgrade version h left = IsLeftAt version h left ⊎ IsLeftOf h left
 
--- whichever stood there, at every exit a crash leaves it so
+-- whichever was there, at every exit a crash leaves it so
 abbrev pub LeavesAt : State → State → Type 0
 LeavesAt old new = (version : TableVersion) (h : History) → IsTrue old.is_open → IsLeftAt version h old.now.trees
     → (left : Trees) → new.may_leave left → IsLeftOfUpgrade version h left
 
--- whichever legal history stood there by older tables, kept or left by a crash, the store is open
+-- whichever legal history was there by older tables, kept or left by a crash, the store is open
 abbrev pub OpensOlder : State → State → Type 0
 OpensOlder old new = (version : TableVersion) (h : History) → version_number version ≢ version_number Fifth → IsLegal h → IsTrue old.is_open
     → IsLeftAt version h old.now.trees → IsTrue new.is_open

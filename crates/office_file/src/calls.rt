@@ -32,7 +32,7 @@ pub fn read_explain(alloc: Global) -> Outcome {
     }
 }
 
-/// Reads words that are no use.
+/// Reads invalid words.
 pub fn refuse_words(alloc: Global) -> Outcome {
     match read_line(alloc, ["check"].as_slice()) {
         Ok(_) => Outcome::Wrong,

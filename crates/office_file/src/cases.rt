@@ -1,4 +1,4 @@
-//! Want of memory: each case has the answer that was worked out, or want of memory, and nothing else.
+//! Lack of memory: each case gives the expected answer or runs out of memory, and nothing else.
 //!
 //! Standard input may name one group of cases, whose allocations `trials/memory.py` has refused, one after the
 //! other.

@@ -152,7 +152,7 @@ impl<S: Alter + Drop> Offices<S> {
     }
 }
 
-/// Puts so many requests, which are drawn, to the two offices. What came of them.
+/// Puts this number of requests, which are drawn, to the two offices. What came of them.
 fn take_all<S: Alter + Drop>(
     alloc: Global,
     offices: &mut Offices<S>,
@@ -167,7 +167,7 @@ fn take_all<S: Alter + Drop>(
     Ok(tally)
 }
 
-/// Puts so many requests, which are drawn, to two new offices, one of them in the empty database, with
+/// Puts this number of requests, which are drawn, to two new offices, one of them in the empty database, with
 /// installs before some of them. Fails where an answer of the one isn't the answer of the other. The two
 /// offices, and what came of the requests.
 fn compare_new<S: Alter + Drop>(
@@ -205,13 +205,13 @@ fn compare_with_memory(
     compare_new(alloc, conn, draws, count)
 }
 
-/// Puts so many requests, drawn by the seed, to an office in memory and to the plain office.
+/// Puts this number of requests, drawn by the seed, to an office in memory and to the plain office.
 pub fn compare_in_memory(alloc: Global, seed: u64, count: u32) -> Result<Tally> {
     let (_, tally) = compare_with_memory(alloc, &mut Draws::new(seed), count)?;
     Ok(tally)
 }
 
-/// Goes on where `compare` left an office after so many requests, with as many more: its tables may be
+/// Goes on where `compare` left an office after this number of requests, with as many more: its tables may be
 /// those of an older version by now, and are upgraded first. Fails where an answer isn't that of the plain
 /// office that is brought to the same place. The connection again, and what came of the further requests.
 pub fn compare_on<S: Alter + Drop>(

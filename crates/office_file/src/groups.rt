@@ -23,7 +23,7 @@ pub fn run_calls(rt: &HostRuntime) -> io::Result<()> {
     say(rt, "a form written", calls::write_form(rt.alloc()))
 }
 
-/// A session over the tables. Where no database could be had for want of memory, the second has to be.
+/// A session over the tables. Where memory ran out before there was a database, the second has to be.
 pub fn run_tables(rt: &HostRuntime) -> io::Result<()> {
     match Connection::open_in_memory(rt.alloc()) {
         Ok(mut conn) => session(rt, &mut conn),

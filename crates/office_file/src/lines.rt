@@ -29,8 +29,8 @@ pub fn run_words(
     Ok((output.into_device(), error.into_device(), ending))
 }
 
-/// The line that was worked out with its reason and its ending, or want of memory with nothing on
-/// standard output: the line `memory`, after which a second one may say what was tried.
+/// The expected line with its reason and its ending; or memory ran out, with nothing on standard output:
+/// the line `memory`, after which a second one may say what was tried.
 fn outcome(
     found: Result<(Vec<u8>, Vec<u8>, Ending), AllocError>,
     line: &str,

@@ -1,6 +1,6 @@
 //! Writes an office into a file, which the `sqlite3` command can read, times calls of the tables,
 //! requests to the office and the hearing of a request, and compares the office's answers with those of
-//! the plain office. With no words it runs the cases of want of memory.
+//! the plain office. Without arguments it runs the cases of lack of memory.
 #![tactic(auto)]
 
 mod bags;
@@ -76,7 +76,7 @@ fn say_tally(rt: &HostRuntime, tally: Tally) -> Result<()> {
     Ok(())
 }
 
-/// Puts so many requests, drawn by the seed, to an office in memory and to the plain office. Prints what
+/// Puts this number of requests, drawn by the seed, to an office in memory and to the plain office. Prints what
 /// came of them.
 fn draw(rt: &HostRuntime, count: u32, seed: u64) -> Result<()> {
     say_tally(rt, compare_in_memory(rt.alloc(), seed, count)?)
@@ -124,7 +124,7 @@ fn run(rt: &HostRuntime, words: &[String]) -> Result<()> {
     take(rt, file, task)
 }
 
-/// Runs the cases of want of memory, and where all are wanted draws requests.
+/// Runs the cases of lack of memory, and where all are as wanted draws requests.
 fn run_cases(rt: &HostRuntime) -> Result<()> {
     if cases::answer(rt)? {
         draw(rt, 100, 7)?;

@@ -5,7 +5,7 @@
 pub enum Outcome {
     /// With the answer that was worked out.
     Expected,
-    /// With want of memory.
+    /// Memory ran out.
     Memory,
     /// With anything else.
     Wrong,
@@ -21,7 +21,7 @@ impl Outcome {
         }
     }
 
-    /// Want of memory, or a wrong answer.
+    /// Memory ran out, or the answer is wrong.
     pub fn memory_if(holds: bool) -> Outcome {
         if holds {
             Outcome::Memory
@@ -40,7 +40,7 @@ impl Outcome {
         }
     }
 
-    /// Want of memory, after which this came out when it was asked again.
+    /// Memory ran out, and this came when it was asked again.
     pub fn again(self) -> Outcome {
         match self {
             Outcome::Expected => Outcome::Memory,

@@ -56,7 +56,7 @@ fn form(alloc: Global, begin: &[u8]) -> Result<Vec<u8>> {
     Ok(write_bagset(alloc, &bag)?)
 }
 
-/// The forms of the bags that are deposited in so many turns, or none.
+/// The forms of the bags that are deposited in this number of turns, or none.
 pub fn forms(alloc: Global, asked: Asked, count: u32) -> Result<Vec<Vec<u8>>> {
     let mut forms = Vec::new(alloc);
     for turn in 1..=count {

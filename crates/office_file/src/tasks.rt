@@ -19,9 +19,9 @@ pub enum Task {
     Write,
     /// An office in which bags can be deposited.
     Make,
-    /// A call of the tables, so many times.
+    /// A call of the tables, this number of times.
     Time(Call, u32),
-    /// A request to the office, so many times.
+    /// A request to the office, this number of times.
     Ask(Asked, u32),
     /// So many requests, drawn by the seed, which are put to an office in it and to the plain office.
     Draw(u32, u64),
@@ -43,7 +43,7 @@ pub enum Report {
     Drew(Tally),
 }
 
-/// Makes the call so many times. The time of all calls.
+/// Makes the call this number of times. The time of all calls.
 fn time<S: Alter>(
     rt: &HostRuntime,
     conn: &mut Connection<S>,
@@ -56,7 +56,7 @@ fn time<S: Alter>(
     Ok(start.elapsed(rt)?)
 }
 
-/// Makes the request so many times. The connection again, and the time of all requests.
+/// Makes the request this number of times. The connection again, and the time of all requests.
 fn ask<S: Alter + Drop>(
     rt: &HostRuntime,
     mut conn: Connection<S>,
@@ -141,7 +141,7 @@ impl Task {
         }
     }
 
-    /// The calls or requests that a word asks for, so many of them.
+    /// The calls or requests that a word asks for, this number of them.
     pub fn read_timed(word: &str, count: u32) -> Option<Task> {
         match word {
             "deposits" => Some(Task::Time(Call::Deposit, count)),

@@ -70,7 +70,7 @@ abbrev pub years_in : List ℕ → Change → Option (Option ℕ)
 years_in name (DefinedClass day class years) = if bytes_eq class name then Some years else None
 years_in name _ = None
 
--- the years of a class as they stand, where there is such a class
+-- the present years of a class, where there is such a class
 abbrev pub years_of : History → List ℕ → Option (Option ℕ)
 years_of h name = last_said (years_in name) h.changes
 
@@ -116,7 +116,7 @@ destruction_day h n = first_said (destroyed_in n) h.changes
 abbrev pub kept_numbers : History → List ℕ
 kept_numbers h = filter (λ n. is_none (destruction_day h n)) (numbers (length (deposits h)))
 
--- the day from which a deposit may be destroyed, by the years of its class as they stand
+-- the day from which a deposit may be destroyed, by the present years of its class
 abbrev pub due : History → Deposit → Due
 due h deposit = option_map_or (due_of deposit.closed) (years_of h deposit.class) Never
 

@@ -22,11 +22,11 @@ item_numbered xs (suc place) = slice_get xs place
 abbrev pub numbers : ℕ → List ℕ
 numbers count = range_with_len 1 count
 
--- each text that isn't among those seen, once, where it stands first
+-- each text that isn't among those seen, once, where it occurs first
 abbrev pub distinct_after : List (List ℕ) → List (List ℕ) → List (List ℕ)
 distinct_after seen [] = []
 distinct_after seen (text ∷ texts) = if list_any (bytes_eq text) seen then distinct_after seen texts else text ∷ distinct_after (text ∷ seen) texts
 
--- each text once, where it stands first
+-- each text once, where it occurs first
 abbrev pub in_first_places : List (List ℕ) → List (List ℕ)
 in_first_places texts = distinct_after [] texts

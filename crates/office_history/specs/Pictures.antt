@@ -1,4 +1,4 @@
--- The rows that a history gives: what the tables of an office hold after its changes, and nothing else. Days stand as day
+-- The rows that a history gives: what the tables of an office hold after its changes, and nothing else. Days are day
 -- numbers, 0 for 1 January 1970, and years as numbers, -1 where a class keeps its deposits permanently.
 use Rattle.std.specs.Prelude.{ℕ, ◌+◌, ℤ, pos, negsuc, neg_ℤ, List, [], ◌∷◌, length, map, Option, Some, None, option_map, codes}
 use Rattle.std.specs.List.{filter_map, flat_map}
@@ -87,7 +87,7 @@ row_by_gone n day found = record {
 abbrev pub deposit_row : History → ℕ → Date × Deposit → DepositRow
 deposit_row h n found = row_by_gone n (destruction_day h n) found
 
--- what is kept of a deposit: its due day, by the years of its class as they stand, and how many live holds cover it
+-- what is kept of a deposit: its due day, by the present years of its class, and how many live holds cover it
 abbrev pub due_row : History → ℕ → Date × Deposit → DueRow
 due_row h n found = record { number = pos n; due = due_number (due h found.1); holds = pos (length (live_holds h n found.1)) }
 
@@ -131,7 +131,7 @@ abbrev pub class_in : Change → Option (List ℕ)
 class_in (DefinedClass day name years) = Some name
 class_in _ = None
 
--- a class with its years as they stand
+-- a class with its present years
 abbrev pub row_of_class : History → List ℕ → Option ClassRow
 row_of_class h name = option_map (class_row name) (years_of h name)
 

@@ -1,5 +1,5 @@
 -- Which requests the office refuses, and why: for each request the refusals that it may meet, in their order. The first that
--- stands is answered.
+-- applies is answered.
 use Rattle.std.specs.Prelude.{ℕ, not, List, [], ◌∷◌, length, Option, Some, None, Result, Ok, Err, ◌++◌, option_map, option_and_then, is_none, int_lt, nat_le, if◌then◌else◌}
 use Rattle.jiff.specs.Types.{Date}
 use Rattle.jiff.specs.Words.{epoch_day}
@@ -35,7 +35,7 @@ refusal_of (verdicts.NotDue date) = Some (NotDue (On date))
 refusal_of verdicts.Permanent = Some (NotDue Never)
 refusal_of verdicts.Allow = None
 
--- of a verdict that stands
+-- of a verdict that applies
 abbrev pub refusal_in : Option Verdict → Option Refusal
 refusal_in verdict = option_and_then refusal_of verdict
 
@@ -213,6 +213,6 @@ refusals h day caller (Release k) = of_hold (hold_numbered h k) (release_refusal
 refusals h day caller (Dispose n) = of_deposit (deposit_numbered h n) (disposal_refusals h day caller n)
 refusals h day caller DueList = []
 
--- the first refusal that stands, or none where the request is allowed
+-- the first refusal that applies, or none where the request is allowed
 abbrev pub refusal : History → Date → List ℕ → Request → Option Refusal
 refusal h day caller request = first_some (refusals h day caller request)

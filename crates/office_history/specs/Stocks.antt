@@ -11,11 +11,11 @@ use Rattle.office_history.specs.Lists.{in_first_places}
 abbrev pub files_of : History → ℕ → List File
 files_of h n = option_map_or (λ found. found.1.bag) (deposit_numbered h n) []
 
--- the byte strings that stand at some path of some kept bag
+-- the byte strings at some path of some kept bag
 abbrev pub contents : History → List (List ℕ)
 contents h = in_first_places (map (λ file. file.content) (flat_map (files_of h) (kept_numbers h)))
 
--- the content of a file that stands in the bag of a kept deposit
+-- the content of a file in the bag of a kept deposit
 pub record IsKept (h : History) (content : List ℕ) : Type 0 where
   pub number : ℕ
   pub found : Date × Deposit

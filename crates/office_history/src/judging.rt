@@ -1,5 +1,5 @@
-//! What every office judges by: bags that are deposited, bags that are checked again, and the
-//! refusals that verdicts are.
+//! What every office judges: bags that are deposited, bags that are checked again, and the refusal of each
+//! verdict.
 
 ghost use Rattle.std.specs.Prelude.{◌≡◌, Ok, Err, IfOk, MatchResult, false, is_none};
 ghost use Rattle.bag_text.specs.FaultTexts.{set_fault_text};

@@ -64,7 +64,7 @@ pub fn sound_bags()
 }
 
 /// Each change of a legal history is in range, and the history before it allowed it: so each
-/// release stands where the hold is there and was live.
+/// release is of a hold that was there and live.
 pub fn changes_stand()
     ensures changes { (h : History) → IsLegal h → (before rest : List Change) (change : Change)
         → h.changes ≡ before ++ change ∷ rest
@@ -75,8 +75,8 @@ pub fn changes_stand()
         → IsReleasable (as_of h before) k }
 {}
 
-/// In a legal history no disposal stands where, at its place, a live hold covered the deposit or
-/// its due day had not come.
+/// A legal history has no disposal of a deposit that a live hold covered at its place, or that was not
+/// due yet.
 pub fn disposals_stand()
     ensures { (h : History) → IsLegal h → (before rest : List Change) (day : Date) (n : ℕ)
         → h.changes ≡ before ++ Destroyed day n ∷ rest

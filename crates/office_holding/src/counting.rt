@@ -1,4 +1,4 @@
-//! How many live holds cover a deposit, where one more or one fewer does.
+//! How many live holds cover a deposit, after one more or one fewer.
 
 ghost use Rattle.std.specs.Prelude.{◌≡◌, ◌+ℤ◌, ◌&&◌, Err, IfErr, Ok, Some, if◌then◌else◌, pos};
 ghost use Rattle.office_rows.specs.Rows.{with_holds};

@@ -85,7 +85,7 @@ fn hold_denial<S: Alter>(
     }
 }
 
-/// The number of a hold on the target, where nothing stands against it.
+/// The number of a hold on the target, where nothing speaks against it.
 fn place_for<S: Alter>(
     tx: &mut Transaction<'_, S>,
     day: Day,

@@ -74,7 +74,7 @@ fn release_denial<S: Alter>(
     }
 }
 
-/// The row of a hold, or the refusal of its release that stands first: that the rules deny it, or that it
+/// The row of a hold, or the first refusal of its release that applies: that the rules deny it, or that it
 /// was released. Where the rules allow it all of the row is read, so that no hold is released that isn't
 /// one.
 fn unless_refused(
@@ -105,7 +105,7 @@ fn unless_refused(
     }
 }
 
-/// The row of the hold of that number, or the refusal of its release that stands first.
+/// The row of the hold of that number, or the first refusal of its release that applies.
 fn releasable_hold<S: Alter>(
     alloc: Global,
     tx: &mut Transaction<'_, S>,

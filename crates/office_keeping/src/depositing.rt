@@ -34,7 +34,7 @@ fn unless_refused(years: i64, refused: Option<Refusal>) -> Result<i64, Refusal>
     }
 }
 
-/// The number of years in the class's row, or the refusal of the place that stands first: no such
+/// The number of years in the class's row, or the first refusal of the place that applies: no such
 /// collection, no such class, or the caller may not deposit there.
 fn years_at_place<S: Alter>(
     tx: &mut Transaction<'_, S>,
@@ -77,7 +77,7 @@ fn closed_ahead(day: Day, closed: Day) -> Option<Refusal>
     None
 }
 
-/// The refusal that stands first after those of the place: a deposit, kept or destroyed, has the
+/// The first refusal that applies after those of the place: a deposit, kept or destroyed, has the
 /// accession, or the closing day comes after the day of the request.
 fn refusal_after_place<S: Alter>(
     tx: &mut Transaction<'_, S>,
@@ -96,7 +96,7 @@ fn refusal_after_place<S: Alter>(
     }
 }
 
-/// The number of years in the class's row, or the refusal that stands first before the bag is looked at.
+/// The number of years in the class's row, or the first refusal that applies before the bag is looked at.
 fn years_before_the_bag<S: Alter>(
     tx: &mut Transaction<'_, S>,
     asked: &DepositAsked<'_>,
@@ -137,7 +137,7 @@ struct NewBag<'a> {
     number: u32,
 }
 
-/// The bag of the text with its number, or the refusal that stands first: a bad bag, or, where there
+/// The bag of the text with its number, or the first refusal that applies: a bad bag, or, where there
 /// is no number, a full office.
 fn judged_bag<'a>(
     alloc: Global,
@@ -166,8 +166,8 @@ fn judged_bag<'a>(
     }
 }
 
-/// The bag of the text with the number of the next deposit, or the refusal of the bag or of the
-/// office that stands first: a bad bag, or a full office.
+/// The bag of the text with the number of the next deposit, or the first refusal of the bag or of the
+/// office that applies: a bad bag, or a full office.
 fn numbered_bag<'a, S: Alter>(
     alloc: Global,
     tx: &mut Transaction<'_, S>,

@@ -16,7 +16,7 @@ use office_tables::{TableFault, deposit_row, drop_files, mark_gone};
 use sqlite::{Alter, Transaction};
 use std::alloc::Global;
 
-/// The refusal that stands first against the disposal of the deposit of that number, if one stands.
+/// The first refusal that applies to the disposal of the deposit of that number, if one does.
 fn disposal_refusal<S: Alter>(
     alloc: Global,
     tx: &mut Transaction<'_, S>,

@@ -62,7 +62,7 @@ fn add_files<S: Alter>(
     Ok(())
 }
 
-/// The number that stands in a row for a count.
+/// The number that a row has for a count.
 fn row_count(count: usize) -> Result<i64, TableFault>
     ensures fits { OkIff result (count < 2 ^ 63) (pos count) }
     ensures store { IfErr result (λ fault. fault ≡ TableFault.Store) }

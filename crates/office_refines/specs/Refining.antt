@@ -12,7 +12,7 @@ use Rattle.office_history.specs.Pictures.{effect_number}
 use Rattle.office_history.specs.Refusals.{refusal}
 use Rattle.office_by_rows.specs.Answers.{content_stored, stored_files}
 
--- what stands against a request; that there is no file at a path is answered where nothing stands against the download of its bag
+-- what speaks against a request; that there is no file at a path is answered where nothing speaks against the download of its bag
 abbrev pub refusal_before : History → Date → List ℕ → Request → Option Refusal
 refusal_before h day caller (DownloadFile n path) = refusal h day caller (DownloadBag n)
 refusal_before h day caller request = refusal h day caller request
@@ -24,7 +24,7 @@ place_and_effect row = (row.place, row.effect)
 abbrev pub rule_and_effect : Decision → ℤ × ℤ
 rule_and_effect decision = (pos decision.rule, effect_number decision.effect)
 
--- the files that the tables have of the deposit are those of its bag, and so is what stands there at each path
+-- the files that the tables have of the deposit are those of its bag, and so is what is there at each path
 pub record HasBagOf (h : History) (n : ℕ) (t : Tables) : Type 0 where
   pub found : Date × Deposit
   pub there : deposit_numbered h n ≡ Some found

@@ -1,4 +1,4 @@
-//! Laws: what the rows of a legal history come to is what the history says.
+//! Laws: by the rows of a legal history, an office answers what the history says.
 
 ghost use Rattle.std.specs.Prelude.{◌≡◌, ℕ, [], ◌∷◌, None, Some, is_some, option_map, true};
 ghost use Rattle.jiff.specs.Words.{epoch_day};
@@ -24,7 +24,7 @@ ghost use Rattle.office_refines.specs.Refining.{HasBagOf, place_and_effect, refu
 use bag_text::laws::one_list_fault;
 use office_history::laws::{pictures_are_in_range, sound_bags};
 
-/// What stands against a request is told by the rows, and is what the history says.
+/// What speaks against a request is told by the rows, and is what the history says.
 pub fn refusals_are_exact()
     ensures { (h : History) (visit : Visit) (request : Request) → IsLegal h
         → refusal (picture this_version h) visit request
@@ -33,7 +33,7 @@ pub fn refusals_are_exact()
     pictures_are_in_range();
 }
 
-/// Where nothing stands against a request, the rows tell its answer, which is the history's.
+/// Where nothing speaks against a request, the rows tell its answer, which is the history's.
 pub fn answers_are_exact()
     ensures { (h : History) (visit : Visit) (request : Request) → IsLegal h
         → refusal_before h visit.day visit.caller request ≡ None
@@ -45,7 +45,7 @@ pub fn answers_are_exact()
     one_list_fault();
 }
 
-/// Where nothing stands against the download of a bag, the rows have its files, and its content at each path.
+/// Where nothing speaks against the download of a bag, the rows have its files, and its content at each path.
 pub fn files_are_exact()
     ensures { (h : History) (visit : Visit) (n : ℕ) → IsLegal h
         → refusal_before h visit.day visit.caller (DownloadBag n) ≡ None
@@ -56,7 +56,7 @@ pub fn files_are_exact()
     one_list_fault();
 }
 
-/// Where nothing stands against a request, the rows tell which rows it leaves: the picture of the
+/// Where nothing speaks against a request, the rows tell which rows it leaves: the picture of the
 /// history after it.
 pub fn rows_are_exact()
     ensures { (h : History) (visit : Visit) (request : Request) → IsLegal h

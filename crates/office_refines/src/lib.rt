@@ -1,4 +1,4 @@
-//! What the rows of an office come to is what the history says that they picture.
+//! By the rows that picture a history, an office answers what the history says.
 #![tactic(auto)]
 
 pub mod laws;

@@ -2,7 +2,7 @@
 use Rattle.std.specs.Prelude.{ℕ, ℤ, List, Option, map, filter}
 use Rattle.office_rows.specs.Rows.{DepositRow, DueRow, Tables, of_class, beside, is_disposable}
 
--- where a deposit stands, and when it falls due
+-- the collection and the class of a deposit, and when it falls due
 pub record PlaceRow : Type 0 where
   pub number : ℤ
   pub collection : List ℕ

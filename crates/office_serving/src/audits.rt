@@ -70,7 +70,7 @@ fn stored_audit<S: Alter>(
 }
 
 /// Answers the audit of a deposit's bag, as its files are stored, whoever wrote them. It reports on whatever
-/// stands there, also where the SHA-256 of a content is no longer its mark.
+/// is stored, also where the SHA-256 of a content is no longer its mark.
 ///
 /// Fails with `Memory` or `Store`.
 #[tactic(auto, using(office_tables::proofs::InTurn::inside_then))]
@@ -82,7 +82,7 @@ pub fn audit<S: Alter>(
     number: u32,
 ) -> Result<Answer, TableFault>
     ensures inside { GoesOnInside S.Store tx.old.conn tx.new.conn result }
-    // Whatever the tables of the office hold, the report is that of what stands there.
+    // Whatever the tables of the office hold, the report is that of what is there.
     ensures serves { ServesReading S.Store tx.old.conn.now tx.new.conn.now result
         (visit_on day caller.now) (requests.Audit number) }
 {

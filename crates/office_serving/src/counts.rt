@@ -1,5 +1,5 @@
-//! What the counts of a deposit's row stand for. What stands for nothing is of a row that no accepted
-//! change writes, which is a fault of the store.
+//! What the counts of a deposit's row mean. A row with a count that means nothing comes from no accepted
+//! change, and is a fault of the store.
 
 ghost use Rattle.std.specs.Prelude.{◌≡◌};
 ghost use Rattle.std.specs.Option.{ok_or};

@@ -18,8 +18,8 @@ use office_tables::{PlaceRow, TableFault, due_rows};
 use sqlite::{Alter, Transaction};
 use std::alloc::Global;
 
-/// The number of the deposit that stands there, where the rules let the asker destroy it. The due day is read,
-/// allowed or not, so that none stands that isn't one.
+/// The number of the deposit that is there, where the rules let the asker destroy it. The due day is read,
+/// allowed or not, so that none is passed over that is out of range.
 fn allowed_number<'a, S: Alter>(
     tx: &mut Transaction<'_, S>,
     allowances: &mut Allowances<'a>,

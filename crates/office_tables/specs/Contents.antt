@@ -107,7 +107,7 @@ pub record IsFileAdded (n : ℤ) (path : List ℕ) (id : ℤ) (old new : Databas
 
 -- ---- what goes with the files of a deposit
 
--- the references of the files that pass; references stand in the order of the files
+-- the references of the files that pass; references are in the order of the files
 abbrev pub references_where : (FileRow → Bool) → List FileRow → List ℤ → List ℤ
 references_where those [] references = []
 references_where those (f ∷ files) [] = []
@@ -187,7 +187,7 @@ pub record DiffersInBytes (old new : Database) : Type 0 where
 abbrev pub AreUsedOr : List ℤ → List ℤ → List ContentRow → Type 0
 AreUsedOr ids references = AllByRecursion (λ c. Has references c.id ⊎ Has ids c.id)
 
--- no file changed; contents went, which of these numbers only those go on to stand that are these or some file's
+-- no file changed; contents went, and of these numbers only those are left that are these or some file's
 pub record IsTidied (ids rest : List ℤ) (old new : Database) : Type 0 where
   pub keeps : KeepsFiles old new
   pub once : StandOnce (contents_of old) → StandOnce (contents_of new)

@@ -6,14 +6,14 @@ use Rattle.sqlite.specs.declared.error.ErrorCode.TheVariants.{OutOfMemory}
 use Rattle.office_tables.specs.declared.fault.TableFault.{TableFault}
 use Rattle.office_tables.specs.declared.fault.TableFault.TheVariants.{NotAnOffice, OtherVersion, Memory, Store}
 
--- want of memory, or a failure of the store; it says nothing of what the database is
+-- that memory ran out, or a failure of the store; it says nothing of what the database is
 abbrev pub IsFailure : TableFault → Type 0
 IsFailure NotAnOffice = ⊥
 IsFailure OtherVersion = ⊥
 IsFailure Memory = ⊤
 IsFailure Store = ⊤
 
--- an error of the store is want of memory exactly where the store says so, and else a failure of the store
+-- an error of the store is that memory ran out exactly where the store says so, and else a failure of the store
 pub record IsToldAs (error : Error) (fault : TableFault) : Type 0 where
   pub failure : IsFailure fault
   pub memory : (fault ≡ Memory) ↔ (error ≡ SqliteFailure OutOfMemory)

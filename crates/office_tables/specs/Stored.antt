@@ -7,7 +7,7 @@ use Rattle.office_rows.specs.Rows.{OfficeRow, CallerRow, RuleRow, ClassRow, Depo
 use Rattle.office_tables.specs.Schema.{content_tree}
 
 -- A stored row: its first value is the rowid, which is the key of a table whose key is a whole number.
--- There the column of the key, which comes next, is empty. So the other columns stand one place later than in a row that a query
+-- There the column of the key, which comes next, is empty. So the other columns are one place later than in a row that a query
 -- shows. That is `gap`: 1 in a stored row, 0 in a shown one.
 
 abbrev pub office_in : Row → OfficeRow

@@ -1,5 +1,5 @@
 -- The tables of each version of an office that is known here, and the rows that a database with them shows. What an older version
--- lacks stands there with the value that it means.
+-- lacks is there as the value that it means.
 use Rattle.std.specs.Prelude.{◌≡◌, ℕ, ℤ, pos, negsuc, map, List, [], ◌∷◌, None}
 use Rattle.std.specs.List.{AllByRecursion}
 use Rattle.sqlite.specs.Order.{Row}

@@ -52,7 +52,7 @@ impl Model for DepositAndDue {
     ghost view = { λ d. (d.deposit, d.kept) };
 }
 
-/// Where a deposit stands, and when it falls due.
+/// The collection and the class of a deposit, and when it falls due.
 #[derive(Debug, Drop)]
 pub struct PlaceRow {
     pub number: u32,

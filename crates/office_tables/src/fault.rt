@@ -16,7 +16,7 @@ pub enum TableFault {
     /// Q2: the office has tables of another version.
     #[error("Q2")]
     OtherVersion,
-    /// Q3: the store answers want of memory, or a growth was refused.
+    /// Q3: the store answers that memory ran out, or a growth was refused.
     #[error("Q3")]
     Memory,
     /// Q4: the store names another cause, or holds a value that no row of this crate can have.

@@ -1,4 +1,4 @@
-//! Every SQL statement of the office behind a typed call.
+//! Every SQL statement of the office, each by a typed call.
 #![tactic(auto)]
 
 mod classes;

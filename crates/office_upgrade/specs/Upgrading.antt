@@ -47,7 +47,7 @@ pub record IsUpgrade (db : Database) (left : Trees) : Type 0 where
   pub was_older : IsOlder db
   pub leaves : (version : TableVersion) (rows : AllRows) → IsOfficeOf version db rows → IsLeftAt Fifth (renewed version rows) left
 
--- whichever office of a known version was there, it stands renewed
+-- whichever office of a known version was there, it is there renewed
 abbrev pub IsRenewed : Database → Database → Type 0
 IsRenewed old new = (version : TableVersion) (rows : AllRows) → IsOfficeOf version old rows → BecomesAt Fifth new (renewed version rows)
 
@@ -71,17 +71,17 @@ abbrev pub TakesUp : State → State → Type 0
 TakesUp old new = (version : TableVersion) (rows : AllRows) → TellsNoOther version rows → IsLeftAt version rows old.now.trees
     → IsKeptAt Fifth (renewed version rows) new
 
--- whichever stood there, kept or left by a crash, a crash leaves it with the newest tables, and leaves nothing else
+-- whichever was there, kept or left by a crash, a crash leaves it with the newest tables, and leaves nothing else
 abbrev pub UpgradeLasts : State → State → Type 0
 UpgradeLasts old new = (version : TableVersion) (rows : AllRows) → TellsNoOther version rows → IsTrue old.is_open → IsLeftAt version rows old.now.trees
     → (left : Trees) → new.may_leave left → IsLeftAt Fifth (renewed version rows) left
 
--- whichever stood there, at every exit a crash leaves it, or leaves it with the newest tables
+-- whichever was there, at every exit a crash leaves it, or leaves it with the newest tables
 abbrev pub LeavesOffice : State → State → Type 0
 LeavesOffice old new = (version : TableVersion) (rows : AllRows) → TellsNoOther version rows → IsTrue old.is_open → IsLeftAt version rows old.now.trees
     → (left : Trees) → new.may_leave left → IsLeftAt version rows left ⊎ IsLeftAt Fifth (renewed version rows) left
 
--- whichever office of an older version stood there, kept or left by a crash, the store is open
+-- whichever office of an older version was there, kept or left by a crash, the store is open
 abbrev pub OpensOlder : State → State → Type 0
 OpensOlder old new = (version : TableVersion) (rows : AllRows) → version_number version ≢ version_number Fifth → TellsVersion version rows → IsTrue old.is_open
     → IsLeftAt version rows old.now.trees → IsTrue new.is_open

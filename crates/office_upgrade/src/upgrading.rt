@@ -100,7 +100,7 @@ pub fn upgrade<S: Alter>(conn: &mut Connection<S>) -> Result<(), TableFault>
     // An answer that is no failure makes nothing.
     ensures told_survives { IfErr result (λ stopped. (IsFailure stopped → ⊥)
         → Survives (state S.Store conn.old) (state S.Store conn.new) (λ _. ⊥)) }
-    // That office stands with the newest tables, and all of it is committed.
+    // That office has the newest tables then, and all of it is committed.
     ensures upgraded { HasCleanDisk (state S.Store conn.new)
         → OnOk result
         ((version : Version) (rows : AllRows) → IsOfficeOf version (state S.Store conn.old).now rows

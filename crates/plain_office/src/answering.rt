@@ -1,4 +1,4 @@
-//! What is told where a request is allowed.
+//! The answers of requests that are allowed.
 
 ghost use Rattle.std.specs.Prelude.{◌≡◌, IfOk, option_copied};
 ghost use Rattle.bag_text.specs.TransferForm.{set_text, content_at};

@@ -82,7 +82,7 @@ fn push_new<'a>(found: &mut Vec<&'a [u8]>, text: &'a [u8]) -> Result<(), AllocEr
     Ok(())
 }
 
-/// Each text once, where it stands first.
+/// Each text once, where it occurs first.
 fn in_first_places<'a>(alloc: Global, all: &[&'a [u8]]) -> Result<Vec<&'a [u8]>, AllocError>
     ensures { IfOk result (λ found. texts found.items ≡ in_first_places (texts all.now)) }
 {

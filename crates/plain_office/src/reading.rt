@@ -25,7 +25,7 @@ pub fn installed_policy(office: &Office) -> Option<&Policy>
     last
 }
 
-/// The years of a class as they stand, where there is such a class.
+/// The present years of a class, where there is such a class.
 pub fn years_of(office: &Office, class: &str) -> Option<Years>
     ensures { result ≡ years_of office.now class.now }
 {
@@ -146,7 +146,7 @@ pub fn kept_numbers(alloc: Global, office: &Office) -> Result<Vec<u32>, AllocErr
     Ok(kept)
 }
 
-/// The day from which a deposit may be destroyed, by the years of its class as they stand.
+/// The day from which a deposit may be destroyed, by the present years of its class.
 pub fn due(office: &Office, deposit: &Deposit) -> Due
     ensures { result ≡ due office.now deposit.now }
 {

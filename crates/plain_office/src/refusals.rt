@@ -275,7 +275,7 @@ pub fn dispose_refusal(
     asked_refusal(alloc, office, day, caller, Action::Dispose, number)
 }
 
-/// The first refusal that stands, or none where the request is allowed.
+/// The first refusal that applies, or none where the request is allowed.
 pub fn refusal(
     alloc: Global,
     office: &Office,

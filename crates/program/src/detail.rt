@@ -28,7 +28,7 @@ pub(crate) enum Detail<'a> {
 #[derive(Clone, Copy)]
 pub(crate) enum Why {
     Device(io::Error),
-    /// A folder stands where a form is wanted.
+    /// A folder is where a form is wanted.
     Folder,
     Store(Cause),
 }

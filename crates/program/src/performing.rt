@@ -1,4 +1,4 @@
-//! What each subcommand does, before standard error is told of it.
+//! What each subcommand does, before the end is printed to standard error.
 
 ghost use Rattle.std.specs.Prelude.{◌≡◌, ◌⊎◌, Err, IfOk, MatchResult, false};
 ghost use Rattle.sqlite.specs.WalFiles.{image_at};

@@ -1,4 +1,4 @@
-//! What standard error is told at the end of a run.
+//! What is printed to standard error at the end of a run.
 
 ghost use Rattle.std.specs.Prelude.{◌≢◌, IfOk};
 ghost use Rattle.streams.specs.Writing.{MayGrow};

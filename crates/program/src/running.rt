@@ -58,20 +58,20 @@ pub fn run<S: Start, R: Read, O: Write, E: Write>(
     words: &[&str],
     streams: &mut Streams<R, O, E>,
 ) -> Ending
-    // Words that ask for nothing are refused: standard error is told why, and nothing else is touched.
+    // Words that ask for nothing are refused: standard error says why, and nothing else is touched.
     // They end as misused, unless memory runs out or standard error fails.
     ensures refused { AskNothing (texts words.now) → (text : List ℕ) × Refuses text
         (counted_seen E.Write streams.old.error) (counted_seen E.Write streams.new.error) result }
     ensures left { AskNothing (texts words.now) → (streams.new.input ≡ streams.old.input)
         × (streams.new.output ≡ streams.old.output) × (start.new ≡ start.old) }
-    // Where they name no subcommand, standard error is told so, and how the program is used.
+    // Where they name no subcommand, standard error says so, and how the program is used.
     ensures uses { NamesNone (texts words.now) → Refuses (usage_for VERSION.now (texts words.now))
         (counted_seen E.Write streams.old.error) (counted_seen E.Write streams.new.error) result }
     // No other words end as misused, but for those that explain a policy and name no day: where its
     // rules may have days, `Explains` says so.
     ensures misused { result ≡ Misused
         → AskNothing (texts words.now) ⊎ NameNoDay (texts words.now) }
-    // What words ask for is done, and standard error is told of it, unless there was no memory to read
+    // What words ask for is done, and its end is printed to standard error, unless there was no memory to read
     // them.
     ensures asked { (line : Line) → Asks (texts words.now) line → ComesOfWords
         (on_store ⟦<FileFrom<S> as Disk>⟧ (image_at S.Start) (start.new ≡ start.old))

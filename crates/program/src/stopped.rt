@@ -19,7 +19,7 @@ pub enum Stopped {
     Folder(Failed),
     /// Standard output.
     Output(io::Error),
-    /// The store, its policy, its records, or what they stand on.
+    /// The store, its policy, its records, or what they depend on.
     Store(CommandFault),
 }
 
@@ -32,7 +32,7 @@ impl From<Trouble> for Stopped {
 }
 
 impl Stopped {
-    /// The line that standard error is told first.
+    /// The line that is printed to standard error first.
     pub fn line(&self, alloc: Global) -> Result<String, AllocError>
         ensures { IfOk result (λ text. string_bytes text ≡ line_told self.now) }
     {

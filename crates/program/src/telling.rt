@@ -1,4 +1,4 @@
-//! What standard error is told, and how the program ends.
+//! What is printed to standard error, and how the program ends.
 
 ghost use Rattle.std.specs.Prelude.{option_map, string_bytes};
 ghost use Rattle.std.specs.IoError.{error_kind};

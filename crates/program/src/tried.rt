@@ -11,7 +11,7 @@ use std::fmt;
 pub(crate) enum Tried<'a> {
     /// A file was read.
     Read(&'a str),
-    /// It was asked what stands at the path of a store.
+    /// It was asked what is at the path of a store.
     Look(&'a str),
     /// A store was opened.
     Open(&'a str),

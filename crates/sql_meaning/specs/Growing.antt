@@ -7,7 +7,7 @@ use Rattle.sqlite.specs.Schema.{Schema}
 use Rattle.sqlite.specs.Effect.{Database}
 use Rattle.sql_meaning.specs.Whole.{IsWhole}
 
--- A whole database stays whole. The tables of before stand first, with the rows that they had, and those that
+-- A whole database stays whole. The tables of before come first, with the rows that they had, and those that
 -- were added have no row.
 pub record Grows (before after : Schema) (old new : Database) : Type 0 where
   pub schema_is : new.schema ≡ after

@@ -1,4 +1,4 @@
--- A database whose schema and rules stand.
+-- A database that keeps to its schema and rules.
 use Rattle.std.specs.Prelude.{◌≡◌, ◌==◌, if◌then◌else◌, ℕ, List, []}
 use Rattle.std.specs.List.{AllByRecursion}
 use Rattle.sqlite.specs.Order.{Row}

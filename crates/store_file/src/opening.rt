@@ -45,7 +45,7 @@ fn open_pair<S: Start>(rt: &HostRuntime, path: &str, start: S) -> Result<Files<F
     }
 }
 
-/// What a file is opened with, of which so many pages are kept.
+/// What a file is opened with, of which this number of pages is kept.
 fn options(rt: &HostRuntime, cache_pages: usize) -> Result<Options, Error>
     ensures pages { IfOk result (λ options. options.cache_pages ≡ cache_pages) }
     ensures kind { IfErr result (λ e. e ≡ Error.SqliteFailure ErrorCode.CannotOpen) }

@@ -15,7 +15,7 @@ const SPARE_BYTES: u64 = 8_192_000;
 /// The length of a page of each file that is made here.
 const PAGE_BYTES: u64 = 4_096;
 
-/// How long a page of a file is whose header has this number: 1 stands for 65,536. One that stands for no length
+/// How long a page of a file is whose header has this number: 1 means 65,536. One that means no length
 /// counts as that of the files that are made here.
 fn page_bytes(told: u16) -> u64
     ensures ones { told ≡ 1 → result ≡ 65536 }
@@ -39,7 +39,7 @@ fn pages_to_keep(bytes: u64, page_bytes: u64) -> usize
     (kept / page_bytes) as usize
 }
 
-/// The number in the header of a file that stands for the length of its pages: its bytes 16 and 17 (SQLite's
+/// The number in the header of a file that means the length of its pages: its bytes 16 and 17 (SQLite's
 /// Database File Format, section 1.3.2).
 fn told_by(header: &[u8; 18]) -> u16
     ensures { result ≡ slice_index header.now 16 * 256 + slice_index header.now 17 }
@@ -47,7 +47,7 @@ fn told_by(header: &[u8; 18]) -> u16
     u16::from(header[16]) * 256 + u16::from(header[17])
 }
 
-/// The number in the header of the file at the path that stands for the length of its pages: 0 where none is read.
+/// The number in the header of the file at the path that means the length of its pages: 0 where none is read.
 fn told_in(rt: &HostRuntime, path: &str) -> u16 {
     let mut header = [0u8; 18];
     let Ok(mut file) = fs::open(rt, path) else {

@@ -29,8 +29,8 @@ pub static BAGS: [WorkedBag; 8] = [
         "",
         Ending::Accepted,
     ),
-    // A percent sign in the name `data/a%0Ab`, which the manifest spells `%25`: in version 0.97 that stands
-    // for itself.
+    // A percent sign in the name `data/a%0Ab`, which the manifest spells `%25`: in version 0.97 that means
+    // itself.
     (
         "a decoded path",
         b"BAGSET 1\nFILE 9 55\nbagit.txtBagIt-Version: 0.97\nTag-File-Character-Encoding: UTF-8\n\nFILE 10 3\ndata/a%0Ababc\nFILE 19 79\nmanifest-sha256.txtba7816bf8f01cfea414140de5dae2223b00361a396177a9cb410ff61f20015ad  data/a%250Ab\n\nEND\n",

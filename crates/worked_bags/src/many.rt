@@ -2,7 +2,7 @@
 
 use std::alloc::{AllocError, Global};
 
-/// A form that lacks its `END`, of so many empty files with names of four digits.
+/// A form that lacks its `END`, of this number of empty files with names of four digits.
 pub fn many_files(alloc: Global, count: u32) -> Result<Vec<u8>, AllocError> {
     let mut form = Vec::new(alloc);
     form.extend_from_slice(b"BAGSET 1\n")?;

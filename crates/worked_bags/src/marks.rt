@@ -1,8 +1,8 @@
-//! Texts with marks, which stand for what many cases share and for bytes that a line can't show.
+//! Texts with marks, which are short for what many cases share and for bytes that a line can't show.
 
 use std::alloc::{AllocError, Global};
 
-/// A mark, a blank, and the text that it stands for, in which later marks may stand. Bag A is
+/// A mark, a blank, and the text that it means, in which later marks may occur. Bag A is
 /// `data/a` with `abc`, declared in version 1.0 and listed by sha256; `{tool}` and `{tool-end}` are
 /// a bag as the usual Python tool writes it, without a digit between them.
 static MARKS: &str = r#"
@@ -53,7 +53,7 @@ static MARKS: &str = r#"
 {uses} depot {version}\nUsage: depot check FILE\n       depot pack DIR FILE\n       depot unpack FILE DIR\n       depot explain [--day DAY] POLICY CALLER ACTION COLLECTION CLASS\n       depot policy STORE POLICY\n       depot ask STORE DAY\n       depot replay [--policy POLICY] STORE\n       depot serve --port P --count N STORE DAY\n\nDepot checks and keeps BagIt bags, serves them by a policy, and destroys them when due.\ndepot COMMAND --help says what each command takes.\n
 "#;
 
-/// Marks of bytes. Two of them stand for a byte that no text has.
+/// Marks of bytes. Two of them mean a byte that no text has.
 static BYTES: [(&str, &str); 11] = [
     ("{ff}", "\u{1}"),
     ("{bom}", "\u{feff}"),
@@ -68,7 +68,7 @@ static BYTES: [(&str, &str); 11] = [
     ("\\t", "\t"),
 ];
 
-/// A text with what its marks stand for.
+/// A text with what its marks mean.
 pub fn text_of(alloc: Global, marked: &str) -> Result<String, AllocError> {
     let mut text = String::from_str(alloc, marked)?;
     for line in MARKS.lines() {

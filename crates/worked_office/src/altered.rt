@@ -56,7 +56,7 @@ pub static AS_BEFORE: [Part; 2] = [
 /// their bytes; its mark is another; the bytes of a declaration are others, which a bag has beside its payload; the
 /// file of deposit 1 has another content, under no mark of its own or under its own; it is missing; there is one
 /// more, whose path is none, or lies below another. No bytes are served that aren't under their SHA-256, and an
-/// audit reports on whatever stands there. The store takes out no content that a file has, and puts no file that
+/// audit reports on whatever is there. The store takes out no content that a file has, and puts no file that
 /// has none. Content 1 is the declaration, content 2 is `abc`.
 pub static FILES: [Part; 14] = [
     (

@@ -1,4 +1,4 @@
-//! Rows that are altered behind an office's back.
+//! Rows that another program alters.
 
 use crate::offices::{Way, adopt_and_put};
 use sqlite::{Alter, Connection};

@@ -1,5 +1,5 @@
 //! Worked sessions, put to the plain office and to the office over its tables, also where rows of the
-//! tables are altered behind its back; and the calls of the tables themselves.
+//! tables are altered by another program; and the calls of the tables themselves.
 #![tactic(auto)]
 
 mod altered;

@@ -1,5 +1,5 @@
 //! Rows, put to an office. What is answered otherwise than a row says is told as a text, which is empty
-//! where nothing is; `None` is a row that asks nothing, or want of memory.
+//! where nothing is; `None` is a row that asks nothing, or that memory ran out.
 
 use crate::bodies::put_for_bodies;
 use crate::policies::policy_named;
@@ -22,7 +22,7 @@ pub enum Way {
     OneRun,
 }
 
-/// Room for so many deposits and as many holds.
+/// Room for this number of deposits and as many holds.
 pub fn limits(most: &str) -> Option<Limits> {
     let most = most.parse().ok()?;
     Limits::new(most, most)
@@ -72,7 +72,7 @@ fn due_words<S: Alter>(
     }
 }
 
-/// Calls for the due list, where the row asks for it. `Q4` stands for `Store`.
+/// Calls for the due list, where the row asks for it. `Q4` means `Store`.
 fn call<S: Alter>(alloc: Global, office: &mut Office<S>, row: &Row) -> Option<String> {
     let (day, caller, asked, told) = *row;
     let Asked::DueList = asked else {

@@ -115,7 +115,7 @@ fn leave(alloc: Global, older: &Older<'_>) -> Result<Left, Fail> {
     })
 }
 
-/// Upgrades the office in the files, which stop after so many calls, and finds what is left.
+/// Upgrades the office in the files, which stop after this number of calls, and finds what is left.
 fn stop(
     alloc: Global,
     older: &Older<'_>,

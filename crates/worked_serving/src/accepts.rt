@@ -119,7 +119,7 @@ impl Listener for Script {
     }
 }
 
-/// Turns, and what comes of so many connections. A hold that is placed after them tells how many were
+/// Turns, and what comes of this number of connections. A hold that is placed after them tells how many were
 /// placed before.
 struct Case {
     turns: &'static [Turn],

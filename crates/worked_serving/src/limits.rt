@@ -19,7 +19,7 @@ const ASKS: &[u8] = b"GET /deposits/7/bag HTTP/1.1\r\nDepot-Caller: anna\r\n\r\n
 struct Limit {
     /// How it begins.
     front: &'static [u8],
-    /// What stands after that.
+    /// What follows that.
     filling: &'static [u8],
     /// How often.
     times: usize,

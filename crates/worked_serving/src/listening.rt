@@ -256,7 +256,7 @@ pub fn take_peers<S: Alter>(rt: &HostRuntime, office: &mut Office<S>) -> Result<
 /// What still comes.
 const BODY: &[u8] = b"body";
 
-/// What is dropped of it, over a device that fails after so many calls.
+/// What is dropped of it, over a device that fails after this number of calls.
 struct Dropped {
     portion: Portion,
     calls: u64,

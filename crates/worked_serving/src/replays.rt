@@ -13,7 +13,7 @@ struct Case {
     input: &'static [u8],
     /// The number of the records that are answered.
     records: u64,
-    /// Whether one that is none stands after them.
+    /// Whether one that is none follows them.
     is_torn: bool,
     answers: &'static [u8],
 }
@@ -145,7 +145,7 @@ static CASES: [Case; 18] = [
     },
 ];
 
-/// A reader and a writer of one byte a call, each of which works for so many calls.
+/// A reader and a writer of one byte a call, each of which works for this number of calls.
 #[derive(Clone, Copy)]
 struct Calls {
     reads: u64,
@@ -153,7 +153,7 @@ struct Calls {
 }
 
 /// Replays the input. Fails where that comes to something else, or writes something else than the
-/// first of these answers, so many bytes.
+/// this number of bytes of the first of these answers.
 fn replay_as<S: Alter>(
     alloc: Global,
     office: &mut Office<S>,

@@ -189,7 +189,7 @@ fn contents_kept_otherwise<S: Alter>(alloc: Global, conn: &mut Connection<S>) ->
 
 /// What the tables keep beside the rows otherwise than the rows give, or no text: each deposit has the due
 /// day of its closing day and its class, and the number of the live holds on it, on its collection and on its
-/// class; each content stands once, under its SHA-256 and with its size, and a kept deposit has it. `None` where the
+/// class; each content occurs once, under its SHA-256 and with its size, and a kept deposit has it. `None` where the
 /// store fails.
 pub fn kept_otherwise<S: Alter>(alloc: Global, conn: &mut Connection<S>) -> Option<String> {
     let told = deposits_kept_otherwise(alloc, conn)?;

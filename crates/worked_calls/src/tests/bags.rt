@@ -105,7 +105,7 @@ fn a_small_bag_by_its_calls(rt: HostRuntime) -> Result<(), Fail> {
     Ok(())
 }
 
-/// What is found, followed by the digests that the marks stand for.
+/// What is found, followed by the digests that the marks mean.
 fn followed_by(alloc: Global, found: &str, digests: &str) -> Result<String, AllocError> {
     let mut text = String::from_str(alloc, found)?;
     text.push_str(&text_of(alloc, digests)?)?;

@@ -71,7 +71,7 @@ fn line_text(alloc: Global, line: Line<'_>) -> Result<String, AllocError> {
     }
 }
 
-/// What the words say, between bars: the subcommand and its values, or that they are no use.
+/// What the words say, between bars: the subcommand and its values, or that they are invalid.
 fn said_of(alloc: Global, words: &[&str]) -> Result<String, AllocError> {
     match read_line(alloc, words) {
         Ok(line) => line_text(alloc, line),
@@ -173,7 +173,7 @@ fn words(rt: HostRuntime) -> Result<(), Fail> {
     Ok(())
 }
 
-/// Words, and what is said of them, or how that begins where it is no whole line. `{uses}` stands for
+/// Words, and what is said of them, or how that begins where it is no whole line. `{uses}` means
 /// the program's usage.
 static FAULTS: &str = r"
  => {uses}

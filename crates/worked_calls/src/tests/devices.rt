@@ -20,7 +20,7 @@ impl<'a> Read for Given<'a> {
     }
 }
 
-/// What standard error is told of an outcome: nothing where there is no reason.
+/// What is printed to standard error of an outcome: nothing where there is no reason.
 pub fn told(outcome: &Outcome) -> &str {
     match &outcome.reason {
         Some(reason) => reason.as_str(),

@@ -29,7 +29,7 @@ fn names_in(rt: &HostRuntime, folder: &str) -> Result<usize, Fail> {
     Ok(count)
 }
 
-/// Whether a device fails as a folder is packed over files with this fault. Then there are so many names
+/// Whether a device fails as a folder is packed over files with this fault. Then there is this number of names
 /// in the folder of the form, or the test fails.
 fn is_stopped_by(rt: &HostRuntime, fault: Fault, names: usize) -> Result<bool, Fail> {
     let failing = Failing::new(rt, fault);
@@ -68,7 +68,7 @@ fn is_written_last(rt: &HostRuntime) -> Result<bool, Fail> {
 /// Faults of which none comes to the end of a `pack`.
 static FAULTS: [Fault; 3] = [Fault::Write, Fault::Sync, Fault::Call(9)];
 
-/// Whether what stands under the name stays as it is where a `pack` of other files fails.
+/// Whether what has the name stays as it is where a `pack` of other files fails.
 fn stays(rt: &HostRuntime) -> Result<bool, Fail> {
     fs::remove_file(rt, "half-forms/failing/data/a")?;
     for fault in &FAULTS {
@@ -201,7 +201,7 @@ fn changed_file(rt: &HostRuntime) -> Result<String, Fail> {
     }
 }
 
-/// Whether a file that has changed is told as one that can't be read.
+/// Whether a file that has changed is reported as unreadable.
 fn tells_a_change(rt: &HostRuntime) -> Result<bool, Fail> {
     let told = changed_file(rt)?;
     Ok(told.as_str() == "cannot read found/found/bagit.txt: it changed while it was packed")

@@ -5,7 +5,7 @@ use std::fs::File;
 use std::test::*;
 use std::{fs, io};
 
-/// Makes a file of so many bytes, all of them zero, of which no disk keeps any.
+/// Makes a file of this number of bytes, all of them zero, of which no disk keeps any.
 fn make_sparse(rt: &HostRuntime, path: &str, size: u64) -> io::Result<()> {
     File::create(rt, path)?.set_len(size)
 }
@@ -41,7 +41,7 @@ static SIZES: [(u64, &str, &str); 5] = [
     ),
 ];
 
-/// Packs the folder with a file `b` of so many bytes.
+/// Packs the folder with a file `b` of this number of bytes.
 fn pack_sized(rt: &HostRuntime, size: u64, line: &str, reason: &str) -> Result<(), Fail> {
     make_sparse(rt, "sizes/large/b", size)?;
     packs_as(rt, "sizes/large", "sizes/large.bagset", line, reason)
@@ -74,7 +74,7 @@ fn packs_up_to_the_limit(rt: HostRuntime) -> Result<(), Fail> {
 /// A form as long as one may be.
 const LONGEST: &str = "whole-forms/whole.bagset";
 
-/// Whether the form of a folder with a file of so many bytes is as long as one may be.
+/// Whether the form of a folder with a file of this number of bytes is as long as one may be.
 fn packs_longest(rt: &HostRuntime) -> Result<bool, Fail> {
     begin_with(rt, "whole-forms", "whole-forms/whole", "")?;
     make_sparse(rt, "whole-forms/whole/b", 16_777_185)?;
@@ -102,7 +102,7 @@ fn unpacks_up_to_the_limit(rt: HostRuntime) -> Result<(), Fail> {
     finish(&rt, "whole-forms")
 }
 
-/// Makes so many empty files, with numbers for names.
+/// Makes this number of empty files, with numbers for names.
 fn make_files(rt: &HostRuntime, count: u32) -> Result<(), Fail> {
     for number in 0..count {
         let path = format!(in rt.alloc(); "many-files/many/{number}")?;
@@ -116,7 +116,7 @@ fn pack_files(rt: &HostRuntime) -> Result<usize, Fail> {
     Ok(pack_here(rt, "many-files/many", "many-files/many.bagset")?.files)
 }
 
-/// Packs the files with one more of so many bytes, whose place is the 2,001st in the order of paths.
+/// Packs the files with one more of this number of bytes, whose place is the 2,001st in the order of paths.
 fn pack_one_more(rt: &HostRuntime, size: u64, line: &str, reason: &str) -> Result<(), Fail> {
     make_sparse(rt, "many-files/many/a", size)?;
     packs_as(
@@ -148,7 +148,7 @@ fn lay_deep(rt: &HostRuntime, end: &str) -> Result<(), Fail> {
     lay(rt, "long-paths/deep", files.as_str())
 }
 
-/// How many files are packed, where each path may stand in a form.
+/// How many files are packed, where a form may have each path.
 fn pack_deep(rt: &HostRuntime) -> Result<usize, Fail> {
     lay_deep(rt, "")?;
     Ok(pack_here(rt, "long-paths/deep", "long-paths/deep.bagset")?.files)

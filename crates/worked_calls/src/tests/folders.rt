@@ -28,7 +28,7 @@ fn reason_of(said: &Said) -> &str {
     }
 }
 
-/// Whether this is told: all of the reason, or what it stands in, where it is no whole line.
+/// Whether this is told: all of the reason, or what has it in it, where it is no whole line.
 fn is_told(told: &str, reason: &str) -> bool {
     told == reason || (!reason.ends_with('\n') && told.contains(reason))
 }
@@ -38,7 +38,7 @@ fn is_done(line: &str) -> bool {
     line.starts_with("packed ") || line.starts_with("unpacked ")
 }
 
-/// Whether this line is said, and this reason: all of it, or what stands in it, where that is no whole
+/// Whether this line is said, and this reason: all of it, or what has it in it, where that is no whole
 /// line.
 fn is_said(said: &Said, line: &str, reason: &str) -> bool {
     said.text.as_str() == line && is_told(reason_of(said), reason) && said.is_done == is_done(line)
@@ -156,7 +156,7 @@ fn packs_bag(rt: &HostRuntime, folder: &str, file: &str) -> Result<bool, Fail> {
     is_bag(rt, file)
 }
 
-/// Whether what stands there isn't touched as a form is unpacked.
+/// Whether what is there isn't touched as a form is unpacked.
 fn keeps_what_stands(rt: &HostRuntime) -> Result<bool, Fail> {
     unpacks_as(rt, FORM, COPY, "exists\n", "")?;
     unpacks_as(rt, FORM, AGAIN, "exists\n", "")?;
@@ -229,7 +229,7 @@ fn packs_what_was_worked_out(rt: HostRuntime) -> Result<(), Fail> {
     finish(&rt, "folders")
 }
 
-/// What is said as a folder is packed to a form that stands in it. The second time that form is one of
+/// What is said as a folder is packed to a form that is in it. The second time that form is one of
 /// the files.
 static INSIDE: [&str; 2] = ["packed 1 files 25 bytes\n", "packed 2 files 65 bytes\n"];
 
@@ -297,7 +297,7 @@ fn unpack_row(rt: &HostRuntime, line: &str, reason: &str) -> Result<(), Fail> {
     if fs::exists(rt, "no-forms/none")? {
         return Err(Fail::new("a folder"));
     }
-    // That comes before what stands there.
+    // That comes before what is there.
     unpacks_as(rt, form, form, line, reason)
 }
 

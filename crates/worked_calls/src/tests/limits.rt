@@ -98,7 +98,7 @@ fn form_with(alloc: Global, manifest: &str) -> Result<String, AllocError> {
     format!(in alloc; "{front}{length}\nmanifest-sha256.txt{manifest}\nEND\n")
 }
 
-/// Whether this line is said where so many bytes are left of the manifest.
+/// Whether this line is said where this number of bytes is left of the manifest.
 fn says_of_cut(rt: &HostRuntime, length: usize, line: &str) -> Result<bool, Fail> {
     let manifest = MANIFEST.get(..length).ok_or("longer than the manifest")?;
     let form = form_with(rt.alloc(), manifest)?;
@@ -124,13 +124,13 @@ fn numbered(alloc: Global, before: &str, count: u32) -> Result<String, AllocErro
     Ok(text)
 }
 
-/// A manifest that lists so many empty payload files.
+/// A manifest that lists this number of empty payload files.
 fn listed(alloc: Global, count: u32) -> Result<String, AllocError> {
     let before = text_of(alloc, "{nothing}  data/")?;
     numbered(alloc, &before, count)
 }
 
-/// The form of a bag with so many empty payload files, with names of four digits, all listed.
+/// The form of a bag with this number of empty payload files, with names of four digits, all listed.
 fn empty_files(alloc: Global, count: u32) -> Result<String, AllocError> {
     let front = text_of(alloc, r"BAGSET 1\n{declared}")?;
     let files = numbered(alloc, "FILE 9 0\ndata/", count)?;
@@ -139,7 +139,7 @@ fn empty_files(alloc: Global, count: u32) -> Result<String, AllocError> {
     format!(in alloc; "{front}{files}FILE 19 {length}\nmanifest-sha256.txt{manifest}\nEND\n")
 }
 
-/// What stands after two thousand files, and the line that is printed.
+/// What follows two thousand files, and the line that is printed.
 static BEHIND: [(&str, &str); 4] = [
     ("END\n", "invalid B1\n"),
     ("FILE 4 0", "unreadable S3\n"),
@@ -147,7 +147,7 @@ static BEHIND: [(&str, &str); 4] = [
     ("FILE 4 0\n2000\nEND\n", "unreadable S6\n"),
 ];
 
-/// Whether this line is said where that stands after two thousand files.
+/// Whether this line is said where that follows two thousand files.
 fn says_after(rt: &HostRuntime, rest: &str, line: &str) -> Result<bool, AllocError> {
     let mut form = many_files(rt.alloc(), 2000)?;
     form.extend_from_slice(rest.as_bytes())?;
@@ -162,13 +162,13 @@ fn tells_of_one_more(rt: &HostRuntime, reason: &str) -> Result<bool, AllocError>
     Ok(told(&outcome) == reason)
 }
 
-/// Numbers of empty payload files, and the line that is printed of a bag that lists so many.
+/// Numbers of empty payload files, and the line that is printed of a bag that lists this number.
 static COUNTS: [(u32, &str); 2] = [
     (1998, "valid 1.0 files 1998 bytes 0 manifests 1\n"),
     (1999, "unreadable S6\n"),
 ];
 
-/// Whether this line is said of a bag of so many empty payload files.
+/// Whether this line is said of a bag of this number of empty payload files.
 fn says_of_empty(rt: &HostRuntime, count: u32, line: &str) -> Result<bool, AllocError> {
     let form = empty_files(rt.alloc(), count)?;
     says(rt, form.as_bytes(), line)

@@ -66,7 +66,7 @@ fn days(rt: HostRuntime) -> Result<(), AllocError> {
     Ok(())
 }
 
-/// From which day a deposit is due that was closed on that day and is kept for so many years, or
+/// From which day a deposit is due that was closed on that day and is kept for this number of years, or
 /// permanently. None where that is no day, or no class may have those years.
 fn due_of(closing: &str, years: Option<u8>) -> Option<Due> {
     let years = match years {
@@ -335,7 +335,7 @@ fn said_of(alloc: Global, text: &str) -> Result<String, AllocError> {
     }
 }
 
-/// A policy with so many callers.
+/// A policy with this number of callers.
 fn callers_text(alloc: Global, callers: u32) -> Result<String, AllocError> {
     let mut text = String::from_str(alloc, "version = 1\n[callers]\n")?;
     for number in 0..callers {
@@ -344,7 +344,7 @@ fn callers_text(alloc: Global, callers: u32) -> Result<String, AllocError> {
     Ok(text)
 }
 
-/// A policy with so many callers and rules.
+/// A policy with this number of callers and rules.
 fn policy_text(alloc: Global, callers: u32, rules: usize) -> Result<String, AllocError> {
     let mut text = callers_text(alloc, callers)?;
     text.push_str(&RULE.repeat(alloc, rules)?)?;
@@ -354,7 +354,7 @@ fn policy_text(alloc: Global, callers: u32, rules: usize) -> Result<String, Allo
 /// What is said of too many rules or callers.
 const TOO_MANY: &str = "Y6: the policy has more than 200 rules or more than 1,000 callers (Y6)";
 
-/// Numbers of callers and of rules, and what is said of a policy with so many.
+/// Numbers of callers and of rules, and what is said of a policy with these numbers.
 static NUMBERS: [(u32, usize, &str); 4] = [
     (0, 200, "0 callers, 200 rules"),
     (0, 201, TOO_MANY),
@@ -374,7 +374,7 @@ fn numbers_of_rules_and_callers(rt: HostRuntime) -> Result<(), AllocError> {
 
 /// What is known of a request: the action, whether a rule allows it, the day of the deposit's
 /// destruction, the least hold, the day from which it is due, and the day of the request; and the verdict, as
-/// `Debug` shows it. A line stands for none.
+/// `Debug` shows it. `-` means none.
 static KNOWN: &str = "
 dispose allowed - - 2025-02-28 2025-02-28 => Allow
 dispose allowed - - 2025-02-28 2025-02-27 => NotDue(2025-02-28)

@@ -60,7 +60,7 @@ fn question<'a>() -> Asked<'a> {
     }
 }
 
-/// A policy after a comment of so many bytes.
+/// A policy after a comment of this number of bytes.
 fn long_policy(alloc: Global, length: usize) -> Result<Vec<u8>, AllocError> {
     let mut long = vec![in alloc; b'#'; length]?;
     let policy = bytes_of(alloc, r"\n{policy}")?;
@@ -68,7 +68,7 @@ fn long_policy(alloc: Global, length: usize) -> Result<Vec<u8>, AllocError> {
     Ok(long)
 }
 
-/// Whether a policy after a comment of so many bytes is read to its end, and decides.
+/// Whether a policy after a comment of this number of bytes is read to its end, and decides.
 fn decides_after(alloc: Global, length: usize) -> Result<bool, Fail> {
     let long = long_policy(alloc, length)?;
     let mut rest = long.as_slice();

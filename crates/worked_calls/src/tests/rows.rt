@@ -9,8 +9,8 @@ pub fn holds(rt: &impl Abort, is_so: bool, row: &str) {
     assert!(*rt; is_so, "{row}");
 }
 
-/// The rows of a text, which are so many, or the test fails: what stands in a line before ` => `, and what
-/// stands behind it. A line without that mark is no row.
+/// The rows of a text, of which there are this number, or the test fails: what is in a line before ` => `, and what
+/// follows it. A line without that mark is no row.
 pub fn rows_of(alloc: Global, table: &str, count: usize) -> Result<Vec<(&str, &str)>, Fail> {
     let mut rows = Vec::new(alloc);
     for line in table.lines() {

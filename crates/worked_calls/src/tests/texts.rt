@@ -165,7 +165,7 @@ fn empty_files(alloc: Global, names: &str) -> Result<Vec<(&str, &[u8])>, AllocEr
     Ok(files)
 }
 
-/// The form of a bag of so many empty files, or their fault.
+/// The form of a bag of this number of empty files, or their fault.
 fn form_of_many(alloc: Global, count: usize) -> Result<String, Fail> {
     let names = numbers(alloc, count)?;
     let files = empty_files(alloc, &names)?;
@@ -183,7 +183,7 @@ fn takes_two_thousand_files(rt: HostRuntime) -> Result<(), Fail> {
 static INFO: &[u8] =
     b"Source-Organization \t:  An archive: the old one \r\n\r\nExternal-Description: one\n \t two: 2\n  \t\n\tthree\rPayload-Oxum:3.1";
 
-/// Each label and value, and whether the value stands in the text as it is.
+/// Each label and value, and whether the value is in the text as it is.
 static PAIRS: [(&str, &str, bool); 3] = [
     ("Source-Organization", "An archive: the old one ", true),
     ("External-Description", "one\ntwo: 2\nthree", false),
@@ -231,7 +231,7 @@ fn no_label(rt: HostRuntime) -> Result<(), AllocError> {
     Ok(())
 }
 
-/// Texts, and the fault of each as a path, or nothing. Of two faults the least stands. `{1024}` is as many
+/// Texts, and the fault of each as a path, or nothing. Of two faults the least counts. `{1024}` is as many
 /// bytes.
 static PATHS: [(&str, &str); 20] = [
     ("a", ""),

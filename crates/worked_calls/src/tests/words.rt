@@ -12,7 +12,7 @@ use std::alloc::{AllocError, Global};
 use std::test::*;
 use worked_bags::{bytes_of, text_of};
 
-/// What is said of the files of a folder: of one file at fault its path stands in front.
+/// What is said of the files of a folder: of one file at fault its path comes in front.
 static FOLDERS: &str = "has more than 16,777,216 bytes, the most that a file of a bag may have (S2)
 does not come after the path before it, byte for byte (S4)
 is no good path: it is not UTF-8, has more than 1,024 bytes or a NUL, or has a segment that is empty, . or .. (S5)
@@ -169,7 +169,7 @@ fn files_in_words(rt: HostRuntime) -> Result<(), AllocError> {
     Ok(())
 }
 
-/// Policies that are refused, and what standard error is told of each, with marks: the line, the key
+/// Policies that are refused, and what is printed of each to standard error, with marks: the line, the key
 /// and the caller are worked out by hand.
 static REFUSED_POLICIES: &str = r#"
 version = 1\n# {ff}\n => the policy is no text in TOML (Y1): line 2\n

@@ -78,7 +78,7 @@ fn heads_of_8192_bytes(rt: HostRuntime) -> Result<(), AllocError> {
     Ok(())
 }
 
-/// What is read of `GET / HTTP/1.1`, an empty line and `body` by a device that works for so many
+/// What is read of `GET / HTTP/1.1`, an empty line and `body` by a device that works for this number of
 /// calls: the end of the head, how many bytes came, and how many calls failed.
 fn read_at(
     alloc: Global,
@@ -114,7 +114,7 @@ fn heads_at_devices_that_fail(rt: HostRuntime) {
     }
 }
 
-/// What comes of `body` by a device that works for so many calls, to stand after the two bytes
+/// What comes of `body` by a device that works for this number of calls, to follow the two bytes
 /// `a\n`: the bytes, and how many calls failed.
 fn fill_at(
     alloc: Global,

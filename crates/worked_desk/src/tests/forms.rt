@@ -1,5 +1,5 @@
-//! The calls of `desk_forms`, on their happy paths, bodies that say no hold, and what paths stand for. Each
-//! query and each body that is refused stands in the stored replay.
+//! The calls of `desk_forms`, on their happy paths, bodies that say no hold, and what paths mean. Each
+//! query and each body that is refused is in the stored replay.
 
 use crate::tests::rows::holds;
 use desk_forms::{
@@ -122,7 +122,7 @@ fn bodies_of_holds(rt: HostRuntime) -> Result<(), AllocError> {
     Ok(())
 }
 
-/// Paths, and the bytes that each stands for.
+/// Paths, and the bytes that each means.
 static PATHS: [(&str, &[u8]); 16] = [
     ("data/a", b"data/a"),
     ("data%2Fa", b"data/a"),

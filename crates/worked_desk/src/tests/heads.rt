@@ -1,4 +1,4 @@
-//! The call of `desk_heads`, on its happy path. What else heads say stands in the stored replay.
+//! The call of `desk_heads`, on its happy path. What else heads say is in the stored replay.
 
 use desk_heads::{HeadRefusal, MAX_BODY, judge_head};
 use std::test::*;

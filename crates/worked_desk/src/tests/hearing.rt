@@ -1,5 +1,5 @@
 //! The calls of `desk_hearing`, on their happy path: a reader that gives one byte a call is heard as one that
-//! gives all. What else is heard stands in the stored replay.
+//! gives all. What else is heard is in the stored replay.
 
 use crate::tests::rows::holds;
 use desk_devices::{Counted, FailAt, Portion};

@@ -1,4 +1,4 @@
-//! The calls of `desk_routes`, on their happy paths. Each path and each method that is refused stands in
+//! The calls of `desk_routes`, on their happy paths. Each path and each method that is refused is in
 //! the stored replay.
 
 use desk_routes::{DeskRefusal, Method, Pattern, Place, Route, Routes, split_target};

@@ -175,7 +175,7 @@ pub static CALLS: [&[Part]; 11] = [
              read|released outside|9|plans|y9 > false",
         ),
     ],
-    // Contents of one mark stand side by side, each with its own bytes.
+    // Contents of one mark are side by side, each with its own bytes.
     &[
         (
             "steps",

@@ -55,7 +55,7 @@ fn change_hold<S: Alter>(tx: &mut Transaction<'_, S>, words: &[&str]) -> Result<
     }
 }
 
-/// The mark that a word stands for: its first byte, 32 times.
+/// The mark that a word means: its first byte, 32 times.
 fn mark_of(word: &str) -> [u8; 32] {
     match word.as_bytes() {
         [byte, ..] => [*byte; 32],

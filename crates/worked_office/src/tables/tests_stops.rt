@@ -39,7 +39,7 @@ fn hold_office(alloc: Global, files: Disks) -> Result<bool, Fail> {
     Ok(is_office)
 }
 
-/// Makes an office in empty files, which stop after so many calls, and closes them: whether the log
+/// Makes an office in empty files, which stop after this number of calls, and closes them: whether the log
 /// and the database file have stopped. Fails where an office that was made is lost, with all that was
 /// written or with what was synced alone.
 fn stop(alloc: Global, log_calls: u64, db_calls: u64) -> Result<(bool, bool), Fail> {
@@ -55,7 +55,7 @@ fn stop(alloc: Global, log_calls: u64, db_calls: u64) -> Result<(bool, bool), Fa
     Ok(stopped)
 }
 
-/// Stops the log after so many calls, and the database file at its first call, then at its second,
+/// Stops the log after this number of calls, and the database file at its first call, then at its second,
 /// and so on, until it doesn't stop: whether the log has stopped then, and at how many calls the
 /// database file was stopped.
 fn stops_of_database(alloc: Global, log_calls: u64) -> Result<(bool, u64), Fail> {

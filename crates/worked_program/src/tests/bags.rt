@@ -72,7 +72,7 @@ fn longest_form(alloc: Global) -> Result<Vec<u8>, Fail> {
 }
 
 /// The longest form and one byte more: how many bytes are read, the line that is printed, and what
-/// standard error is told.
+/// is printed to standard error.
 static LENGTHS: [(usize, &str); 2] = [
     (
         16_777_216,

@@ -1,4 +1,4 @@
-//! Streams that fail: what standard error is told, all of it, and how a run ends.
+//! Streams that fail: all that is printed to standard error, and how a run ends.
 
 use crate::tests::output::{Taking, Told};
 use crate::tests::runs::{Given, begin, run_with};
@@ -111,7 +111,7 @@ fn streams_that_fail(rt: HostRuntime) -> Result<(), Fail> {
     Ok(())
 }
 
-/// Why the words could not be had, what standard error is told, and how it ends.
+/// Why the words could not be had, what is printed to standard error, and how it ends.
 static ERRORS: [(ErrorKind, &str, Ending); 3] = [
     (
         ErrorKind::InvalidData,

@@ -57,7 +57,7 @@ static REFUSED: [&str; 2] = [
     "replay,--policy,o/other.toml,o/office.db|~records~|Refused||policy Y2\n~Y2~depot: o/other.toml is no policy\n",
 ];
 
-/// What the policy that stands allows.
+/// What the installed policy allows.
 static ALLOWED: &str = "ask,o/office.db,2024-03-02|~maps~|Accepted|~maps made~|";
 
 /// A request whose last byte does not come, as the input fails.
@@ -109,7 +109,7 @@ fn run_at_taken_port(rt: &HostRuntime) -> Result<(), Fail> {
     run_one(rt, text.as_str())
 }
 
-/// A policy that is refused leaves the office as it was, and the one that stands.
+/// A policy that is refused leaves the office as it was, and the installed policy.
 fn refuse_policies(rt: &HostRuntime) -> Result<(), Fail> {
     let office = fs::read(rt, "o/office.db")?;
     run_all(rt, &REFUSED)?;

@@ -8,7 +8,7 @@ use std::test::*;
 use worked_bags::{bytes_of, text_of};
 
 /// A policy; the caller, the action, the collection and the class, and the option of a day; the line
-/// that is printed, or nothing where the words leave out a day; and what standard error is told, where
+/// that is printed, or nothing where the words leave out a day; and what is printed to standard error, where
 /// it is told a thing. All with marks. A line that is no row says what the rows below it are about.
 static QUESTIONS: &str = r#"
 version = 1\nrule = [{effect="deny",role="*",action="*",collection="*",class="*"}]\n => eve|list|maps|y10 => deny rule 1\n => the caller eve{stranger}{denied-all}

@@ -50,13 +50,13 @@ impl<'a> Given<'a> {
 pub struct Came {
     /// What is printed, and what each peer got, with `#` after it.
     pub said: Vec<u8>,
-    /// What standard error is told.
+    /// What is printed to standard error.
     pub told: Vec<u8>,
     pub ending: Ending,
 }
 
 impl Came {
-    /// How it ends, what is printed and what standard error is told, with `|` between these.
+    /// How it ends, what is printed and what is printed to standard error, with `|` between these.
     fn text(&self, alloc: Global) -> Result<String, Fail> {
         let ending = self.ending;
         let said = String::from_utf8_lossy(alloc, &self.said)?;
@@ -94,7 +94,7 @@ pub fn came_of(rt: &HostRuntime, words: &[&str], given: &Given<'_>) -> Result<Ca
 
 /// Runs the program once, with this beside the input and the peers, which are the same text, and fails
 /// where it comes to something else. The text of a run says its words, each with `,` after it or none
-/// after the last, its input, how it ends, what is printed and what standard error is told, with `|`
+/// after the last, its input, how it ends, what is printed and what is printed to standard error, with `|`
 /// between these. Where it ends at `..`, more may follow.
 pub fn run_with(rt: &HostRuntime, text: &str, given: &Given<'_>) -> Result<(), Fail> {
     let text = meant(rt.alloc(), text)?;

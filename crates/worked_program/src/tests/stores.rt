@@ -16,14 +16,14 @@ struct Store {
     path: &'static str,
     /// Bytes of its own, if it has some.
     own: &'static [u8],
-    /// In each place of the first of these stands the second, which is as long.
+    /// At each place that has the first of these comes the second, which is as long.
     from: &'static [u8],
     to: &'static [u8],
     /// The place of a byte of which one bit is turned, if there is one.
     turned: usize,
     /// Its length, where it is cut or zeros follow.
     length: Option<usize>,
-    /// What standard error is told where a command is put to it. Its path is `STORE`.
+    /// What is printed to standard error where a command is put to it. Its path is `STORE`.
     told: &'static str,
 }
 

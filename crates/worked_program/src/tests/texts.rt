@@ -1,4 +1,4 @@
-//! Texts that stand in many runs, worked out by hand from `docs/HTTP.md`, and their names.
+//! Texts that occur in many runs, worked out by hand from `docs/HTTP.md`, and their names.
 
 use command_line::VERSION;
 use std::alloc::{AllocError, Global};
@@ -80,7 +80,7 @@ static MEANINGS: [(&str, &str); 47] = [
     ),
     ("~rule~", "[[rule]]\neffect = \""),
     ("~installed~", "installed 3 rules 2 callers\n"),
-    // What standard error is told.
+    // What is printed to standard error.
     (
         "~uses~",
         "depot ~version~\nUsage: depot check FILE\n       depot pack DIR FILE\n       depot unpack FILE DIR\n       depot explain [--day DAY] POLICY CALLER ACTION COLLECTION CLASS\n       depot policy STORE POLICY\n       depot ask STORE DAY\n       depot replay [--policy POLICY] STORE\n       depot serve --port P --count N STORE DAY\n\nDepot checks and keeps BagIt bags, serves them by a policy, and destroys them when due.\ndepot COMMAND --help says what each command takes.\n",

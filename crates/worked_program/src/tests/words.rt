@@ -1,4 +1,4 @@
-//! Words that are no use of the program.
+//! Invalid arguments.
 
 /// Runs on them.
 pub static FAULTS: [&str; 42] = [
@@ -13,7 +13,7 @@ pub static FAULTS: [&str; 42] = [
     "check||Misused||~missing~<FILE>\n\nUsage: depot check <FILE>\n..",
     "check,a,b||Misused||error: unexpected argument 'b' found\n\nUsage: depot check <FILE>\n..",
     "check,--help||Misused||Says whether a bag is valid, or its first fault.\n\nUsage: depot check <FILE>\n\nArguments:\n  <FILE>  the transfer form of the bag, or - for standard input..",
-    // The words come first: where they are no use, it is no matter that no policy is there.
+    // The words come first: where they are invalid, it doesn't matter that no policy is there.
     "explain,no such file,anna,list,tax||Misused||~missing~<CLASS>\n..",
     "explain,--day,no such file,anna,list,tax,y1||Misused||~missing~<CLASS>\n..",
     "explain,--day,2025-02-29,no such file,anna,list,tax,y1||Misused||~no day~",

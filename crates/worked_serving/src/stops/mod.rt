@@ -26,7 +26,7 @@ fn find(rt: &HostRuntime, files: Disks, way: Way, reached: usize) -> Result<(), 
     Ok(())
 }
 
-/// Takes the session over files that hold an office and stop after so many calls: whether one of
+/// Takes the session over files that hold an office and stop after this number of calls: whether one of
 /// them has stopped. The office is found again with all that was written, and with what was synced
 /// alone.
 fn stop(

@@ -44,7 +44,7 @@ fn place<S: Alter>(alloc: Global, conn: &mut Connection<S>) -> Option<usize> {
     Some(usize::MAX)
 }
 
-/// Fails where the office tells another stock than it has after so many steps. A store that fails
+/// Fails where the office tells another stock than it has after this number of steps. A store that fails
 /// tells none.
 fn tells_stock<S: Alter>(alloc: Global, office: &mut Office<S>, done: usize) -> Result<(), Fail> {
     let (contents, bytes) = *STOCKS.get(done).ok_or("no such step")?;
