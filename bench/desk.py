@@ -7,7 +7,7 @@ both programs counts. The program crates/depot has to be built.
 
 `body`: a deposit whose body has 16 MiB is heard from a pipe, beside the same bytes read to their end
 from the same pipe. The start of the program doesn't count. `peak`: the most memory that it takes, above
-the program's that hears a GET. The program crates/office_file has to be built.
+the program's that hears a GET. The program crates/trial_office has to be built.
 
 Prints ratios of the medians of runs that take turns (RUNS=n, 7 if left out). The arguments of `desk.py`
 name the cases that are run; with none, all are.
@@ -24,7 +24,7 @@ from statistics import median
 
 from answering import Request, records
 from shared.comparing import fail
-from shared.places import DEPOT, EXAMPLE_BAG, OFFICE_FILE, POLICY, TOP, needs_built
+from shared.places import DEPOT, EXAMPLE_BAG, TRIAL_OFFICE, POLICY, TOP, needs_built
 from shared.requests import deposit_target, record, request
 from turns import chosen, ratio, spreads, turns
 
@@ -83,7 +83,7 @@ def heard(word, file):
     takes, in bytes."""
     with subprocess.Popen(["cat", file], stdout=subprocess.PIPE) as given:
         time.sleep(0.01)
-        found = subprocess.run([OFFICE_FILE, word], stdin=given.stdout, capture_output=True, text=True)
+        found = subprocess.run([TRIAL_OFFICE, word], stdin=given.stdout, capture_output=True, text=True)
     if found.returncode != 0:
         fail(found.stderr)
     count, took, peak = map(int, found.stdout.split())
@@ -118,7 +118,7 @@ def body(folder):
     )
 
 
-CASES = {"gets": (gets, DEPOT), "body": (body, OFFICE_FILE)}
+CASES = {"gets": (gets, DEPOT), "body": (body, TRIAL_OFFICE)}
 
 
 def main():

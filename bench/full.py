@@ -9,7 +9,7 @@ most memory that the server has had until then. Then the office is stopped, back
 it, and started again. No figure has a target, and nothing is on the other side.
 
 Takes some 2 GiB below TMPDIR, 4 GiB of memory, and several minutes. ROWS=n is another number of deposits; DEPOT names
-another program than the built one. crates/office_file has to be built too, since it makes the file.
+another program than the built one. crates/trial_office has to be built too, since it makes the file.
 """
 import os
 import re
@@ -20,13 +20,13 @@ from contextlib import closing
 from pathlib import Path
 from statistics import median
 
-from office_file import FILES, opened
+from trial_office import FILES, opened
 from offices import DAY, deposit
 from servers import asked, processor_time
 from shared.comparing import fail
 from shared.forms import form
 from shared.offices import Server
-from shared.places import DEPOT, OFFICE_FILE, TOP, needs_built
+from shared.places import DEPOT, TRIAL_OFFICE, TOP, needs_built
 from shared.requests import request
 from stores import small_bag, stored
 from turns import say_machine
@@ -167,7 +167,7 @@ def measure(folder):
 
 
 if __name__ == "__main__":
-    needs_built(DEPOT, OFFICE_FILE)
+    needs_built(DEPOT, TRIAL_OFFICE)
     say_machine()
     with tempfile.TemporaryDirectory() as room:
         measure(room)

@@ -18,7 +18,7 @@ import time
 from pathlib import Path
 from statistics import median
 
-from office_file import own_files
+from trial_office import own_files
 from shared.comparing import fail
 from shared.forms import form
 from shared.offices import Server, answer_to, replay

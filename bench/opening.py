@@ -4,7 +4,7 @@
 The same deposits are opened in the tables of today, in those of versions 3 and 1, in those of today without each
 of the indexes that have entries, and with an index more on the class or the collection of deposits. Prints the
 size of each file and the seconds of each, elapsed and of the processor, beside those of the tables of today:
-medians of runs that take turns (RUNS=n, 7 if left out). The program crates/office_file, which opens them, has to
+medians of runs that take turns (RUNS=n, 7 if left out). The program crates/trial_office, which opens them, has to
 be built.
 """
 import re
@@ -12,7 +12,7 @@ import resource
 import time
 from statistics import median
 
-from office_file import RUNS, main, opened, ours
+from trial_office import RUNS, main, opened, ours
 from shared.stores import SCHEMA, VERSION_3
 from stores import small_bag, stored
 

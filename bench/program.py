@@ -10,7 +10,7 @@ program, the opening of the file and its closing count on both sides. `open` is 
 changes nothing by `depot ask`, of files of several sizes with rows of 1 MiB, and of one with 100 MiB of
 bags of 10 KiB: figures alone.
 Prints a ratio for each case: of the medians of runs that take turns (RUNS=n, 7 if left out). The programs
-`depot` and crates/office_file have to be built. The arguments of `program.py` name the cases that are run;
+`depot` and crates/trial_office have to be built. The arguments of `program.py` name the cases that are run;
 with none, all are.
 """
 import os
@@ -19,8 +19,8 @@ import sys
 import time
 from statistics import median
 
-from office_file import BESIDE, END_HOLD, FILES, PUT_HOLD, SET_HOLDS
-from office_file import copy, filled, main, opened, put_file, say, turns
+from trial_office import BESIDE, END_HOLD, FILES, PUT_HOLD, SET_HOLDS
+from trial_office import copy, filled, main, opened, put_file, say, turns
 from servers import asked, processor_time
 from shared.comparing import fail
 from shared.forms import form

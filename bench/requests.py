@@ -4,14 +4,14 @@
 Each case is measured beside the SQL statements alone that the request makes, in their order and in
 one transaction, through Python's sqlite3 (WAL, synchronous FULL, foreign keys on). Prints a ratio for
 each: of the medians of runs that take turns (RUNS=n, 7 if left out). `large`, `several` and `many` are
-ratios of peak memory. The program crates/office_file, which makes the requests, has to be built; it
+ratios of peak memory. The program crates/trial_office, which makes the requests, has to be built; it
 doesn't count the opening of the file, and nor does the other side. BESIDE=PROGRAM measures beside another
 build of it instead of the statements. The arguments of `requests.py` name the cases that are run; with none,
 all are.
 """
-from office_file import BESIDE, FILES, PUT_DEPOSIT
-from office_file import copy, filled, main, opened, ours, own_files, put_file, say, turns, watched
-from shared.places import OFFICE_FILE
+from trial_office import BESIDE, FILES, PUT_DEPOSIT
+from trial_office import copy, filled, main, opened, ours, own_files, put_file, say, turns, watched
+from shared.places import TRIAL_OFFICE
 from statements import scattered, theirs
 from stores import LONG, ROLES, naming, put_policy, stored
 
@@ -21,7 +21,7 @@ MANY = 100_000
 def beside(name, count, asked, stated, most):
     """What the program takes for this number of requests, beside their statements or another build of the program."""
     other = (lambda: asked(BESIDE)) if BESIDE else stated
-    first, second = turns(lambda: asked(OFFICE_FILE), other)
+    first, second = turns(lambda: asked(TRIAL_OFFICE), other)
     if BESIDE:
         say(name, count, first, second, "the other program")
     else:

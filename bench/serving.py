@@ -12,7 +12,7 @@ from datetime import date, timedelta
 from http.server import BaseHTTPRequestHandler, HTTPServer
 from urllib.parse import parse_qs, urlsplit
 
-from office_file import PUT_DEPOSIT, opened, put_files
+from trial_office import PUT_DEPOSIT, opened, put_files
 
 BEGINNING = date(1970, 1, 1)
 LIVE_HOLDS = (

@@ -2,8 +2,8 @@
 import itertools
 import time
 
-from office_file import CONTENT_ID, DUE, FILES, PUT_HOLD, SET_DUES
-from office_file import due_day, intact, opened, put_files, put_row
+from trial_office import CONTENT_ID, DUE, FILES, PUT_HOLD, SET_DUES
+from trial_office import due_day, intact, opened, put_files, put_row
 from shared.comparing import fail
 from shared.days import FIRST, LAST
 

@@ -4,8 +4,8 @@ import pathlib
 import tomllib
 from collections import Counter
 
-from office_file import PUT_CONTENT, PUT_FILE, PUT_HOLD, RECORD, SET_HOLDS
-from office_file import due_day, opened, ours, own_files
+from trial_office import PUT_CONTENT, PUT_FILE, PUT_HOLD, RECORD, SET_HOLDS
+from trial_office import due_day, opened, ours, own_files
 from shared.days import FIRST, LAST
 from shared.histories import holds_of, rules_of
 from shared.places import POLICY

@@ -3,13 +3,13 @@
 
 `deposit` and `read` are measured beside the same statements through Python's sqlite3 (WAL,
 synchronous FULL), `live` and `last` at 10,000 rows beside 100 rows. Prints a ratio for each case:
-of the medians of runs that take turns (RUNS=n, 7 if left out). The program crates/office_file, which
+of the medians of runs that take turns (RUNS=n, 7 if left out). The program crates/trial_office, which
 makes the calls, has to be built; it doesn't count the opening of the file, and nor does the other
 side. The arguments of `tables.py` name the cases that are run; with none, all are.
 """
 import time
 
-from office_file import copy, file_of, filled, main, opened, ours, put_bag, say, turns
+from trial_office import copy, file_of, filled, main, opened, ours, put_bag, say, turns
 from shared.comparing import fail
 
 

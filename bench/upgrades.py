@@ -8,7 +8,7 @@ disk. The opening of the file counts on neither side. Then the peak memory, abov
 file, by how much the file grows, its log folded in, and how long the log was. `growth` and `later` are the time, the
 memory and the file at 1,000,000 holds beside 10,000, from version 3 and from version 4.
 
-The program crates/office_file, which makes the upgrade, has to be built. The arguments of `upgrades.py` name the cases
+The program crates/trial_office, which makes the upgrade, has to be built. The arguments of `upgrades.py` name the cases
 that are run; with none, all are.
 """
 import os
@@ -16,9 +16,9 @@ import subprocess
 import time
 from statistics import median
 
-from office_file import copy, main, opened, say, turns, watched
+from trial_office import copy, main, opened, say, turns, watched
 from shared.days import FIRST, LAST
-from shared.places import OFFICE_FILE
+from shared.places import TRIAL_OFFICE
 from shared.stores import SCHEMA, VERSION_3, VERSION_4
 from stores import stored_before
 from turns import ratio, spreads
@@ -91,7 +91,7 @@ def longest_log(file):
     to = fresh(file)
     log, longest = to.with_name(to.name + "-wal"), 0
     with subprocess.Popen(
-        [OFFICE_FILE, "upgrade", to], stdout=subprocess.DEVNULL, stderr=subprocess.DEVNULL
+        [TRIAL_OFFICE, "upgrade", to], stdout=subprocess.DEVNULL, stderr=subprocess.DEVNULL
     ) as running:
         while running.poll() is None:
             longest = max(longest, log.stat().st_size if log.exists() else 0)

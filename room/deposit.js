@@ -20,7 +20,7 @@ export async function newDeposit() {
   const folder = h("input", { type: "file", webkitdirectory: true, id: "folder" });
   const formFile = h("input", { type: "file", accept: ".bagset", id: "form" });
   const [told, seen] = ["told", "seen"].map(id => h("div", { id }));
-  const collection = nameInput("collection"), klass = nameInput("class"), accession = input({ maxlength: 64 });
+  const collection = nameInput("collection"), className = nameInput("class"), accession = input({ maxlength: 64 });
   const closed = h("input", { type: "date", min: "1900-01-01", max: office.office.day });
   const description = input({ maxlength: 1000, autocapitalize: "sentences", spellcheck: "true" });
   const describe = field("description", description, t("descriptionHelp")), anyway = checkbox("anyway");
@@ -91,7 +91,7 @@ export async function newDeposit() {
       progress(t("dryRun"));
       const { day } = await office.due();                          // (it may be another day by now)
       closed.max = day;
-      if (!judged([[collection, NAME.test(about.collection), "badName"], [klass, NAME.test(about.class), "badName"],
+      if (!judged([[collection, NAME.test(about.collection), "badName"], [className, NAME.test(about.class), "badName"],
         [accession, ACCESSION.test(about.accession), "badAccession"],
         [closed, goodDay(about.closed), "badDay", { day }]])) { place(told); return; }
       await office.wouldTake(about);
@@ -117,7 +117,7 @@ export async function newDeposit() {
     const chosen = what;                  // this is deposited, and nothing that is chosen or written meanwhile
     if (!chosen) { alarm(told, t("chooseFirst")); folder.focus(); return; }
     if (chosen.fault && !anyway.checked) { alarm(told, t("anywayFirst")); anyway.focus(); return; }
-    const about = { collection: collection.value, class: klass.value, accession: accession.value,
+    const about = { collection: collection.value, class: className.value, accession: accession.value,
       closed: closed.value };
     folder.disabled = formFile.disabled = true;
     await unanswered(() => send(chosen, about, description.value))
@@ -125,7 +125,7 @@ export async function newDeposit() {
   };
   return [zone, form({ class: null, "aria-labelledby": "h-2" }, submit, section("h-2", t("step2"),
     h("div", { class: "row" }, field("collection", collection, t("nameHelp")),
-      field("class", klass, t("nameHelp")), field("accession", accession, t("accessionHelp")),
+      field("class", className, t("nameHelp")), field("accession", accession, t("accessionHelp")),
       field("closed", closed, t("closedHelp"))), describe),
   section("h-3", t("step3"), h("button", { id: "go" }, t("deposit")), told))];
 }

@@ -54,7 +54,7 @@ function dueAfter({ closed }, years) {
 export async function names() {
   const rows = await office.list({}), out = h("div", { id: "told" });
   learn(rows);
-  const collection = input({ maxlength: 40 }), klass = nameInput("class"), forever = checkbox("forever");
+  const collection = input({ maxlength: 40 }), className = nameInput("class"), forever = checkbox("forever");
   const years = input({ inputmode: "numeric", maxlength: 3 });
   forever.addEventListener("change", () => years.disabled = forever.checked);
   const nameCheck = control => {                  // (a browser takes /classes/.. for /)
@@ -72,8 +72,8 @@ export async function names() {
   };
   const defineClass = async () => {
     const isNumber = /^(0|[1-9]\d{0,2})$/.test(years.value) && Number(years.value) <= 200;
-    if (!judged([nameCheck(klass), [years, forever.checked || isNumber, "badYears"]])) return;
-    const n = forever.checked ? null : Number(years.value), name = klass.value;
+    if (!judged([nameCheck(className), [years, forever.checked || isNumber, "badYears"]])) return;
+    const n = forever.checked ? null : Number(years.value), name = className.value;
     let all;
     if (!await office.tried(out, async () => { all = await office.list({ class: name }); }) || !out.isConnected) return;
     const will = all.map(r => dueAfter(r, n)), moves = will.filter((day, i) => day !== all[i].due).length;
@@ -90,8 +90,8 @@ export async function names() {
   const yearsOf = ([r]) => r.due === "permanent" ? t("permanent") : number(r.due.slice(0, 4) - r.closed.slice(0, 4));
   return [out, section("h-collection", t("defineCollection"), asks("defineCollection", "define", defineCollection,
     field("collection", collection, t("nameHelp")))),
-  section("h-class", t("defineClass"), asks("defineClass", "define", defineClass, field("class", klass, t("nameHelp")),
-    field("years", years, t("yearsHelp")), tick(forever, "keepForever"))),
+  section("h-class", t("defineClass"), asks("defineClass", "define", defineClass,
+    field("class", className, t("nameHelp")), field("years", years, t("yearsHelp")), tick(forever, "keepForever"))),
   section("names", t("known"), note("help", t("knownHelp")), rows.length > 0 && [
     table(t("collection"), [["collection"], ["pageDeposits", "n"]],
       inUse("collection").map(([name, some]) => [shown(name), number(some.length)]), true),

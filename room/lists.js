@@ -25,7 +25,7 @@ const dayAfter = (day, days) => new Date(Date.parse(day) + 86400000 * days).toIS
 const PER_PAGE = 50;
 // The words after the page's name: a time within which the deposits come due.
 export function deposits(soon = "") {
-  const collection = nameInput("collection"), klass = nameInput("class"), part = input({ maxlength: 64 });
+  const collection = nameInput("collection"), className = nameInput("class"), part = input({ maxlength: 64 });
   const within = choice(Object.entries(words.withinDays), soon);
   const sort = choice(COLUMNS.map(([key, , name = key]) => [name, t(key)]), soon ? "due" : "deposit");
   const down = checkbox("down"), out = h("div", { id: "list" }), wanted = input({ inputmode: "numeric", maxlength: 7 });
@@ -55,9 +55,9 @@ export function deposits(soon = "") {
     announce(said);
   };
   const load = async () => {
-    if (!judged([collection, klass].map(c => [c, !c.value || NAME.test(c.value), "badName"]))) return;
+    if (!judged([collection, className].map(c => [c, !c.value || NAME.test(c.value), "badName"]))) return;
     office.tried(out, async () => {               // (not waited for: a later choice counts)
-      rows = await office.list({ collection: collection.value, class: klass.value });
+      rows = await office.list({ collection: collection.value, class: className.value });
       choose();
       learn(rows);
     });
@@ -68,7 +68,7 @@ export function deposits(soon = "") {
   part.addEventListener("input", choose);
   for (const control of [within, sort, down]) control.addEventListener("change", choose);
   setTimeout(load);
-  return [asks("filter", "show", load, field("collection", collection), field("class", klass)),
+  return [asks("filter", "show", load, field("collection", collection), field("class", className)),
     h("div", { class: "row", role: "group", "aria-label": t("among") },
     field("contains", part), field("within", within), field("sortBy", sort), tick(down, "descending")),
     soon ? note("help", t("soonHelp")) : asks("openNumber", "openIt", open, field("openNumber", wanted)), out];

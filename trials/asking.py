@@ -144,8 +144,8 @@ def policy_is(office):
         for caller in ("anna", "carl", "eve"):
             for action, collection, class_ in EXPLAINED:
                 role = wanted["callers"].get(caller, "stranger")
-                place = None if collection == "-" else collection
-                deciding = first_match(told["rules"], role, action, place, class_, str(day))
+                asked = None if collection == "-" else collection
+                deciding = first_match(told["rules"], role, action, asked, class_, str(day))
                 said = f"{deciding['effect']} rule {deciding['rule']}" if deciding else "deny default"
                 words = [office.program, "explain", "--day", str(day), policy, caller, action, collection, class_]
                 run = subprocess.run(words, capture_output=True, timeout=60, text=True)

@@ -1,12 +1,12 @@
 #!/usr/bin/env python3
-"""The replay that the gate repeats by `office_file`: requests to a new office, and the answers, worked out from
+"""The replay that the gate repeats by `trial_office`: requests to a new office, and the answers, worked out from
 `docs/HTTP.md`.
 
 Each row of the tables below is a request and its answer. The tables have every refusal of the desk, beside what it
 still accepts at each limit. Where several refusals apply to one request, it has those that come later, too. Then there
 is a session with every kind of answer, and with every refusal of the office that a caller can bring about.
 
-`desk.py` compares these rows with `stdin` and `stdout` of `crates/office_file`; `stdout` begins with the lines of its
+`desk.py` compares these rows with `stdin` and `stdout` of `crates/trial_office`; `stdout` begins with the lines of its
 cases. `desk.py write` writes both files.
 
 Then the built program answers these requests, and those of a second table that the gate doesn't repeat, byte for byte.
@@ -27,7 +27,7 @@ from shared.offices import replay
 from shared.places import DEPOT, EXAMPLE_BAG, TOP, is_there
 from shared.policies import allow, deny, policy
 
-CRATE = TOP / "crates/office_file"
+CRATE = TOP / "crates/trial_office"
 DAY = "2024-03-01"
 STATUS = {200: "OK", 201: "Created", 400: "Bad Request", 403: "Forbidden", 404: "Not Found", 405: "Method Not Allowed",
           409: "Conflict", 410: "Gone", 413: "Content Too Large", 422: "Unprocessable Content"}
@@ -619,7 +619,7 @@ def run_dated():
 
 
 def lines_of_cases():
-    """The lines that `office_file` prints of its cases, before the records of answers."""
+    """The lines that `trial_office` prints of its cases, before the records of answers."""
     lines, _, _ = (CRATE / "stdout").read_bytes().partition(b"ANS ")
     return lines
 
@@ -646,7 +646,7 @@ def main():
         fail(f"{DEPOT} isn't there")
     else:
         said = "but the program isn't built, and wasn't asked"
-    print(f"{sum(1 for _ in rows())} requests and their answers, as crates/office_file has them, {said}")
+    print(f"{sum(1 for _ in rows())} requests and their answers, as crates/trial_office has them, {said}")
 
 
 if __name__ == "__main__":

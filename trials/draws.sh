@@ -1,5 +1,5 @@
 #!/usr/bin/env bash
-# For each of 100 seeds the proved program `office_file` sends 100 random requests to an office over tables and to the
+# For each of 100 seeds the proved program `trial_office` sends 100 random requests to an office over tables and to the
 # plain office, which must give the same answers, the same due lists and the same stock: over tables in memory, and over
 # a file. In the file `kept.py` then finds contents, due days and counts of holds as the rows give them. For each seed
 # `older.py` also puts a file after at most 50 requests into the tables of an older version, unless a rule has days by
@@ -7,7 +7,7 @@
 # as leave only rows that version 3 can have. Where there are 100 seeds or more, half of them must be upgraded. From
 # each version some must have holds, released ones too, and deposits. Requests about classes and under rules with days
 # must come before and after.
-# Arguments: the first seed and the last, 1 and 100 if left out. The program is that of OFFICE_FILE, or the
+# Arguments: the first seed and the last, 1 and 100 if left out. The program is that of TRIAL_OFFICE, or the
 # repository's own.
 set -eu
 top=$(readlink -f "$(dirname "$(readlink -f "$0")")/..")
@@ -15,13 +15,13 @@ top=$(readlink -f "$(dirname "$(readlink -f "$0")")/..")
 . "$top/trials/cases.sh"
 . "$top/trials/processes.sh"
 needs python3
-needs_office_file
+needs_trial_office
 make_room
 first=${1:-1}
 last=${2:-100}
 seeds=$((last - first + 1))
 
-# What is counted of all seeds (`all`), and of the requests that follow an upgrade (`on`), as `office_file` prints it.
+# What is counted of all seeds (`all`), and of the requests that follow an upgrade (`on`), as `trial_office` prints it.
 counts=(accepted refused held released listed asked denied)
 declare -A all on upgraded=([3]=0 [4]=0 [5]=0) holds=([3]=0 [4]=0 [5]=0) freed=([3]=0 [4]=0 [5]=0)
 declare -A bags=([3]=0 [4]=0 [5]=0)

@@ -18,12 +18,12 @@ them. `cc` compiles a small library whose `malloc`, `calloc` and `realloc` come 
 - `serve`: `depot serve` over a file, with four connections, of which at most one gets no answer. Standard error has the
   lines of those that were answered 503, of the first of their kind that succeeds again, and of the end. Or the program
   ends with `memory`, whose line follows them.
-- `hear`: `office_file hear`, with a deposit that `read_request` reads: all of its bag, or nothing.
-- `bags`, `office`, `tables`, `stored`: the cases of `crates/office_file`, each with the result that was worked out, or
+- `hear`: `trial_office hear`, with a deposit that `read_request` reads: all of its bag, or nothing.
+- `bags`, `office`, `tables`, `stored`: the cases of `crates/trial_office`, each with the result that was worked out, or
   with lack of memory.
 
 Arguments: groups, by default all; `GROUP FIRST LAST` refuses the allocations from the first to the last alone. DEPOT
-and OFFICE_FILE name other programs than the built ones in `crates/depot/out` and `crates/office_file/out`.
+and TRIAL_OFFICE name other programs than the built ones in `crates/depot/out` and `crates/trial_office/out`.
 """
 import os
 import pathlib
@@ -37,7 +37,7 @@ from shared import stores
 from shared.comparing import fail
 from shared.days import FIRST, LAST
 from shared.offices import answer_to, make_office
-from shared.places import DEPOT, EXAMPLE_BAG, OFFICE_FILE, POLICY, needs_built
+from shared.places import DEPOT, EXAMPLE_BAG, TRIAL_OFFICE, POLICY, needs_built
 from shared.policies import allow, deny, policy as policy_text
 from shared.requests import deposit_target, record, records_in, request
 
@@ -460,7 +460,7 @@ def hear(library, first, last):
     """A deposit that is heard alone, by `read_request`."""
     bag = EXAMPLE_BAG.read_bytes()
     given = request("POST", deposit(1), bag)
-    words = [OFFICE_FILE, "hear"]
+    words = [TRIAL_OFFICE, "hear"]
     heard = [str(len(bag)).encode()]
     if run(library, 0, words, given)[0].stdout.split()[:1] != heard:
         fail("hear: with all memory the bag isn't heard")
@@ -484,7 +484,7 @@ def cases(group):
     """The trial of a group of cases."""
 
     def trial(library, first, last):
-        words, given = [OFFICE_FILE], group.encode()
+        words, given = [TRIAL_OFFICE], group.encode()
         plain = run(library, 0, words, given)[0]
         count = plain.stdout.count(b": as worked out\n")
         if plain.returncode != 0 or plain.stdout.count(b"\n") != count:
@@ -513,8 +513,8 @@ def cases(group):
 
 # The groups of each program. Each gives how many allocations were refused.
 OF_DEPOT = {"desk": desk, "ask": ask, "serve": serve, "policy": policy, "upgrade": upgrade}
-OF_OFFICE_FILE = {"hear": hear, **{it: cases(it) for it in ("bags", "office", "tables", "stored")}}
-GROUPS = OF_DEPOT | OF_OFFICE_FILE
+OF_TRIAL_OFFICE = {"hear": hear, **{it: cases(it) for it in ("bags", "office", "tables", "stored")}}
+GROUPS = OF_DEPOT | OF_TRIAL_OFFICE
 
 
 def main():
@@ -526,7 +526,7 @@ def main():
     names = words or list(GROUPS)
     if any(it not in GROUPS for it in names):
         fail("the groups are " + ", ".join(GROUPS))
-    needs_built(*{DEPOT if name in OF_DEPOT else OFFICE_FILE for name in names})
+    needs_built(*{DEPOT if name in OF_DEPOT else TRIAL_OFFICE for name in names})
     with tempfile.TemporaryDirectory() as folder:
         library = compiled(pathlib.Path(folder))
         refused = sum(GROUPS[name](library, first, last) for name in names)

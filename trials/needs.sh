@@ -81,16 +81,16 @@ needs_program() {
     unset DEPOT
 }
 
-# Sets `program` to the trial program `office_file`: that of the variable OFFICE_FILE, else the repository's own, which
+# Sets `program` to the trial program `trial_office`: that of TRIAL_OFFICE, else the repository's own, which
 # `rt run` proves and builds where it is missing or its sources have changed.
-needs_office_file() {
-    local crate=$top/crates/office_file
-    if [ -z "${OFFICE_FILE-}" ]; then
+needs_trial_office() {
+    local crate=$top/crates/trial_office
+    if [ -z "${TRIAL_OFFICE-}" ]; then
         needs_kit
         (cd "$crate" && rt run -- draw 1 1) >/dev/null 2>&1 ||
-            lacks "the program office_file, which can't be built: try rt run in $crate"
+            lacks "the program trial_office, which can't be built: try rt run in $crate"
     fi
-    use_program "${OFFICE_FILE:-$crate/out/office_file}"
+    use_program "${TRIAL_OFFICE:-$crate/out/trial_office}"
 }
 
 # Sets `program` to this one, by its whole path.

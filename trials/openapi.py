@@ -4,7 +4,7 @@
 1. The file is OpenAPI 3.0.
 2. The page and the file have the same routes, keys of queries, kinds of bodies, statuses and refusals. Each JSON text
    of the page is a body that the file has.
-3. Exchanges fit the file: the examples of the page, its replay record, and the stored replay of `crates/office_file`.
+3. Exchanges fit the file: the examples of the page, its replay record, and the stored replay of `crates/trial_office`.
    With a program as the only argument, that program answers the page's requests by a replay: each answer is the page's,
    and fits.
 
@@ -40,7 +40,7 @@ import jsonschema
 import yaml
 
 FILE, PAGE = TOP / "docs/openapi.yaml", TOP / "docs/HTTP.md"
-STORED = TOP / "crates/office_file"
+STORED = TOP / "crates/trial_office"
 RULES = pathlib.Path("/usr/share/openapi-specification/schemas/v3.0/schema.json")
 DAY = "2024-03-01"
 OFFICE = "http://127.0.0.1:8080"
@@ -753,13 +753,13 @@ def whole_records(data, head, what):
 def stored_exchanges():
     """The exchanges of the stored replay."""
     _, _, answers = (STORED / "stdout").read_bytes().partition(b"ANS ")
-    asked = whole_records((STORED / "stdin").read_bytes(), REQUEST, "crates/office_file/stdin")
-    given = whole_records(b"ANS " + answers, ANSWER, "crates/office_file/stdout")
+    asked = whole_records((STORED / "stdin").read_bytes(), REQUEST, "crates/trial_office/stdin")
+    given = whole_records(b"ANS " + answers, ANSWER, "crates/trial_office/stdout")
     if len(asked) != len(given):
-        fail(f"crates/office_file: {len(asked)} requests are stored, and {len(given)} answers")
+        fail(f"crates/trial_office: {len(asked)} requests are stored, and {len(given)} answers")
     for number, (request, answer) in enumerate(zip(asked, given), 1):
         line = request.strip().partition(b"\n")[0].decode("utf-8", "replace").strip()
-        yield whole_exchange(f"crates/office_file, request {number}, {cut(line, 100)}", request, answer)
+        yield whole_exchange(f"crates/trial_office, request {number}, {cut(line, 100)}", request, answer)
 
 
 def answered_exchanges(program, shown_by_page):
@@ -801,7 +801,7 @@ def main():
     shown_by_page = list(examples(page, numbers))
     sources = {
         "docs/HTTP.md": shown_by_page + [record_exchange(page)],
-        "crates/office_file": list(stored_exchanges()),
+        "crates/trial_office": list(stored_exchanges()),
     }
     if sys.argv[1:]:
         sources["the program"] = list(answered_exchanges(sys.argv[1], shown_by_page))

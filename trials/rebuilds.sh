@@ -19,7 +19,8 @@ done
 echo 'kit one' >"$room/kit/KIT-ID"
 cat >"$room/kit/bin/rt" <<'STUB'
 #!/usr/bin/env bash
-# A stand-in for `rt lib`, called in the folder of a library, and `rt run -- check FILE`, called in that of the program.
+# A stand-in for `rt lib --jobs N`, called in the folder of a library, and `rt run -- check FILE`, called in that of the
+# program.
 set -eu
 crate=$(basename "$PWD")
 echo "$crate $*" >>"$ROOM/calls"
@@ -37,7 +38,7 @@ if [ -e "$ROOM/fails-$crate" ]; then
     exit 1
 fi
 case "$*" in
-lib)
+'lib --jobs '[1-9]*)
     # A library needs those that it uses, and is built over what was kept of it.
     for used in $(sed -n "s/^$crate://p" ../../crates.txt); do
         [ ! -d "../$used" ] || [ -e "../$used/out/rlib/stamp" ] || exit 2
@@ -90,6 +91,8 @@ compare "the libraries are proved, and the program is built" "below lib, beside 
     "$(cut -d' ' -f-2 "$room/calls" | paste -sd, | sed 's/,/, /g')"
 case $(cat "$room/err") in *'at most 1 at a time'*) wanted=no ;; *) wanted=yes ;; esac
 compare "two libraries are proved at a time, where there is room for two" "$wanted" "$(cat "$room/beside-below")"
+case $wanted in yes) share=$(($(nproc) / 2)) ;; no) share=$(nproc) ;; esac
+compare "their processes share the processors" $((share > 1 ? share : 1)) "$(sed -n '1s/.* //p' "$room/calls")"
 compare "what the proofs left" "above below beside" \
     "$(cd "$tree/crates" && find . -path './*/out/rlib/stamp' | cut -d/ -f2 | LC_ALL=C sort | paste -sd' ')"
 compare "the folders that they ran in" "" "$(ls "$tree/crates/depot/out/depot-rooms")"

@@ -265,7 +265,7 @@ def asked_by(text, parts):
     """What a script says that it needs, and its parts: packages, and the words of trials.txt."""
     words = {
         "needs_program": "program",
-        "needs_office_file": "office_file",
+        "needs_trial_office": "trial_office",
         "needs_kit": "kit",
         "needs_root": "root",
         "needs_mounts": "mounts",

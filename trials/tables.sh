@@ -1,7 +1,7 @@
 #!/usr/bin/env bash
-# The proved program `office_file` writes an example office into a file. The command `sqlite3` must find each row of
+# The proved program `trial_office` writes an example office into a file. The command `sqlite3` must find each row of
 # `rows.txt` there and the texts of the tables of `schema.sql`, and its own checks of the file must pass. Stores of
-# older versions have that schema too, once they are upgraded. The program is that of OFFICE_FILE, or the repository's
+# older versions have that schema too, once they are upgraded. The program is that of TRIAL_OFFICE, or the repository's
 # own.
 set -eu
 top=$(readlink -f "$(dirname "$(readlink -f "$0")")/..")
@@ -9,7 +9,7 @@ top=$(readlink -f "$(dirname "$(readlink -f "$0")")/..")
 . "$top/trials/cases.sh"
 . "$top/trials/processes.sh"
 needs sqlite3 python3
-needs_office_file
+needs_trial_office
 make_room
 file=$room/office.db
 

@@ -10,7 +10,7 @@ POLICY = TOP / "examples/policy.toml"
 EXAMPLE_BAG = TOP / "examples/bag-a.bagset"
 # The programs: those that are built, unless a variable names others.
 DEPOT = pathlib.Path(os.environ.get("DEPOT", TOP / "crates/depot/out/depot-program")).absolute()
-OFFICE_FILE = pathlib.Path(os.environ.get("OFFICE_FILE", TOP / "crates/office_file/out/office_file")).absolute()
+TRIAL_OFFICE = pathlib.Path(os.environ.get("TRIAL_OFFICE", TOP / "crates/trial_office/out/trial_office")).absolute()
 
 
 def depot(arguments=()):
@@ -33,7 +33,7 @@ def needs_built(*programs):
     """Ends the script where one of these programs isn't there, and says how it is built."""
     builds = {
         DEPOT: "./depot check examples/bag-a.bagset",
-        OFFICE_FILE: "in crates/office_file, rt run -- make /tmp/a-new-file.db",
+        TRIAL_OFFICE: "in crates/trial_office, rt run -- make /tmp/a-new-file.db",
     }
     for program in programs:
         if not is_there(program):

@@ -2,7 +2,7 @@
 use Rattle.bag_check.proofs.Common.{◌≡◌, ◌⊎◌, inl, inr, List, refl, sym, ap, subst, ◌∙◌, Option, Some, None, Result, Ok, Err, IfOk, IfErr, IsErrAnd, MatchResult, File, IsBag, Version, Report, Valid, report_of, Fault, FirstFault, judge, FailsAs, Gives, named_fault, NamesFirst, report_seen}
 use Rattle.bag_check.specs.declared.fault.BagFault.{BagFault}
 use Rattle.bag_check.specs.declared.fault.BagFault.TheVariants as faults
-use Rattle.bag_check.specs.declared.report.BagReport.{BagReport}
+use Rattle.bag_text.specs.declared.report.BagReport.{BagReport}
 use Rattle.bag_check.proofs.JudgeLaws.{judged_valid, judged_fault, valid_judged, fault_judged}
 
 -- an answer that gives what judging gives, as a word over the result

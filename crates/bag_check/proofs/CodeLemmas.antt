@@ -1,5 +1,5 @@
 -- Reading and judging, item after item.
-use Rattle.bag_check.proofs.FirstLemmas.{inl, inr, cases_Bool, ◌≡◌, ℕ, zero, suc, ◌+◌, ◌*◌, ◌<◌, ◌≤◌, Bool, true, false, cond, not, ◌&&◌, ◌||◌, List, [], ◌∷◌, ◌++◌, length, slice_index_or as get_or, drop, map, filter, refl, sym, ap, ◌∙◌, arith, append_assoc, Option, Some, None, Result, Ok, Err, sum_by, is_some, option_and_then, codes, decimal, cow_str_bytes, list_any, count_by, AllByRecursion, append-nil, drop_more, length-map, and_parts, nat_tests, File, Fits, max_content, Version, entry_in, is_path_listed, manifest_of, Pair, Kept, pair_in, pairs_of, Rule, Kind, Algorithm, is_payload, payload_of, manifest_name, algorithm_named, is_oxum, oxums_of, payload_files, payload_bytes, manifest_count, Report, Fault, UnsupportedAlgorithm, ManifestText, Breaks, rule_number, number_or, manifest_in, path_in, after_space, cause_or, text_or, ◌>>=◌, FailsAs, Named, Listed, named_of, with_manifest, manifests_in, listed_or_fault, listings_of, asks_for, first_unlisted, first_in, first_place, kept_by, named_by, named_or_fault, version_declared, no_fetch, some_payload, listings_in, keeps, listing_rules, keeps_contents, judge, bind_ok, fronted, again_onto, nothing_onto, nat_lt, digits, nat_cmp, sum-map, sum_by-cons, percent_encode, Manifest, is_escaped, printed_text, printed_byte, all_read}
+use Rattle.bag_check.proofs.FirstLemmas.{inl, inr, cases_Bool, ◌≡◌, ℕ, zero, suc, ◌+◌, ◌*◌, ◌<◌, ◌≤◌, Bool, true, false, cond, not, ◌&&◌, ◌||◌, List, [], ◌∷◌, ◌++◌, length, slice_index_or as get_or, drop, map, filter, refl, sym, ap, ◌∙◌, arith, append_assoc, Option, Some, None, Result, Ok, Err, sum_by, is_some, option_and_then, codes, decimal, cow_str_bytes, list_any, count_by, AllByRecursion, append-nil, drop_more, length-map, and_parts, nat_tests, File, Fits, max_content, Version, entry_in, is_path_listed, manifest_of, Pair, CodePair, pair_in, pairs_of, Rule, Kind, Algorithm, is_payload, payload_of, manifest_name, algorithm_named, is_oxum, oxums_of, payload_files, payload_bytes, manifest_count, Report, Fault, UnsupportedAlgorithm, ManifestText, Breaks, rule_number, number_or, manifest_in, path_in, after_space, cause_or, text_or, ◌>>=◌, FailsAs, Named, Listed, named_of, with_manifest, manifests_in, listed_or_fault, listings_of, asks_for, first_unlisted, first_in, first_breach, obeyed_by, named_by, named_or_fault, version_declared, no_fetch, some_payload, listings_in, obeys, listing_rules, obeys_contents, judge, bind_ok, fronted, again_onto, nothing_onto, nat_lt, digits, nat_cmp, sum-map, sum_by-cons, percent_encode, Manifest, is_escaped, printed_text, printed_byte, all_read}
 use Rattle.std.specs.Cmp.Lexicographic.{slice_cmp}
 use Rattle.std.specs.BTreeMap.{is_at}
 use Rattle.std.specs.Map.{lookup}
@@ -180,36 +180,36 @@ pub next_item : {A : Type 0} (xs : List A) (i : ℕ) (x : A) → i < length xs �
 next_item {A = A} xs i x lt is = drop_more xs i x lt ∙ ap (λ (y : A). y ∷ drop (i + 1) xs) (sym is)
 
 -- a manifest that breaks the rule
-pub place_found : (bag : List File) (rule : Rule) (ls more : List Listed) (l : Listed) (path : List ℕ) (total : Option (List ℕ × List ℕ)) → ls ≡ l ∷ more → first_in bag rule l ≡ Some path → first_place bag rule ls ≡ total → Some (l.name, path) ≡ total
-unfolding first_place
+pub place_found : (bag : List File) (rule : Rule) (ls more : List Listed) (l : Listed) (path : List ℕ) (total : Option (List ℕ × List ℕ)) → ls ≡ l ∷ more → first_in bag rule l ≡ Some path → first_breach bag rule ls ≡ total → Some (l.name, path) ≡ total
+unfolding first_breach
 place_found bag rule ls more l path total is e so_far =
-    let one : first_place bag rule (l ∷ more) ≡ Some (l.name, path) = rw e refl in
-    sym one ∙ ap (first_place bag rule) (sym is) ∙ so_far
+    let one : first_breach bag rule (l ∷ more) ≡ Some (l.name, path) = rw e refl in
+    sym one ∙ ap (first_breach bag rule) (sym is) ∙ so_far
 
 -- a manifest that keeps the rule
-pub place_later : (bag : List File) (rule : Rule) (ls more : List Listed) (l : Listed) (total : Option (List ℕ × List ℕ)) → ls ≡ l ∷ more → first_in bag rule l ≡ None → first_place bag rule ls ≡ total → first_place bag rule more ≡ total
-unfolding first_place
+pub place_later : (bag : List File) (rule : Rule) (ls more : List Listed) (l : Listed) (total : Option (List ℕ × List ℕ)) → ls ≡ l ∷ more → first_in bag rule l ≡ None → first_breach bag rule ls ≡ total → first_breach bag rule more ≡ total
+unfolding first_breach
 place_later bag rule ls more l total is e so_far =
-    let one : first_place bag rule (l ∷ more) ≡ first_place bag rule more = rw e refl in
-    sym one ∙ ap (first_place bag rule) (sym is) ∙ so_far
+    let one : first_breach bag rule (l ∷ more) ≡ first_breach bag rule more = rw e refl in
+    sym one ∙ ap (first_breach bag rule) (sym is) ∙ so_far
 
 -- no manifest is left
-pub place_none : (bag : List File) (rule : Rule) (ls : List Listed) (total : Option (List ℕ × List ℕ)) → ls ≡ [] → first_place bag rule ls ≡ total → None ≡ total
-unfolding first_place
-place_none bag rule ls total is so_far = sym (ap (first_place bag rule) is) ∙ so_far
+pub place_none : (bag : List File) (rule : Rule) (ls : List Listed) (total : Option (List ℕ × List ℕ)) → ls ≡ [] → first_breach bag rule ls ≡ total → None ≡ total
+unfolding first_breach
+place_none bag rule ls total is so_far = sym (ap (first_breach bag rule) is) ∙ so_far
 
 -- ---- rules, one after the other
 
 -- the rules from a place on begin with the one that stands there
-pub keeps_from : (bag : List File) (ls : List Listed) (rules : List Rule) (i : ℕ) (none : Rule) (total : Result (Unit {0}) Fault) → i < length rules → keeps bag ls (drop i rules) ≡ total
-    → (kept_by (get_or rules i none) (first_place bag (get_or rules i none) ls) >>= λ _. keeps bag ls (drop (i + 1) rules)) ≡ total
-unfolding keeps
-keeps_from bag ls rules i none total lt so_far = sym (ap (keeps bag ls) (drop_more rules i none lt)) ∙ so_far
+pub keeps_from : (bag : List File) (ls : List Listed) (rules : List Rule) (i : ℕ) (none : Rule) (total : Result (Unit {0}) Fault) → i < length rules → obeys bag ls (drop i rules) ≡ total
+    → (obeyed_by (get_or rules i none) (first_breach bag (get_or rules i none) ls) >>= λ _. obeys bag ls (drop (i + 1) rules)) ≡ total
+unfolding obeys
+keeps_from bag ls rules i none total lt so_far = sym (ap (obeys bag ls) (drop_more rules i none lt)) ∙ so_far
 
 -- ---- the values of `Payload-Oxum`
 
 -- a test of the values of the pairs that are a Payload-Oxum
-pub any_oxum : (test : List ℕ → Bool) (kept : List Kept) → list_any test (oxums_of (pairs_of kept)) ≡ list_any (λ k. is_oxum (pair_in k) && test (cow_str_bytes k.1)) kept
+pub any_oxum : (test : List ℕ → Bool) (kept : List CodePair) → list_any test (oxums_of (pairs_of kept)) ≡ list_any (λ k. is_oxum (pair_in k) && test (cow_str_bytes k.1)) kept
 any_oxum test [] = refl
 any_oxum test (k ∷ ks) = elim (cases_Bool (is_oxum (pair_in k))) [
   | inl is ↦ rw is (ap (λ (b : Bool). test (cow_str_bytes k.1) || b) (any_oxum test ks))
@@ -217,13 +217,13 @@ any_oxum test (k ∷ ks) = elim (cases_Bool (is_oxum (pair_in k))) [
 ]
 
 -- how many there are
-abbrev oxum_count : List Kept → ℕ
+abbrev oxum_count : List CodePair → ℕ
 oxum_count kept = length (oxums_of (pairs_of kept))
 
-pub count_oxums : (kept : List Kept) → oxum_count kept ≡ count_by (λ k. is_oxum (pair_in k)) kept
+pub count_oxums : (kept : List CodePair) → oxum_count kept ≡ count_by (λ k. is_oxum (pair_in k)) kept
 count_oxums kept = is_count_by oxum_count (λ k. is_oxum (pair_in k)) refl (λ k ks. by_label k ks (is_oxum (pair_in k))) kept
   where
-    by_label : (k : Kept) (ks : List Kept) (x : Bool) → length (map (λ (pair : Pair). pair.value) (cond x (pair_in k ∷ filter is_oxum (pairs_of ks)) (filter is_oxum (pairs_of ks)))) ≡ cond x (1 + oxum_count ks) (oxum_count ks)
+    by_label : (k : CodePair) (ks : List CodePair) (x : Bool) → length (map (λ (pair : Pair). pair.value) (cond x (pair_in k ∷ filter is_oxum (pairs_of ks)) (filter is_oxum (pairs_of ks)))) ≡ cond x (1 + oxum_count ks) (oxum_count ks)
     by_label k ks true = omega arith
     by_label k ks false = refl
 
@@ -304,7 +304,7 @@ listings_counted bag v ls e =
 
 -- the verdict on a bag of which no step names a fault
 pub judged : (bag : List File) (v : Version) (unit : Unit {0}) (ls : List Listed) (r : Report)
-    → version_declared bag ≡ Ok v → no_fetch bag ≡ Ok unit → listings_in v bag ≡ Ok ls → keeps bag ls listing_rules ≡ Ok unit → keeps_contents bag ls ≡ Ok unit
+    → version_declared bag ≡ Ok v → no_fetch bag ≡ Ok unit → listings_in v bag ≡ Ok ls → obeys bag ls listing_rules ≡ Ok unit → obeys_contents bag ls ≡ Ok unit
     → r ≡ record { version = v; files = payload_files bag; bytes = payload_bytes bag; manifests = length ls } → judge bag ≡ Ok r
 judged bag v unit ls r version fetch read kept contents is =
     rw (version, fetch, read, kept, contents) (ap (λ (x : Report). Ok x) (sym (is ∙ ap (λ (n : ℕ). record { version = v; files = payload_files bag; bytes = payload_bytes bag; manifests = n }) (listings_counted bag v ls read))))

@@ -1,27 +1,27 @@
 -- Where no checksum is wrong, each SHA-256 that a manifest lists of a file is that of its content.
-use Rattle.bag_check.proofs.FirstLemmas.{inl, inr, cases_Bool, not-false, ◌≡◌, ℕ, zero, suc, ◌<◌, Bool, false, not, List, [], ◌∷◌, map, length, slice_index_or, Bor, refl, sym, ap, subst, ◌∙◌, arith, Option, Some, None, Result, Ok, Contains, option_map, find, bytes_eq-Decides, ◌>>=◌, File, IsBag, content_at, files_of, Entries, Entry, HasEntry, entries_in, entry_in, is_owned, Has, contains_has, has_contains, has_map, bind_ok, Rule, ChecksumWrong, Fault, Listed, breaks_at, first_in, first_place, is_wrong, keeps, keeps_contents, keeps_info, kept_by, or_place, bytes_eq, sha256, Manifest, AreRightOf, ListsSha256, digests_of, content_there}
+use Rattle.bag_check.proofs.FirstLemmas.{inl, inr, cases_Bool, not-false, ◌≡◌, ℕ, zero, suc, ◌<◌, Bool, false, not, List, [], ◌∷◌, map, length, slice_index_or, Bor, refl, sym, ap, subst, ◌∙◌, arith, Option, Some, None, Result, Ok, Contains, option_map, find, bytes_eq-Decides, ◌>>=◌, File, IsBag, content_at, files_of, Entries, Entry, HasEntry, entries_in, entry_in, is_owned, Has, contains_has, has_contains, has_map, bind_ok, Rule, ChecksumWrong, Fault, Listed, breaks_at, first_in, first_breach, is_wrong, obeys, obeys_contents, obeys_info, obeyed_by, or_breach, bytes_eq, sha256, Manifest, AreRightOf, ListsSha256, digests_of, content_there}
 use Rattle.bag_text.specs.declared.checksum.Checksum.TheVariants.{Sha256}
 
 -- ---- no checksum is wrong where the contents are kept
 
-no_place : (rule : Rule) (place : Option (List ℕ × List ℕ)) (next : Result (Unit {0}) Fault) (done : Unit {0}) → (kept_by rule place >>= λ _. next) ≡ Ok done → place ≡ None
+no_place : (rule : Rule) (place : Option (List ℕ × List ℕ)) (next : Result (Unit {0}) Fault) (done : Unit {0}) → (obeyed_by rule place >>= λ _. next) ≡ Ok done → place ≡ None
 no_place rule None next done e = refl
 no_place rule (Some place) next done e = absurd cc
 
-pub fixity_kept : (bag : List File) (ls : List Listed) (done : Unit {0}) → keeps_contents bag ls ≡ Ok done → first_place bag ChecksumWrong ls ≡ None
-unfolding keeps
+pub fixity_kept : (bag : List File) (ls : List Listed) (done : Unit {0}) → obeys_contents bag ls ≡ Ok done → first_breach bag ChecksumWrong ls ≡ None
+unfolding obeys
 fixity_kept bag ls done e =
-    let parts = bind_ok (keeps_info bag) (λ _. keeps bag ls (ChecksumWrong ∷ [])) done e in
-    no_place ChecksumWrong (first_place bag ChecksumWrong ls) (Ok tt) done parts.2
+    let parts = bind_ok (obeys_info bag) (λ _. obeys bag ls (ChecksumWrong ∷ [])) done e in
+    no_place ChecksumWrong (first_breach bag ChecksumWrong ls) (Ok tt) done parts.2
 
 -- ---- so none is in any manifest
 
-in_each : (bag : List File) (rule : Rule) (ls : List Listed) → first_place bag rule ls ≡ None → (l : Listed) → Has ls l → first_in bag rule l ≡ None
-unfolding first_place
+in_each : (bag : List File) (rule : Rule) (ls : List Listed) → first_breach bag rule ls ≡ None → (l : Listed) → Has ls l → first_in bag rule l ≡ None
+unfolding first_breach
 in_each bag rule [] none l h = absurd h
 in_each bag rule (k ∷ ls) none l h = by_first (first_in bag rule k) refl none h (λ none more. in_each bag rule ls none l more)
   where
-    by_first : (o : Option (List ℕ)) → first_in bag rule k ≡ o → or_place k.name o (first_place bag rule ls) ≡ None → Has (k ∷ ls) l → (first_place bag rule ls ≡ None → Has ls l → first_in bag rule l ≡ None) → first_in bag rule l ≡ None
+    by_first : (o : Option (List ℕ)) → first_in bag rule k ≡ o → or_breach k.name o (first_breach bag rule ls) ≡ None → Has (k ∷ ls) l → (first_breach bag rule ls ≡ None → Has ls l → first_in bag rule l ≡ None) → first_in bag rule l ≡ None
     by_first None is none (inl same) again = ap (first_in bag rule) (sym same) ∙ is
     by_first None is none (inr more) again = again none more
     by_first (Some path) is none h again = absurd cc
@@ -35,7 +35,7 @@ fails_each test (y ∷ es) none x h = elim (cases_Bool (test y)) [
 
 -- ---- a SHA-256 that isn't wrong
 
-pub right_of : (bag : List File) → IsBag bag → (ls : List Listed) → first_place bag ChecksumWrong ls ≡ None → (f : File) → Contains bag f → AreRightOf ls f
+pub right_of : (bag : List File) → IsBag bag → (ls : List Listed) → first_breach bag ChecksumWrong ls ≡ None → (f : File) → Contains bag f → AreRightOf ls f
 right_of bag is ls none f there l digest listed (entry, lists, is_digest) =
     let fine = fails_each (breaks_at bag ChecksumWrong) l.entries (in_each bag ChecksumWrong ls none l (contains_has ls l listed)) (f.path, entry) (contains_has l.entries (f.path, entry) lists) in
     let found : content_at bag f.path ≡ Some f.content = content_there bag is f.path f.content there in

@@ -17,9 +17,9 @@ prints_escaped : printed_text (codes "data/" ++ 10 ∷ 32 ∷ 37 ∷ 233 ∷ [])
 unfolding percent_encode_byte
 prints_escaped = refl
 
-prints_a_place : fault_text (Breaks Missing (codes "manifest-sha256.txt") (codes "data/a%0Ab")) ≡ codes "B11 manifest-sha256.txt data/a%250Ab"
+prints_a_breach : fault_text (Breaks Missing (codes "manifest-sha256.txt") (codes "data/a%0Ab")) ≡ codes "B11 manifest-sha256.txt data/a%250Ab"
 unfolding digits percent_encode_byte
-prints_a_place = refl
+prints_a_breach = refl
 
 names_counts : NamesCounts (codes "3.1") 3 1
 names_counts = (codes "3", codes "1", [], refl, refl, record { some = omega arith; few = omega arith; all = refl; is = refl }, record { some = omega arith; few = omega arith; all = refl; is = refl })

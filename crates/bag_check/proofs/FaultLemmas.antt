@@ -1,5 +1,5 @@
 -- Faults by their numbers, and that of a bag only one comes first.
-use Rattle.bag_check.proofs.Common.{◌≡◌, ℕ, ◌+◌, ◌<◌, ◌≤◌, ◌⊎◌, inl, inr, Bool, true, false, List, [], ◌∷◌, refl, sym, ap, subst, ◌∙◌, arith, eqb as nat_eq, list_any, false≢true, cases_order, same_Some, File, IsBag, Version, Algorithm, LineFault, InfoFault, declaration_of, manifest_of, info_of, info_fault, Kind, Rule, declaration_path, info_path, DeclaresVersion, HasManifest, word_of, Fault, NoDeclaration, Declaration, FetchNotSupported, UnsupportedAlgorithm, NoPayloadManifest, ManifestText, Breaks, InfoText, OxumForm, OxumTwice, OxumWrong, Stands, rule_number, fault_number, fault_name, fault_path, PlaceBefore, ComesFirst, FirstFault, same_ok, same_err, declared_again, fault_is_refused, DeclFault}
+use Rattle.bag_check.proofs.Common.{◌≡◌, ℕ, ◌+◌, ◌<◌, ◌≤◌, ◌⊎◌, inl, inr, Bool, true, false, List, [], ◌∷◌, refl, sym, ap, subst, ◌∙◌, arith, eqb as nat_eq, list_any, false≢true, cases_order, same_Some, File, IsBag, Version, Algorithm, LineFault, InfoFault, declaration_of, manifest_of, info_of, info_fault, Kind, Rule, declaration_path, info_path, DeclaresVersion, HasManifest, word_of, Fault, NoDeclaration, Declaration, FetchNotSupported, UnsupportedAlgorithm, NoPayloadManifest, ManifestText, Breaks, InfoText, OxumForm, OxumTwice, OxumWrong, Stands, rule_number, fault_number, fault_name, fault_path, BreachBefore, ComesFirst, FirstFault, same_ok, same_err, declared_again, fault_is_refused, DeclFault}
 use Rattle.bag_text.specs.Declaration.{declaration_fault}
 use Rattle.bag_check.specs.declared.rule.Rule.TheVariants as rules_of
 use Rattle.bag_check.proofs.OrderLemmas.{apart, one_first}
@@ -129,17 +129,17 @@ NoneAt bag n = (g : Fault) → fault_number g ≡ n → Stands bag g → ⊥
 
 -- what a fault names comes before what another names
 abbrev pub Earlier : Fault → Fault → Type 0
-Earlier g f = PlaceBefore (fault_name g, fault_path g) (fault_name f, fault_path f)
+Earlier g f = BreachBefore (fault_name g, fault_path g) (fault_name f, fault_path f)
 
 -- nothing comes before an empty name and an empty path with the same
-pub none_earlier : PlaceBefore ([], []) ([], []) → ⊥
+pub none_earlier : BreachBefore ([], []) ([], []) → ⊥
 none_earlier (inl before) = apart [] before
 none_earlier (inr before) = apart [] before.1
 
 -- a fault that comes first among those of its number
 pub record IsLeast (bag : List File) (f : Fault) : Type 0 where
   pub stands : Stands bag f
-  pub first : (g : Fault) → fault_number g ≡ fault_number f → Stands bag g → PlaceBefore (fault_name g, fault_path g) (fault_name f, fault_path f) → ⊥
+  pub first : (g : Fault) → fault_number g ≡ fault_number f → Stands bag g → BreachBefore (fault_name g, fault_path g) (fault_name f, fault_path f) → ⊥
 
 -- no fault has a number below 1
 pub none_below_1 : (bag : List File) → NoneBelow bag 1

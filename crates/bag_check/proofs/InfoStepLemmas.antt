@@ -1,5 +1,5 @@
 -- The step of judging that reads `bag-info.txt`: it names the first fault of that file, or none stands.
-use Rattle.bag_check.proofs.FirstLemmas.{inl, inr, not, eqb, true, or_cases, eqb-false, eqb-true, not-true, ne_eqb, or_right, true_from_ne_false, ◌≡◌, ℕ, ◌<◌, ◌≤◌, ◌⊎◌, Bool, false, cond, List, length, refl, sym, ap, subst, ◌∙◌, arith, Option, Some, None, Result, Ok, Err, is_some, nat_lt, Contains, ◌≢◌, list_any, false≢true, ltb-true, ltb-false, File, IsBag, content_at, Pair, SaysInfo, info_of, InfoFault, Version, info_said, info_fault, Holds, HasFile, info_path, DeclaresVersion, NamesCounts, oxums_of, payload_bytes, payload_files, InfoIsRight, Fault, InfoText, OxumForm, OxumTwice, OxumWrong, HasOxum, Stands, FirstFault, counts_of, ◌>>=◌, are_others, oxums_kept, or_info, info_kept, keeps_info, same_err, never_both, Has, contains_has, has_contains, any_has, none_has, one_content, content_found, no_content, at_13, at_14, at_15, at_16, Earlier, none_earlier, NoneBelow, none_more, named_first, one_info}
+use Rattle.bag_check.proofs.FirstLemmas.{inl, inr, not, eqb, true, or_cases, eqb-false, eqb-true, not-true, ne_eqb, or_right, true_from_ne_false, ◌≡◌, ℕ, ◌<◌, ◌≤◌, ◌⊎◌, Bool, false, cond, List, length, refl, sym, ap, subst, ◌∙◌, arith, Option, Some, None, Result, Ok, Err, is_some, nat_lt, Contains, ◌≢◌, list_any, false≢true, ltb-true, ltb-false, File, IsBag, content_at, Pair, SaysInfo, info_of, InfoFault, Version, info_said, info_fault, Holds, HasFile, info_path, DeclaresVersion, NamesCounts, oxums_of, payload_bytes, payload_files, InfoIsRight, Fault, InfoText, OxumForm, OxumTwice, OxumWrong, HasOxum, Stands, FirstFault, counts_of, ◌>>=◌, are_others, oxums_obeyed, or_info, info_obeyed, obeys_info, same_err, never_both, Has, contains_has, has_contains, any_has, none_has, one_content, content_found, no_content, at_13, at_14, at_15, at_16, Earlier, none_earlier, NoneBelow, none_more, named_first, one_info}
 use Rattle.bag_check.proofs.CountsLemmas.{counts_is, counts_again}
 
 -- ---- a bag-info.txt that is read
@@ -116,7 +116,7 @@ abbrev oxum_steps : Bool → Bool → Bool → Result (Unit {0}) Fault
 oxum_steps x y z = cond x (Err OxumForm) (cond y (Err OxumTwice) (cond z (Err OxumWrong) (Ok tt)))
 
 -- where the values are found right no fault stands
-values_free : (bag : List File) → IsBag bag → (pairs : List Pair) → SaysPairs bag pairs → (done : Unit {0}) → oxums_kept bag (oxums_of pairs) ≡ Ok done → IsFree bag
+values_free : (bag : List File) → IsBag bag → (pairs : List Pair) → SaysPairs bag pairs → (done : Unit {0}) → oxums_obeyed bag (oxums_of pairs) ≡ Ok done → IsFree bag
 values_free bag is pairs read done e = by_tests (list_any is_formless (oxums_of pairs)) (nat_lt 1 (length (oxums_of pairs))) (list_any (is_other bag) (oxums_of pairs)) refl refl refl e
   where
     by_tests : (x y z : Bool) → list_any is_formless (oxums_of pairs) ≡ x → nat_lt 1 (length (oxums_of pairs)) ≡ y → list_any (is_other bag) (oxums_of pairs) ≡ z → oxum_steps x y z ≡ Ok done → IsFree bag
@@ -133,14 +133,14 @@ says_pairs : (bag : List File) (text : List ℕ) (pairs : List Pair) → content
 says_pairs bag text pairs is read = record { text = text; holds = content_found bag info_path text is; says = (info_said text pairs).0 read }
 
 -- where judging finds no fault of bag-info.txt none stands
-info_free : (bag : List File) → IsBag bag → (done : Unit {0}) → keeps_info bag ≡ Ok done → IsFree bag
+info_free : (bag : List File) → IsBag bag → (done : Unit {0}) → obeys_info bag ≡ Ok done → IsFree bag
 info_free bag is done e = by_content (content_at bag info_path) refl e
   where
-    by_pairs : (text : List ℕ) → content_at bag info_path ≡ Some text → (r : Result (List Pair) InfoFault) → info_of text ≡ r → (or_info r >>= λ pairs. oxums_kept bag (oxums_of pairs)) ≡ Ok done → IsFree bag
+    by_pairs : (text : List ℕ) → content_at bag info_path ≡ Some text → (r : Result (List Pair) InfoFault) → info_of text ≡ r → (or_info r >>= λ pairs. oxums_obeyed bag (oxums_of pairs)) ≡ Ok done → IsFree bag
     by_pairs text found (Ok pairs) read e = values_free bag is pairs (says_pairs bag text pairs found read) done e
     by_pairs text found (Err i) read e = absurd cc
 
-    by_content : (o : Option (List ℕ)) → content_at bag info_path ≡ o → info_kept bag o ≡ Ok done → IsFree bag
+    by_content : (o : Option (List ℕ)) → content_at bag info_path ≡ o → info_obeyed bag o ≡ Ok done → IsFree bag
     by_content None found e = free_without bag (no_content bag info_path found)
     by_content (Some text) found e = by_pairs text found (info_of text) refl e
 
@@ -157,7 +157,7 @@ below_16 : (bag : List File) → NoneBelow bag 15 → (Stands bag OxumTwice → 
 below_16 bag below none = none_more bag 15 16 refl below (λ g n s. at_15 (λ x. Stands bag x → ⊥) none g n s)
 
 -- where judging finds no fault of bag-info.txt none below 17 stands
-pub info_ok : (bag : List File) → IsBag bag → NoneBelow bag 13 → (done : Unit {0}) → keeps_info bag ≡ Ok done → NoneBelow bag 17
+pub info_ok : (bag : List File) → IsBag bag → NoneBelow bag 13 → (done : Unit {0}) → obeys_info bag ≡ Ok done → NoneBelow bag 17
 info_ok bag is below done e =
     let free = info_free bag is done e in
     none_more bag 16 17 refl (below_16 bag (below_15 bag (below_14 bag below free.text) free.form) free.once) (λ g n s. at_16 (λ x. Stands bag x → ⊥) free.right g n s)
@@ -196,7 +196,7 @@ wrong_stands bag v declares pairs read e =
     by_counts value h (Some (bytes, files)) is e = (v, declares, (value, bytes, files, an_oxum bag pairs read value h, counts_is value bytes files is, differ_is bag bytes files e))
 
 -- the fault of the values that is named comes first
-values_err : (bag : List File) → IsBag bag → (v : Version) → DeclaresVersion bag v → (pairs : List Pair) → SaysPairs bag pairs → NoneBelow bag 14 → (f : Fault) → oxums_kept bag (oxums_of pairs) ≡ Err f → FirstFault bag f
+values_err : (bag : List File) → IsBag bag → (v : Version) → DeclaresVersion bag v → (pairs : List Pair) → SaysPairs bag pairs → NoneBelow bag 14 → (f : Fault) → oxums_obeyed bag (oxums_of pairs) ≡ Err f → FirstFault bag f
 values_err bag is v declares pairs read below f e = by_tests (list_any is_formless (oxums_of pairs)) (nat_lt 1 (length (oxums_of pairs))) (list_any (is_other bag) (oxums_of pairs)) refl refl refl e
   where
     by_tests : (x y z : Bool) → list_any is_formless (oxums_of pairs) ≡ x → nat_lt 1 (length (oxums_of pairs)) ≡ y → list_any (is_other bag) (oxums_of pairs) ≡ z → oxum_steps x y z ≡ Err f → FirstFault bag f
@@ -210,10 +210,10 @@ values_err bag is v declares pairs read below f e = by_tests (list_any is_formle
     by_tests false false false form once right e = absurd cc
 
 -- the fault of bag-info.txt that judging names comes first
-pub info_err : (bag : List File) → IsBag bag → (v : Version) → DeclaresVersion bag v → NoneBelow bag 13 → (f : Fault) → keeps_info bag ≡ Err f → FirstFault bag f
+pub info_err : (bag : List File) → IsBag bag → (v : Version) → DeclaresVersion bag v → NoneBelow bag 13 → (f : Fault) → obeys_info bag ≡ Err f → FirstFault bag f
 info_err bag is v declares below f e = by_content (content_at bag info_path) refl e
   where
-    by_pairs : (text : List ℕ) → content_at bag info_path ≡ Some text → (r : Result (List Pair) InfoFault) → info_of text ≡ r → (or_info r >>= λ pairs. oxums_kept bag (oxums_of pairs)) ≡ Err f → FirstFault bag f
+    by_pairs : (text : List ℕ) → content_at bag info_path ≡ Some text → (r : Result (List Pair) InfoFault) → info_of text ≡ r → (or_info r >>= λ pairs. oxums_obeyed bag (oxums_of pairs)) ≡ Err f → FirstFault bag f
     by_pairs text found (Ok pairs) read e =
         let says = says_pairs bag text pairs found read in
         values_err bag is v declares pairs says (below_14 bag below (not_refused bag is pairs says)) f e
@@ -221,7 +221,7 @@ info_err bag is v declares below f e = by_content (content_at bag info_path) ref
         subst (FirstFault bag) (same_err {A = Unit {0}} (InfoText i) f (Err (InfoText i)) refl e)
         (text_first bag below i (v, declares, (text, content_found bag info_path text found, (info_fault text i).0 read)))
 
-    by_content : (o : Option (List ℕ)) → content_at bag info_path ≡ o → info_kept bag o ≡ Err f → FirstFault bag f
+    by_content : (o : Option (List ℕ)) → content_at bag info_path ≡ o → info_obeyed bag o ≡ Err f → FirstFault bag f
     by_content None found e = absurd cc
     by_content (Some text) found e = by_pairs text found (info_of text) refl e
 

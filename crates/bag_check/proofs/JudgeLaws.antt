@@ -1,5 +1,5 @@
 -- Judging a bag gives its report exactly where it is valid, and else the fault that comes first.
-use Rattle.bag_check.proofs.FirstLemmas.{◌≡◌, ℕ, ◌↔◌, ◌⊎◌, inl, inr, Bool, true, false, List, [], ◌∷◌, refl, sym, ap, subst, ◌∙◌, Result, Ok, Err, false≢true, File, IsBag, Version, Algorithm, Lists, checksum_of, is_path_listed, Kind, Payload, Tag, Rule, Holds, HasFile, IsPayload, is_payload, fetch_path, DeclaresVersion, IsManifestName, word_of, HasManifest, ListsAt, digest, Report, report_of, Valid, Fault, Breaks, IsBroken, Stands, FirstFault, ◌>>=◌, has_path, version_declared, no_fetch, Named, manifests_in, some_payload, Listed, listings_of, listings_in, keeps, listing_rules, keeps_info, keeps_contents, judge, bind_ok, bind_err, same_ok, read_is_manifest, Has, contains_has, has_contains, matches_of, at, has_path_is, no_path_is, is_payload_is, is_payload_again, number_range, NoneBelow, one_version, one_first_fault, Found, found_all, payload_manifest, all_read}
+use Rattle.bag_check.proofs.FirstLemmas.{◌≡◌, ℕ, ◌↔◌, ◌⊎◌, inl, inr, Bool, true, false, List, [], ◌∷◌, refl, sym, ap, subst, ◌∙◌, Result, Ok, Err, false≢true, File, IsBag, Version, Algorithm, Lists, checksum_of, is_path_listed, Kind, Payload, Tag, Rule, Holds, HasFile, IsPayload, is_payload, fetch_path, DeclaresVersion, IsManifestName, word_of, HasManifest, ListsAt, digest, Report, report_of, Valid, Fault, Breaks, IsBroken, Stands, FirstFault, ◌>>=◌, has_path, version_declared, no_fetch, Named, manifests_in, some_payload, Listed, listings_of, listings_in, obeys, listing_rules, obeys_info, obeys_contents, judge, bind_ok, bind_err, same_ok, read_is_manifest, Has, contains_has, has_contains, matches_of, at, has_path_is, no_path_is, is_payload_is, is_payload_again, number_range, NoneBelow, one_version, one_first_fault, Found, found_all, payload_manifest, all_read}
 use Rattle.bag_check.specs.declared.rule.Rule.TheVariants as rules_of
 use Rattle.bag_check.proofs.RuleLemmas.{AreListed, listed, lists_found, found_lists, matches_is, matches_again}
 use Rattle.bag_check.proofs.StepLemmas.{version_ok, version_err, below_3, fetch_ok, fetch_err, below_4, names_err, below_5, payload_err, below_6, are_listed, texts_err, below_7, Follow, rules_ok, rules_err}
@@ -78,21 +78,21 @@ checksum_number : Follow 17 (rules_of.ChecksumWrong ∷ []) 18
 checksum_number = (refl, refl)
 
 -- where the rules about what is listed are found kept no fault below 13 stands
-below_13 : (bag : List File) (v : Version) (ms : List Named) (ls : List Listed) → IsRead bag v ms ls → (done : Unit {0}) → keeps bag ls listing_rules ≡ Ok done → NoneBelow bag 13
+below_13 : (bag : List File) (v : Version) (ms : List Named) (ls : List Listed) → IsRead bag v ms ls → (done : Unit {0}) → obeys bag ls listing_rules ≡ Ok done → NoneBelow bag 13
 below_13 bag v ms ls r done e = rules_ok bag r.is v r.declares ls r.read listing_rules 7 13 listing_numbers r.below done e
 
 -- where judging finds no fault none stands
-steps_ok : (bag : List File) (v : Version) (ms : List Named) (ls : List Listed) → IsRead bag v ms ls → (done next : Unit {0}) → keeps bag ls listing_rules ≡ Ok done → keeps_contents bag ls ≡ Ok next → (f : Fault) → Stands bag f → ⊥
+steps_ok : (bag : List File) (v : Version) (ms : List Named) (ls : List Listed) → IsRead bag v ms ls → (done next : Unit {0}) → obeys bag ls listing_rules ≡ Ok done → obeys_contents bag ls ≡ Ok next → (f : Fault) → Stands bag f → ⊥
 steps_ok bag v ms ls r done next listing contents f stands =
-    let parts = bind_ok (keeps_info bag) (λ _. keeps bag ls (rules_of.ChecksumWrong ∷ [])) next contents in
+    let parts = bind_ok (obeys_info bag) (λ _. obeys bag ls (rules_of.ChecksumWrong ∷ [])) next contents in
     let below_17 = info_ok bag r.is (below_13 bag v ms ls r done listing) parts.0 parts.1 in
     rules_ok bag r.is v r.declares ls r.read (rules_of.ChecksumWrong ∷ []) 17 18 checksum_number below_17 next parts.2 f ((number_range f).1) stands
 
 -- the fault of bag-info.txt or of a checksum that judging names comes first
-contents_err : (bag : List File) (v : Version) (ms : List Named) (ls : List Listed) → IsRead bag v ms ls → NoneBelow bag 13 → (f : Fault) → keeps_contents bag ls ≡ Err f → FirstFault bag f
-contents_err bag v ms ls r below f e = by_first (bind_err (keeps_info bag) (λ _. keeps bag ls (rules_of.ChecksumWrong ∷ [])) f e)
+contents_err : (bag : List File) (v : Version) (ms : List Named) (ls : List Listed) → IsRead bag v ms ls → NoneBelow bag 13 → (f : Fault) → obeys_contents bag ls ≡ Err f → FirstFault bag f
+contents_err bag v ms ls r below f e = by_first (bind_err (obeys_info bag) (λ _. obeys bag ls (rules_of.ChecksumWrong ∷ [])) f e)
   where
-    by_first : (keeps_info bag ≡ Err f) ⊎ ((done : Unit {0}) × (keeps_info bag ≡ Ok done) × (keeps bag ls (rules_of.ChecksumWrong ∷ []) ≡ Err f)) → FirstFault bag f
+    by_first : (obeys_info bag ≡ Err f) ⊎ ((done : Unit {0}) × (obeys_info bag ≡ Ok done) × (obeys bag ls (rules_of.ChecksumWrong ∷ []) ≡ Err f)) → FirstFault bag f
     by_first (inl e) = info_err bag r.is v r.declares below f e
     by_first (inr (done, ok, e)) = rules_err bag r.is v r.declares ls r.read (rules_of.ChecksumWrong ∷ []) 17 18 checksum_number (info_ok bag r.is below done ok) f e
 
@@ -100,11 +100,11 @@ contents_err bag v ms ls r below f e = by_first (bind_err (keeps_info bag) (λ _
 
 -- what is left to judge once the rules about what is listed are kept
 abbrev after_rules : List File → Version → List Listed → Result Report Fault
-after_rules bag v ls = keeps_contents bag ls >>= λ _. Ok (report_of v bag)
+after_rules bag v ls = obeys_contents bag ls >>= λ _. Ok (report_of v bag)
 
 -- once the manifests are read
 abbrev after_texts : List File → Version → List Listed → Result Report Fault
-after_texts bag v ls = keeps bag ls listing_rules >>= λ _. after_rules bag v ls
+after_texts bag v ls = obeys bag ls listing_rules >>= λ _. after_rules bag v ls
 
 -- what is left to read once the manifests were found
 abbrev after_names : Version → List Named → Result (List Listed) Fault
@@ -143,8 +143,8 @@ judged_valid bag is r e =
     let texts = bind_ok (listings_in v bag) (after_texts bag v) r fetch.2 in
     let named = bind_ok (manifests_in bag) (after_names v) texts.0 texts.1 in
     let payload = bind_ok (some_payload named.0) (λ _. listings_of v named.0) texts.0 named.2 in
-    let listing = bind_ok (keeps bag texts.0 listing_rules) (λ _. after_rules bag v texts.0) r texts.2 in
-    let contents = bind_ok (keeps_contents bag texts.0) (λ _. Ok (report_of v bag)) r listing.2 in
+    let listing = bind_ok (obeys bag texts.0 listing_rules) (λ _. after_rules bag v texts.0) r texts.2 in
+    let contents = bind_ok (obeys_contents bag texts.0) (λ _. Ok (report_of v bag)) r listing.2 in
     let read = read_from bag is v (version_ok bag v version.1) (fetch_ok bag fetch.0 fetch.1) named.0 named.1 payload.0 payload.1 texts.0 payload.2 in
     (v, valid_from bag v named.0 texts.0 read (steps_ok bag v named.0 texts.0 read listing.0 contents.0 listing.1 contents.1), same_ok r (report_of v bag) (Ok (report_of v bag)) contents.2 refl)
 
@@ -152,14 +152,14 @@ judged_valid bag is r e =
 pub judged_fault : (bag : List File) → IsBag bag → (f : Fault) → judge bag ≡ Err f → FirstFault bag f
 judged_fault bag is f e = of_version (bind_err (version_declared bag) (after_version bag) f e)
   where
-    of_contents : (v : Version) (ms : List Named) (ls : List Listed) → IsRead bag v ms ls → (done : Unit {0}) → keeps bag ls listing_rules ≡ Ok done
-        → (keeps_contents bag ls ≡ Err f) ⊎ ((next : Unit {0}) × (keeps_contents bag ls ≡ Ok next) × (Ok (report_of v bag) ≡ Err f)) → FirstFault bag f
+    of_contents : (v : Version) (ms : List Named) (ls : List Listed) → IsRead bag v ms ls → (done : Unit {0}) → obeys bag ls listing_rules ≡ Ok done
+        → (obeys_contents bag ls ≡ Err f) ⊎ ((next : Unit {0}) × (obeys_contents bag ls ≡ Ok next) × (Ok (report_of v bag) ≡ Err f)) → FirstFault bag f
     of_contents v ms ls read done ok (inl e) = contents_err bag v ms ls read (below_13 bag v ms ls read done ok) f e
     of_contents v ms ls read done ok (inr (next, fine, e)) = absurd cc
 
-    of_rules : (v : Version) (ms : List Named) (ls : List Listed) → IsRead bag v ms ls → (keeps bag ls listing_rules ≡ Err f) ⊎ ((done : Unit {0}) × (keeps bag ls listing_rules ≡ Ok done) × (after_rules bag v ls ≡ Err f)) → FirstFault bag f
+    of_rules : (v : Version) (ms : List Named) (ls : List Listed) → IsRead bag v ms ls → (obeys bag ls listing_rules ≡ Err f) ⊎ ((done : Unit {0}) × (obeys bag ls listing_rules ≡ Ok done) × (after_rules bag v ls ≡ Err f)) → FirstFault bag f
     of_rules v ms ls read (inl e) = rules_err bag is v read.declares ls read.read listing_rules 7 13 listing_numbers read.below f e
-    of_rules v ms ls read (inr (done, ok, e)) = of_contents v ms ls read done ok (bind_err (keeps_contents bag ls) (λ _. Ok (report_of v bag)) f e)
+    of_rules v ms ls read (inr (done, ok, e)) = of_contents v ms ls read done ok (bind_err (obeys_contents bag ls) (λ _. Ok (report_of v bag)) f e)
 
     of_texts : (v : Version) → DeclaresVersion bag v → (HasFile bag fetch_path → ⊥) → (ms : List Named) → manifests_in bag ≡ Ok ms → (done : Unit {0}) → some_payload ms ≡ Ok done → listings_of v ms ≡ Err f → FirstFault bag f
     of_texts v declares fetch ms named done some e =
@@ -183,7 +183,7 @@ judged_fault bag is f e = of_version (bind_err (version_declared bag) (after_ver
     of_listings v declares fetch (inr (ls, read, e)) =
         let named = bind_ok (manifests_in bag) (after_names v) ls read in
         let payload = bind_ok (some_payload named.0) (λ _. listings_of v named.0) ls named.2 in
-        of_rules v named.0 ls (read_from bag is v declares fetch named.0 named.1 payload.0 payload.1 ls payload.2) (bind_err (keeps bag ls listing_rules) (λ _. after_rules bag v ls) f e)
+        of_rules v named.0 ls (read_from bag is v declares fetch named.0 named.1 payload.0 payload.1 ls payload.2) (bind_err (obeys bag ls listing_rules) (λ _. after_rules bag v ls) f e)
 
     of_fetch : (v : Version) → DeclaresVersion bag v → (no_fetch bag ≡ Err f) ⊎ ((done : Unit {0}) × (no_fetch bag ≡ Ok done) × (after_fetch bag v ≡ Err f)) → FirstFault bag f
     of_fetch v declares (inl e) = fetch_err bag f (below_3 bag is v declares) e

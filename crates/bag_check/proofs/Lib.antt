@@ -5,7 +5,7 @@ pub mod BagLemmas
 pub mod NameLemmas
 pub mod FaultLemmas
 pub mod ManifestLemmas
-pub mod PlaceLemmas
+pub mod BreachLemmas
 pub mod RuleLemmas
 pub mod StepLemmas
 pub mod OxumLemmas

@@ -1,10 +1,10 @@
 -- Where a rule is broken, by what the manifests list.
-use Rattle.bag_check.proofs.FirstLemmas.{◌≡◌, ℕ, Bool, true, false, not, List, refl, sym, ap, subst, ◌∙◌, Option, Some, None, Ok, false≢true, not-true, not_from_false, false_from_ne_true, bytes_eq-Decides, File, IsBag, content_at, Version, Algorithm, Lists, checksum_of, Entry, Entries, manifest_of, is_path_listed, Kind, Payload, Tag, Rule, is_payload, is_kind, HasManifest, ListsAt, digest, IsBroken, has_path, Listed, is_wrong, asks_for, first_in, first_place, Has, Sha256, Sha512, matches_of, Ascending, IsLeastPath, kept_ascends, kept_has, has_kept, content_found, content_there, has_path_is, no_path_is, is_payload_is, is_payload_again, kind_is, kind_again, manifest_of_is, manifest_of_again, one_manifest, list_names}
+use Rattle.bag_check.proofs.FirstLemmas.{◌≡◌, ℕ, Bool, true, false, not, List, refl, sym, ap, subst, ◌∙◌, Option, Some, None, Ok, false≢true, not-true, not_from_false, false_from_ne_true, bytes_eq-Decides, File, IsBag, content_at, Version, Algorithm, Lists, checksum_of, Entry, Entries, manifest_of, is_path_listed, Kind, Payload, Tag, Rule, is_payload, is_kind, HasManifest, ListsAt, digest, IsBroken, has_path, Listed, is_wrong, asks_for, first_in, first_breach, Has, Sha256, Sha512, matches_of, Ascending, IsLeastPath, kept_ascends, kept_has, has_kept, content_found, content_there, has_path_is, no_path_is, is_payload_is, is_payload_again, kind_is, kind_again, manifest_of_is, manifest_of_again, one_manifest, list_names}
 use Rattle.bag_text.specs.declared.checksum.Checksum.{Checksum}
 use Rattle.bag_check.specs.declared.rule.Rule.TheVariants as rules_of
 use Rattle.bag_text.proofs.ManifestEntryLemmas.{listed_has, has_listed}
 use Rattle.bag_check.proofs.TextFacts.{lists_there, lists_back, ascend_is}
-use Rattle.bag_check.proofs.PlaceLemmas.{Breaking, first_is_least, Place, IsLeastPlace, BreakingAt, first_place_is_least}
+use Rattle.bag_check.proofs.BreachLemmas.{Breaking, first_is_least, Place, IsLeastBreach, BreakingAt, first_breach_is_least}
 
 -- a manifest that is read
 abbrev pub listed : List ℕ → Kind → Algorithm → Entries → Listed
@@ -151,16 +151,16 @@ broken_again bag is v ls read rules_of.ChecksumWrong name path (kind, a, text, c
     (listed name kind a found.0, found.2, refl, (refl, (entry.0, entry.1, ap (is_wrong entry.0.checksum) there ∙ wrong)))
 
 -- The first place is the least one at which the rule is broken.
-pub broken_first : (bag : List File) → IsBag bag → (v : Version) (ls : List Listed) → AreListed bag v ls → (rule : Rule) → IsLeastPlace (IsBroken bag v rule) (first_place bag rule ls)
+pub broken_first : (bag : List File) → IsBag bag → (v : Version) (ls : List Listed) → AreListed bag v ls → (rule : Rule) → IsLeastBreach (IsBroken bag v rule) (first_breach bag rule ls)
 broken_first bag is v ls read rule =
-    by_place (first_place bag rule ls) (first_place_is_least bag rule ls read.up each)
+    by_place (first_breach bag rule ls) (first_breach_is_least bag rule ls read.up each)
   where
     each : (l : Listed) → Has ls l → IsLeastPath (Breaking bag rule l) (first_in bag rule l)
     each l h =
         let manifest = read.back l h in
         first_is_least bag rule l (kept_ascends (asks_for rule) bag is) (ascend_is v l.algorithm manifest.0 l.entries manifest.2)
 
-    by_place : (o : Option Place) → IsLeastPlace (BreakingAt bag rule ls) o → IsLeastPlace (IsBroken bag v rule) o
+    by_place : (o : Option Place) → IsLeastBreach (BreakingAt bag rule ls) o → IsLeastBreach (IsBroken bag v rule) o
     by_place None least = λ name path h. least name path (broken_again bag is v ls read rule name path h)
     by_place (Some place) ((l, h, at, broken), least) = (
       subst (λ (n : List ℕ). IsBroken bag v rule n place.1) at (broken_is bag is v ls read rule l place.1 h broken),

@@ -1,7 +1,7 @@
 -- Each step of judging a bag: it names the first fault of its number, or none of that number stands.
-use Rattle.bag_check.proofs.FirstLemmas.{ok_unless, err_if, ◌≡◌, ℕ, ◌+◌, ◌⊎◌, inl, inr, List, [], ◌∷◌, refl, sym, ap, subst, ◌∙◌, Option, Some, None, Result, Ok, Err, File, IsBag, content_at, Version, Algorithm, LineFault, declaration_of, Entries, manifest_of, Kind, Payload, Rule, Holds, HasFile, declaration_path, fetch_path, DeclaresVersion, IsManifestName, word_of, HasManifest, Fault, NoDeclaration, Declaration, FetchNotSupported, UnsupportedAlgorithm, NoPayloadManifest, ManifestText, Breaks, IsBroken, Stands, rule_number, PlaceBefore, FirstFault, has_path, or_declaration, declared_by, version_declared, no_fetch, Named, manifests_in, some_payload, Listed, listings_of, first_place, kept_by, keeps, bind_ok, bind_err, same_err, never_both, is_declared, declared_again, refused_again, refused_is_fault, fault_is_refused, Has, contains_has, has_contains, DeclFault, apart, Ascending, ascending_rest, at, bag_ascends, ascends_up, path_of_file, one_content, content_found, no_content, has_path_is, no_path_is, one_algorithm, at_1, at_2, at_3, at_4, at_5, at_6, at_rule, Earlier, none_earlier, NoneBelow, NoneAt, IsLeast, none_below_1, none_more, named_first, one_version, as_named, as_listed, read_of, names, Found, IsFirstUnsupported, first_unsupported, no_payload_manifest, AreRead, IsFirstRefused, first_refused}
+use Rattle.bag_check.proofs.FirstLemmas.{ok_unless, err_if, ◌≡◌, ℕ, ◌+◌, ◌⊎◌, inl, inr, List, [], ◌∷◌, refl, sym, ap, subst, ◌∙◌, Option, Some, None, Result, Ok, Err, File, IsBag, content_at, Version, Algorithm, LineFault, declaration_of, Entries, manifest_of, Kind, Payload, Rule, Holds, HasFile, declaration_path, fetch_path, DeclaresVersion, IsManifestName, word_of, HasManifest, Fault, NoDeclaration, Declaration, FetchNotSupported, UnsupportedAlgorithm, NoPayloadManifest, ManifestText, Breaks, IsBroken, Stands, rule_number, BreachBefore, FirstFault, has_path, or_declaration, declared_by, version_declared, no_fetch, Named, manifests_in, some_payload, Listed, listings_of, first_breach, obeyed_by, obeys, bind_ok, bind_err, same_err, never_both, is_declared, declared_again, refused_again, refused_is_fault, fault_is_refused, Has, contains_has, has_contains, DeclFault, apart, Ascending, ascending_rest, at, bag_ascends, ascends_up, path_of_file, one_content, content_found, no_content, has_path_is, no_path_is, one_algorithm, at_1, at_2, at_3, at_4, at_5, at_6, at_rule, Earlier, none_earlier, NoneBelow, NoneAt, IsLeast, none_below_1, none_more, named_first, one_version, as_named, as_listed, read_of, names, Found, IsFirstUnsupported, first_unsupported, no_payload_manifest, AreRead, IsFirstRefused, first_refused}
 use Rattle.bag_text.proofs.DeclarationLemmas as declaration
-use Rattle.bag_check.proofs.PlaceLemmas.{Place, IsLeastPlace}
+use Rattle.bag_check.proofs.BreachLemmas.{Place, IsLeastBreach}
 use Rattle.bag_check.proofs.RuleLemmas.{AreListed, listed, broken_first}
 
 -- ---- the declaration
@@ -93,7 +93,7 @@ names_err bag is f below e = by_first (first_unsupported bag f (bag_ascends bag 
       first = λ g n s. at_4 (λ x. Stands bag x → Earlier x (UnsupportedAlgorithm found.file.path) → ⊥) not_before g n s;
     }))
       where
-        not_before : (name : List ℕ) → Stands bag (UnsupportedAlgorithm name) → PlaceBefore (name, []) (found.file.path, []) → ⊥
+        not_before : (name : List ℕ) → Stands bag (UnsupportedAlgorithm name) → BreachBefore (name, []) (found.file.path, []) → ⊥
         not_before name ((content, holds), bad) (inl before) = found.first (at name content) (contains_has bag (at name content) holds) bad before
         not_before name s (inr before) = apart [] before.1
 
@@ -168,7 +168,7 @@ texts_err bag is v declares ms f below found e =
         stands : Stands bag (ManifestText refused.manifest.name refused.cause)
         stands = let m = refused.manifest in (v, declares, (m.kind, m.algorithm, m.text, (file.1, has_contains bag (at m.name m.text) file.0), refused_is_fault v m.algorithm m.text refused.cause refused.refused))
 
-        not_before : (name : List ℕ) (g : LineFault) → Stands bag (ManifestText name g) → PlaceBefore (name, []) (refused.manifest.name, []) → ⊥
+        not_before : (name : List ℕ) (g : LineFault) → Stands bag (ManifestText name g) → BreachBefore (name, []) (refused.manifest.name, []) → ⊥
         not_before name g (w, declares_too, (kind, a, text, has, fault)) (inl before) =
             let version : v ≡ w = one_version bag is v w declares declares_too in
             let other = found.there (at name text) kind (word_of a) (contains_has bag (at name text) has.1) has.0 in
@@ -186,31 +186,31 @@ rule_kept bag is v declares rule none g n s = at_rule rule (λ x. Stands bag x �
     kept name path (w, declares_too, broken) = none name path (subst (λ (x : Version). IsBroken bag x rule name path) (sym (one_version bag is v w declares declares_too)) broken)
 
 -- the least place at which a rule is broken comes first
-rule_broken : (bag : List File) → IsBag bag → (v : Version) → DeclaresVersion bag v → (rule : Rule) (name path : List ℕ) → IsBroken bag v rule name path → ((other place : List ℕ) → IsBroken bag v rule other place → PlaceBefore (other, place) (name, path) → ⊥) → IsLeast bag (Breaks rule name path)
+rule_broken : (bag : List File) → IsBag bag → (v : Version) → DeclaresVersion bag v → (rule : Rule) (name path : List ℕ) → IsBroken bag v rule name path → ((other place : List ℕ) → IsBroken bag v rule other place → BreachBefore (other, place) (name, path) → ⊥) → IsLeast bag (Breaks rule name path)
 rule_broken bag is v declares rule name path broken least = record {
   stands = (v, declares, broken);
   first = λ g n s. at_rule rule (λ x. Stands bag x → Earlier x (Breaks rule name path) → ⊥) not_before g n s;
 }
   where
-    not_before : (other place : List ℕ) → Stands bag (Breaks rule other place) → PlaceBefore (other, place) (name, path) → ⊥
+    not_before : (other place : List ℕ) → Stands bag (Breaks rule other place) → BreachBefore (other, place) (name, path) → ⊥
     not_before other place (w, declares_too, also) before =
         least other place (subst (λ (x : Version). IsBroken bag x rule other place) (sym (one_version bag is v w declares declares_too)) also) before
 
 -- a rule that is found kept is broken nowhere
-pub rule_ok : (bag : List File) → IsBag bag → (v : Version) → DeclaresVersion bag v → (ls : List Listed) → AreListed bag v ls → (rule : Rule) (done : Unit {0}) → kept_by rule (first_place bag rule ls) ≡ Ok done → NoneAt bag (rule_number rule)
-rule_ok bag is v declares ls read rule done e = by_place (first_place bag rule ls) (broken_first bag is v ls read rule) e
+pub rule_ok : (bag : List File) → IsBag bag → (v : Version) → DeclaresVersion bag v → (ls : List Listed) → AreListed bag v ls → (rule : Rule) (done : Unit {0}) → obeyed_by rule (first_breach bag rule ls) ≡ Ok done → NoneAt bag (rule_number rule)
+rule_ok bag is v declares ls read rule done e = by_place (first_breach bag rule ls) (broken_first bag is v ls read rule) e
   where
-    by_place : (o : Option Place) → IsLeastPlace (IsBroken bag v rule) o → kept_by rule o ≡ Ok done → NoneAt bag (rule_number rule)
+    by_place : (o : Option Place) → IsLeastBreach (IsBroken bag v rule) o → obeyed_by rule o ≡ Ok done → NoneAt bag (rule_number rule)
     by_place None least e = rule_kept bag is v declares rule least
     by_place (Some place) least e = absurd cc
 
 -- the broken rule that is named comes first
-pub rule_err : (bag : List File) → IsBag bag → (v : Version) → DeclaresVersion bag v → (ls : List Listed) → AreListed bag v ls → (rule : Rule) (f : Fault) → NoneBelow bag (rule_number rule) → kept_by rule (first_place bag rule ls) ≡ Err f → FirstFault bag f
-rule_err bag is v declares ls read rule f below e = by_place (first_place bag rule ls) (broken_first bag is v ls read rule) e
+pub rule_err : (bag : List File) → IsBag bag → (v : Version) → DeclaresVersion bag v → (ls : List Listed) → AreListed bag v ls → (rule : Rule) (f : Fault) → NoneBelow bag (rule_number rule) → obeyed_by rule (first_breach bag rule ls) ≡ Err f → FirstFault bag f
+rule_err bag is v declares ls read rule f below e = by_place (first_breach bag rule ls) (broken_first bag is v ls read rule) e
   where
-    by_place : (o : Option Place) → IsLeastPlace (IsBroken bag v rule) o → kept_by rule o ≡ Err f → FirstFault bag f
+    by_place : (o : Option Place) → IsLeastBreach (IsBroken bag v rule) o → obeyed_by rule o ≡ Err f → FirstFault bag f
     by_place None least e = absurd cc
-    by_place (Some place) least e = subst (FirstFault bag) (same_err (Breaks rule place.0 place.1) f (kept_by rule (Some place)) refl e)
+    by_place (Some place) least e = subst (FirstFault bag) (same_err (Breaks rule place.0 place.1) f (obeyed_by rule (Some place)) refl e)
         (named_first bag (Breaks rule place.0 place.1) below (rule_broken bag is v declares rule place.0 place.1 least.0 least.1))
 
 -- ---- rule after rule
@@ -221,22 +221,22 @@ Follow n [] m = n ≡ m
 Follow n (rule ∷ rules) m = (rule_number rule ≡ n) × Follow (n + 1) rules m
 
 -- where the rules are found kept none of their numbers stands
-pub rules_ok : (bag : List File) → IsBag bag → (v : Version) → DeclaresVersion bag v → (ls : List Listed) → AreListed bag v ls → (rules : List Rule) (n m : ℕ) → Follow n rules m → NoneBelow bag n → (done : Unit {0}) → keeps bag ls rules ≡ Ok done → NoneBelow bag m
-unfolding keeps
+pub rules_ok : (bag : List File) → IsBag bag → (v : Version) → DeclaresVersion bag v → (ls : List Listed) → AreListed bag v ls → (rules : List Rule) (n m : ℕ) → Follow n rules m → NoneBelow bag n → (done : Unit {0}) → obeys bag ls rules ≡ Ok done → NoneBelow bag m
+unfolding obeys
 rules_ok bag is v declares ls read [] n m follow below done e = subst (λ (k : ℕ). NoneBelow bag k) follow below
 rules_ok bag is v declares ls read (rule ∷ rules) n m follow below done e =
-    let one = bind_ok (kept_by rule (first_place bag rule ls)) (λ _. keeps bag ls rules) done e in
+    let one = bind_ok (obeyed_by rule (first_breach bag rule ls)) (λ _. obeys bag ls rules) done e in
     let none = subst (λ (k : ℕ). NoneAt bag k) follow.0 (rule_ok bag is v declares ls read rule one.0 one.1) in
     rules_ok bag is v declares ls read rules (n + 1) m follow.1 (none_more bag n (n + 1) refl below none) done one.2
 
 -- the broken rule that is named comes first
-pub rules_err : (bag : List File) → IsBag bag → (v : Version) → DeclaresVersion bag v → (ls : List Listed) → AreListed bag v ls → (rules : List Rule) (n m : ℕ) → Follow n rules m → NoneBelow bag n → (f : Fault) → keeps bag ls rules ≡ Err f → FirstFault bag f
-unfolding keeps
+pub rules_err : (bag : List File) → IsBag bag → (v : Version) → DeclaresVersion bag v → (ls : List Listed) → AreListed bag v ls → (rules : List Rule) (n m : ℕ) → Follow n rules m → NoneBelow bag n → (f : Fault) → obeys bag ls rules ≡ Err f → FirstFault bag f
+unfolding obeys
 rules_err bag is v declares ls read [] n m follow below f e = absurd cc
 rules_err bag is v declares ls read (rule ∷ rules) n m follow below f e =
-    by_first (bind_err (kept_by rule (first_place bag rule ls)) (λ _. keeps bag ls rules) f e) (λ next e. rules_err bag is v declares ls read rules (n + 1) m follow.1 next f e)
+    by_first (bind_err (obeyed_by rule (first_breach bag rule ls)) (λ _. obeys bag ls rules) f e) (λ next e. rules_err bag is v declares ls read rules (n + 1) m follow.1 next f e)
   where
-    by_first : (kept_by rule (first_place bag rule ls) ≡ Err f) ⊎ ((done : Unit {0}) × (kept_by rule (first_place bag rule ls) ≡ Ok done) × (keeps bag ls rules ≡ Err f)) → (NoneBelow bag (n + 1) → keeps bag ls rules ≡ Err f → FirstFault bag f) → FirstFault bag f
+    by_first : (obeyed_by rule (first_breach bag rule ls) ≡ Err f) ⊎ ((done : Unit {0}) × (obeyed_by rule (first_breach bag rule ls) ≡ Ok done) × (obeys bag ls rules ≡ Err f)) → (NoneBelow bag (n + 1) → obeys bag ls rules ≡ Err f → FirstFault bag f) → FirstFault bag f
     by_first (inl e) again = rule_err bag is v declares ls read rule f (subst (λ (k : ℕ). NoneBelow bag k) (sym follow.0) below) e
     by_first (inr (done, ok, e)) again =
         again (none_more bag n (n + 1) refl below (subst (λ (k : ℕ). NoneAt bag k) follow.0 (rule_ok bag is v declares ls read rule done ok))) e

@@ -8,7 +8,7 @@ use Rattle.bag_text.specs.ManifestReading.{entry_in}
 use Rattle.bag_check.specs.declared.fault.BagFault.{BagFault}
 use Rattle.bag_check.specs.declared.fault.BagFault.TheVariants as faults
 use Rattle.bag_check.specs.declared.rule.Rule.TheVariants as rules_of
-use Rattle.bag_check.specs.declared.report.BagReport.{BagReport}
+use Rattle.bag_text.specs.declared.report.BagReport.{BagReport}
 use Rattle.bag_check.specs.declared.oxum.Counts.{Counts}
 use Rattle.bag_check.specs.declared.listed.Named.{Named}
 use Rattle.bag_check.specs.declared.listed.Listed.{Listed}
@@ -96,5 +96,5 @@ abbrev pub counts_seen : Counts → ℕ × ℕ
 counts_seen counts = (counts.bytes, counts.files)
 
 -- a place as the definitions speak of it: the manifest's name, and the path
-abbrev pub place_seen : Bor (List ℕ) × CowStr Global → List ℕ × List ℕ
-place_seen place = (place.0.now, cow_str_bytes place.1)
+abbrev pub breach_seen : Bor (List ℕ) × CowStr Global → List ℕ × List ℕ
+breach_seen place = (place.0.now, cow_str_bytes place.1)

@@ -103,13 +103,13 @@ abbrev pub fault_path : Fault → List ℕ
 fault_path (Breaks rule name path) = path
 fault_path fault = []
 
-abbrev pub PlaceBefore : List ℕ × List ℕ → List ℕ × List ℕ → Type 0
-PlaceBefore x y = (comes_before x.0 y.0 ≡ true) ⊎ ((x.0 ≡ y.0) × (comes_before x.1 y.1 ≡ true))
+abbrev pub BreachBefore : List ℕ × List ℕ → List ℕ × List ℕ → Type 0
+BreachBefore x y = (comes_before x.0 y.0 ≡ true) ⊎ ((x.0 ≡ y.0) × (comes_before x.1 y.1 ≡ true))
 
 abbrev pub ComesFirst : Fault → Fault → Type 0
 ComesFirst x y =
     (fault_number x < fault_number y)
-    ⊎ ((fault_number x ≡ fault_number y) × PlaceBefore (fault_name x, fault_path x) (fault_name y, fault_path y))
+    ⊎ ((fault_number x ≡ fault_number y) × BreachBefore (fault_name x, fault_path x) (fault_name y, fault_path y))
 
 -- The fault that is named of a bag: it applies, and none that applies comes before it.
 abbrev pub FirstFault : List File → Fault → Type 0

@@ -143,15 +143,15 @@ asks_for Missing path = false
 asks_for Unlisted path = is_payload path
 asks_for ChecksumWrong path = false
 
-abbrev pub files_asked_for : List File → Rule → List File
-files_asked_for bag rule = filter (λ f. asks_for rule f.path) bag
+abbrev pub files_to_list : List File → Rule → List File
+files_to_list bag rule = filter (λ f. asks_for rule f.path) bag
 
 -- the least path that is listed and breaks a rule, and the least one that is to be listed and isn't
 abbrev pub first_listed : List File → Rule → Entries → Option (List ℕ)
 first_listed bag rule entries = option_map (λ e. e.0) (find (breaks_at bag rule) entries)
 
 abbrev pub first_unlisted : List File → Rule → Entries → Option (List ℕ)
-first_unlisted bag rule entries = find (λ path. not (is_path_listed path entries)) (map (λ f. f.path) (files_asked_for bag rule))
+first_unlisted bag rule entries = find (λ path. not (is_path_listed path entries)) (map (λ f. f.path) (files_to_list bag rule))
 
 -- in one manifest: the least path
 abbrev pub first_in : List File → Rule → Listed → Option (List ℕ)
@@ -160,23 +160,23 @@ first_in bag rule l =
     else if is_about_files rule then first_unlisted bag rule l.entries
     else first_listed bag rule l.entries
 
-abbrev pub or_place : List ℕ → Option (List ℕ) → Option (List ℕ × List ℕ) → Option (List ℕ × List ℕ)
-or_place name (Some path) later = Some (name, path)
-or_place name None later = later
+abbrev pub or_breach : List ℕ → Option (List ℕ) → Option (List ℕ × List ℕ) → Option (List ℕ × List ℕ)
+or_breach name (Some path) later = Some (name, path)
+or_breach name None later = later
 
 -- in all of them: the least name, then the least path
-unfoldable pub first_place : List File → Rule → List Listed → Option (List ℕ × List ℕ)
-first_place bag rule [] = None
-first_place bag rule (l ∷ ls) = or_place l.name (first_in bag rule l) (first_place bag rule ls)
+unfoldable pub first_breach : List File → Rule → List Listed → Option (List ℕ × List ℕ)
+first_breach bag rule [] = None
+first_breach bag rule (l ∷ ls) = or_breach l.name (first_in bag rule l) (first_breach bag rule ls)
 
-abbrev pub kept_by : Rule → Option (List ℕ × List ℕ) → Result (Unit {0}) Fault
-kept_by rule None = Ok tt
-kept_by rule (Some place) = Err (Breaks rule place.0 place.1)
+abbrev pub obeyed_by : Rule → Option (List ℕ × List ℕ) → Result (Unit {0}) Fault
+obeyed_by rule None = Ok tt
+obeyed_by rule (Some place) = Err (Breaks rule place.0 place.1)
 
 -- rule after rule
-unfoldable pub keeps : List File → List Listed → List Rule → Result (Unit {0}) Fault
-keeps bag ls [] = Ok tt
-keeps bag ls (rule ∷ rules) = kept_by rule (first_place bag rule ls) >>= λ _. keeps bag ls rules
+unfoldable pub obeys : List File → List Listed → List Rule → Result (Unit {0}) Fault
+obeys bag ls [] = Ok tt
+obeys bag ls (rule ∷ rules) = obeyed_by rule (first_breach bag rule ls) >>= λ _. obeys bag ls rules
 
 -- the rules about what is listed, checksums aside, by their numbers
 abbrev pub listing_rules : List Rule
@@ -190,8 +190,8 @@ are_others bag None = false
 are_others bag (Some counts) = not (counts.0 == payload_bytes bag) || not (counts.1 == payload_files bag)
 
 -- what the values of `Payload-Oxum` give
-abbrev pub oxums_kept : List File → List (List ℕ) → Result (Unit {0}) Fault
-oxums_kept bag values =
+abbrev pub oxums_obeyed : List File → List (List ℕ) → Result (Unit {0}) Fault
+oxums_obeyed bag values =
     if list_any (λ value. not (is_some (counts_of value))) values then Err OxumForm
     else if nat_lt 1 (length values) then Err OxumTwice
     else if list_any (λ value. are_others bag (counts_of value)) values then Err OxumWrong
@@ -201,24 +201,24 @@ abbrev pub or_info : Result (List Pair) InfoFault → Result (List Pair) Fault
 or_info (Ok pairs) = Ok pairs
 or_info (Err f) = Err (InfoText f)
 
-abbrev pub info_kept : List File → Option (List ℕ) → Result (Unit {0}) Fault
-info_kept bag None = Ok tt
-info_kept bag (Some text) = or_info (info_of text) >>= λ pairs. oxums_kept bag (oxums_of pairs)
+abbrev pub info_obeyed : List File → Option (List ℕ) → Result (Unit {0}) Fault
+info_obeyed bag None = Ok tt
+info_obeyed bag (Some text) = or_info (info_of text) >>= λ pairs. oxums_obeyed bag (oxums_of pairs)
 
-abbrev pub keeps_info : List File → Result (Unit {0}) Fault
-keeps_info bag = info_kept bag (content_at bag info_path)
+abbrev pub obeys_info : List File → Result (Unit {0}) Fault
+obeys_info bag = info_obeyed bag (content_at bag info_path)
 
 -- ---- judging a bag
 
 -- the last steps: `bag-info.txt`, then the checksums
-abbrev pub keeps_contents : List File → List Listed → Result (Unit {0}) Fault
-keeps_contents bag ls = keeps_info bag >>= λ _. keeps bag ls (ChecksumWrong ∷ [])
+abbrev pub obeys_contents : List File → List Listed → Result (Unit {0}) Fault
+obeys_contents bag ls = obeys_info bag >>= λ _. obeys bag ls (ChecksumWrong ∷ [])
 
 abbrev pub judge : List File → Result Report Fault
 judge bag = do
   v ← version_declared bag
   _ ← no_fetch bag
   ls ← listings_in v bag
-  _ ← keeps bag ls listing_rules
-  _ ← keeps_contents bag ls
+  _ ← obeys bag ls listing_rules
+  _ ← obeys_contents bag ls
   Ok (report_of v bag)

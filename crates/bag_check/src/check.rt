@@ -13,19 +13,19 @@ ghost use Rattle.bag_check.specs.declared.fault.BagFault.TheVariants.{Memory};
 ghost use Rattle.bag_check.specs.declared.rule.Rule.TheVariants.{ChecksumWrong};
 ghost use Rattle.bag_check.specs.Digests.{digests_of};
 ghost use Rattle.bag_check.specs.Faults.{Fault, Breaks, FirstFault};
-ghost use Rattle.bag_check.specs.Judging.{version_declared, no_fetch, some_payload, first_place, kept_by, keeps, listing_rules, keeps_contents, listings_in, judge};
+ghost use Rattle.bag_check.specs.Judging.{version_declared, no_fetch, some_payload, first_breach, obeyed_by, obeys, listing_rules, obeys_contents, listings_in, judge};
 ghost use Rattle.bag_check.specs.Answers.{named_fault, named_seen, listed_seen, report_seen, NamesFirst};
 
+use crate::breach::first_breach;
 use crate::digests::digests_of;
 use crate::fault::BagFault;
-use crate::info::keep_info;
+use crate::info::check_info;
 use crate::listed::{Listed, Named, find_manifests, read_manifests};
 use crate::names::{Kind, is_kind};
 use crate::payload::{PayloadCounts, count_payload};
-use crate::place::first_place;
-use crate::report::{BagReport, DigestedReport};
+use crate::report::DigestedReport;
 use crate::rule::Rule;
-use bag_text::{BagSet, Version, read_declaration};
+use bag_text::{BagReport, BagSet, Version, read_declaration};
 use std::alloc::Global;
 use std::borrow::CowStr;
 
@@ -93,27 +93,27 @@ fn fault_at<'a>(rule: Rule, manifest: &'a str, path: CowStr<'a, Global>) -> BagF
 }
 
 /// Refuses a bag that breaks a rule, at the first place.
-fn keep_rule<'a>(bag: &BagSet<'a>, rule: Rule, listed: &[Listed<'a>]) -> Result<(), BagFault<'a>>
+fn check_rule<'a>(bag: &BagSet<'a>, rule: Rule, listed: &[Listed<'a>]) -> Result<(), BagFault<'a>>
     ensures { Gives named_fault (λ unit. unit) result
-        (kept_by rule (first_place bag.now rule (map listed_seen listed.now))) }
+        (obeyed_by rule (first_breach bag.now rule (map listed_seen listed.now))) }
 {
-    match first_place(bag, rule, listed)? {
+    match first_breach(bag, rule, listed)? {
         Some((name, path)) => Err(fault_at(rule, name, path)),
         None => Ok(()),
     }
 }
 
 /// Refuses a bag that breaks one of these rules, the first rule first.
-fn keep_rules<'a>(
+fn check_rules<'a>(
     bag: &BagSet<'a>,
     rules: &[Rule],
     listed: &[Listed<'a>],
 ) -> Result<(), BagFault<'a>>
     ensures { Gives named_fault (λ unit. unit) result
-        (keeps bag.now (map listed_seen listed.now) rules.now) }
+        (obeys bag.now (map listed_seen listed.now) rules.now) }
 {
     for rule in rules {
-        keep_rule(bag, *rule, listed)?;
+        check_rule(bag, *rule, listed)?;
     }
     Ok(())
 }
@@ -129,24 +129,24 @@ const LISTING_RULES: [Rule; 6] = [
 ];
 
 /// Refuses a bag that breaks a rule about what is listed.
-fn keep_listing_rules<'a>(bag: &BagSet<'a>, listed: &[Listed<'a>]) -> Result<(), BagFault<'a>>
+fn check_listing_rules<'a>(bag: &BagSet<'a>, listed: &[Listed<'a>]) -> Result<(), BagFault<'a>>
     ensures { Gives named_fault (λ unit. unit) result
-        (keeps bag.now (map listed_seen listed.now) listing_rules) }
+        (obeys bag.now (map listed_seen listed.now) listing_rules) }
 {
-    keep_rules(bag, &LISTING_RULES, listed)
+    check_rules(bag, &LISTING_RULES, listed)
 }
 
 /// Refuses a bag with a wrong `bag-info.txt`, and then one with a wrong checksum.
-fn keep_contents<'a>(
+fn check_contents<'a>(
     alloc: Global,
     bag: &BagSet<'a>,
     listed: &[Listed<'a>],
 ) -> Result<(), BagFault<'a>>
     ensures { Gives named_fault (λ unit.
-        unit) result (keeps_contents bag.now (map listed_seen listed.now)) }
+        unit) result (obeys_contents bag.now (map listed_seen listed.now)) }
 {
-    keep_info(alloc, bag)?;
-    keep_rules(bag, &[Rule::ChecksumWrong], listed)
+    check_info(alloc, bag)?;
+    check_rules(bag, &[Rule::ChecksumWrong], listed)
 }
 
 /// What the manifests of a bag with these files list, one of them a payload manifest.
@@ -197,13 +197,13 @@ fn judge_files<'a>(
     ensures exact { Gives named_fault (λ judged. report_seen judged.report) result
         (judge bag.now) }
     ensures fixity { IfOk result (λ judged.
-        first_place bag.now ChecksumWrong (map listed_seen judged.listed.items) ≡ None) }
+        first_breach bag.now ChecksumWrong (map listed_seen judged.listed.items) ≡ None) }
 {
     let version = read_version(bag)?;
     refuse_fetch(bag)?;
     let listed = read_listings(alloc, version, files)?;
-    keep_listing_rules(bag, &listed)?;
-    keep_contents(alloc, bag, &listed)?;
+    check_listing_rules(bag, &listed)?;
+    check_contents(alloc, bag, &listed)?;
     let report = report_on(version, bag, listed.len());
     Ok(Judged { report, listed })
 }

@@ -7,7 +7,7 @@ ghost use Rattle.bag_text.specs.Answers.{Gives};
 ghost use Rattle.bag_text.specs.InfoReading.{info_of, pairs_in, pairs_of, pair_in};
 ghost use Rattle.bag_check.specs.Validity.{is_oxum, oxums_of};
 ghost use Rattle.bag_check.specs.OxumReading.{counts_of};
-ghost use Rattle.bag_check.specs.Judging.{or_info, are_others, oxums_kept, keeps_info};
+ghost use Rattle.bag_check.specs.Judging.{or_info, are_others, oxums_obeyed, obeys_info};
 ghost use Rattle.bag_check.specs.Answers.{named_fault};
 
 use crate::fault::BagFault;
@@ -80,12 +80,12 @@ fn has_others(bag: &BagSet<'_>, pairs: &[(&str, CowStr<'_, Global>)]) -> bool
 }
 
 /// Refuses a `Payload-Oxum` that isn't right.
-fn keep_oxums<'a>(
+fn check_oxums<'a>(
     bag: &BagSet<'_>,
     pairs: &[(&str, CowStr<'_, Global>)],
 ) -> Result<(), BagFault<'a>>
     ensures { Gives named_fault (λ unit.
-        unit) result (oxums_kept bag.now (oxums_of (pairs_of pairs.now))) }
+        unit) result (oxums_obeyed bag.now (oxums_of (pairs_of pairs.now))) }
 {
     if has_formless(pairs) {
         return Err(BagFault::OxumForm);
@@ -100,12 +100,12 @@ fn keep_oxums<'a>(
 }
 
 /// Refuses a bag whose `bag-info.txt` can't be read, or has a `Payload-Oxum` that isn't right.
-pub fn keep_info<'a>(alloc: Global, bag: &BagSet<'a>) -> Result<(), BagFault<'a>>
-    ensures { Gives named_fault (λ unit. unit) result (keeps_info bag.now) }
+pub fn check_info<'a>(alloc: Global, bag: &BagSet<'a>) -> Result<(), BagFault<'a>>
+    ensures { Gives named_fault (λ unit. unit) result (obeys_info bag.now) }
 {
     let Some(text) = bag.get("bag-info.txt") else {
         return Ok(());
     };
     let info = read_info(alloc, text)?;
-    keep_oxums(bag, info.pairs.as_slice())
+    check_oxums(bag, info.pairs.as_slice())
 }

@@ -1,19 +1,6 @@
-//! What is counted in a valid bag.
+//! What is counted in a valid bag, with the digests of its files.
 
-use bag_text::Version;
-
-/// What is said of a valid bag.
-#[derive(Clone, Copy, Debug, PartialEq, Eq)]
-pub struct BagReport {
-    /// The version of BagIt that the bag declares.
-    pub version: Version,
-    /// How many payload files there are.
-    pub files: usize,
-    /// How many bytes the payload files have together.
-    pub bytes: usize,
-    /// How many manifests there are, of both kinds.
-    pub manifests: usize,
-}
+use bag_text::BagReport;
 
 /// What is said of a valid bag, and the SHA-256 of each of its files, in their order.
 #[derive(Debug, Drop)]

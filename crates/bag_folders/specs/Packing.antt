@@ -35,15 +35,15 @@ pub record AreInPathOrder (found listed : List Listed) : Type 0 where
 -- ---- the file at fault
 
 -- its place, where the fault is one file's
-abbrev pub fault_place : SetFault → Option ℕ
-fault_place (sets.BadEntry place) = Some place
-fault_place (sets.OutOfOrder place) = Some place
-fault_place (sets.BadPath place) = Some place
-fault_place fault = None
+abbrev pub fault_offset : SetFault → Option ℕ
+fault_offset (sets.BadEntry place) = Some place
+fault_offset (sets.OutOfOrder place) = Some place
+fault_offset (sets.BadPath place) = Some place
+fault_offset fault = None
 
 -- its path
 abbrev pub path_at_fault : SetFault → List (List ℕ) → Option (List ℕ)
-path_at_fault fault paths = option_and_then (slice_get paths) (fault_place fault)
+path_at_fault fault paths = option_and_then (slice_get paths) (fault_offset fault)
 
 -- the paths of the files, and of files that are listed
 abbrev pub paths_found : List File → List (List ℕ)

@@ -42,7 +42,7 @@ fn all_entries<F: Folders>(alloc: Global, folders: &F) -> Result<Vec<Entry>, Fai
 }
 
 /// Keeps the first entry.
-fn keep_first(odd: &mut Option<Odd>, entry: Odd)
+fn note_first(odd: &mut Option<Odd>, entry: Odd)
     ensures { odd.new ≡ option_or odd.old (Some entry) }
 {
     if odd.is_none() {
@@ -64,7 +64,7 @@ fn take_up(found: &mut Found, entry: Entry) -> Result<(), AllocError>
         }
         Kind::Folder => Ok(()),
         Kind::Odd(cause) => {
-            keep_first(&mut found.odd, Odd { path, cause });
+            note_first(&mut found.odd, Odd { path, cause });
             Ok(())
         }
     }

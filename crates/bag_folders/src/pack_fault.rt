@@ -1,7 +1,7 @@
 //! Why a folder isn't packed.
 
 ghost use Rattle.std.specs.Prelude.{◌≡◌, IfOk, option_copied, option_map, string_bytes};
-ghost use Rattle.bag_folders.specs.Packing.{IsNamedAs, pack_failed, fault_place};
+ghost use Rattle.bag_folders.specs.Packing.{IsNamedAs, pack_failed, fault_offset};
 
 use crate::failed::{Failed, Trouble};
 use crate::listed::Odd;
@@ -43,9 +43,9 @@ impl From<Failed> for PackFault {
     }
 }
 
-/// The place of the file at fault, where the fault is one file's.
-pub fn fault_place(fault: SetFault) -> Option<usize>
-    ensures { result ≡ fault_place fault }
+/// The offset of the file at fault, where the fault is one file's.
+pub fn fault_offset(fault: SetFault) -> Option<usize>
+    ensures { result ≡ fault_offset fault }
 {
     match fault {
         SetFault::BadEntry(place) | SetFault::OutOfOrder(place) | SetFault::BadPath(place) => {

@@ -24,7 +24,7 @@ fn name_beside(alloc: Global, file: &str, number: u32) -> Result<String, AllocEr
 }
 
 /// Refuses a name that something has that is no file: a folder, a link, a device.
-fn check_place<R: Files + AllocGlobal>(rt: &R, file: &str) -> Result<(), Failed> {
+fn check_destination<R: Files + AllocGlobal>(rt: &R, file: &str) -> Result<(), Failed> {
     match fs::symlink_metadata(rt, file) {
         Ok(metadata) => {
             if metadata.is_file() {
@@ -76,7 +76,7 @@ fn write_and_rename<R: Files + AllocGlobal>(
 
 /// Writes a file whole, or leaves what has its name as it was.
 pub(crate) fn put<R: Files + AllocGlobal>(rt: &R, file: &str, bytes: &[u8]) -> Result<(), Failed> {
-    check_place(rt, file)?;
+    check_destination(rt, file)?;
     for number in 0..MOST_NAMES {
         let beside = name_beside(rt.alloc(), file, number)?;
         if beside.as_str() == file {

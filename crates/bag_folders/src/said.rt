@@ -12,8 +12,7 @@ use crate::unpack_fault::UnpackFault;
 use crate::unpacking::Unpacked;
 use bag_text::SetFault;
 use fault_words::{
-    Escaped, OddEntry, exists_words, folder_words, form_lines, too_large_words, too_long_words,
-    undeclared_words,
+    Escaped, FolderWords, OddEntry, TooLarge, TooLong, exists_words, form_lines, undeclared_words,
 };
 use std::alloc::{AllocError, Global};
 use std::fmt::Write;
@@ -61,7 +60,7 @@ fn file_reason(alloc: Global, fault: SetFault, path: &str) -> Result<String, All
     ensures { IfOk result (λ line. string_bytes line ≡ file_reason fault path.now) }
 {
     let path = Escaped(path);
-    let words = folder_words(fault);
+    let words = FolderWords(fault);
     let mut line = format!(in alloc; "{path} ")?;
     write!(line, "{words}\n")?;
     Ok(line)
@@ -75,7 +74,7 @@ fn files_reason(alloc: Global, fault: SetFault, path: &Option<String>) -> Result
     match path {
         Some(path) => file_reason(alloc, fault, path.as_str()),
         None => {
-            let words = folder_words(fault);
+            let words = FolderWords(fault);
             format!(in alloc; "{words}\n")
         }
     }
@@ -127,7 +126,10 @@ pub fn pack_said(alloc: Global, packing: Result<Packed, PackFault>) -> Result<Sa
             reason: Some(files_reason(alloc, fault, &path)?),
             is_done: false,
         }),
-        Err(PackFault::Size) => Ok(refusal_said(alloc, "unpackable SIZE\n", too_large_words())?),
+        Err(PackFault::Size) => {
+            let words = TooLarge.to_string(alloc)?;
+            Ok(refusal_said(alloc, "unpackable SIZE\n", words.as_str())?)
+        }
         Err(PackFault::Device(trouble)) => Err(Failed::Device(trouble)),
         Err(PackFault::Memory) => Err(Failed::Memory),
     }
@@ -151,7 +153,10 @@ pub fn unpack_said(alloc: Global, unpacking: Result<Unpacked, UnpackFault>) -> R
             reason: Some(form_lines(alloc, fault, other)?),
             is_done: false,
         }),
-        Err(UnpackFault::Size) => Ok(refusal_said(alloc, "unreadable SIZE\n", too_long_words())?),
+        Err(UnpackFault::Size) => {
+            let words = TooLong.to_string(alloc)?;
+            Ok(refusal_said(alloc, "unreadable SIZE\n", words.as_str())?)
+        }
         Err(UnpackFault::Exists) => Ok(refusal_said(alloc, "exists\n", exists_words())?),
         Err(UnpackFault::Device(trouble)) => Err(Failed::Device(trouble)),
         Err(UnpackFault::Memory) => Err(Failed::Memory),

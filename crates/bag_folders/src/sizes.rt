@@ -9,7 +9,7 @@ ghost use Rattle.bag_folders.specs.Packing.{AllFilesOf, HasNoForm, listed_paths,
 ghost use Rattle.bag_folders.specs.Sizes.{IsFaultFound, emptied, is_too_long, with_long};
 
 use crate::listed::Listed;
-use crate::pack_fault::{PackFault, fault_place, named_fault};
+use crate::pack_fault::{PackFault, fault_offset, named_fault};
 use bag_text::{BagSet, MAX_CONTENT, MAX_FORM, SetFault};
 use std::alloc::{AllocError, Global};
 
@@ -92,7 +92,7 @@ fn is_too_large(files: &[Listed]) -> bool
 fn path_at_fault<'a>(files: &'a [Listed], fault: SetFault) -> Option<&'a str>
     ensures { option_copied result ≡ path_at_fault fault (listed_paths files.now) }
 {
-    let file = files.get(fault_place(fault)?)?;
+    let file = files.get(fault_offset(fault)?)?;
     Some(file.path.as_str())
 }
 

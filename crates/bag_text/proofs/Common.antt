@@ -5,11 +5,11 @@ pub use Rattle.bag_text.specs.BagList.{clash_fault, file_fault, FileFault, IsFro
 unfoldable pub use Rattle.bag_text.specs.BagList.{fault_from}
 pub use Rattle.bag_text.specs.Declaration.{after_label, declaration_fault, Declares, encoding_label, is_supported, is_utf8_name, is_version_text, IsLabelled, version_label, version_text}
 pub use Rattle.bag_text.specs.DeclarationReading.{declaration_of, encoding_fault, exactly_two, version_declared}
-pub use Rattle.bag_text.specs.InfoReading.{AreMarked, colon_cut, extend_last, has_line_feed, IsOwnedIfContinued, Kept, label_of, named_info_fault, pair_in, pair_of, pairs_in, pairs_of, value_of}
+pub use Rattle.bag_text.specs.InfoReading.{AreMarked, colon_cut, extend_last, has_line_feed, IsOwnedIfContinued, CodePair, label_of, named_info_fault, pair_in, pair_of, pairs_in, pairs_of, value_of}
 unfoldable pub use Rattle.bag_text.specs.InfoReading.{add_info_line, info_of, pairs_from}
 pub use Rattle.bag_text.specs.Lines.{AreLines, CR, CRLF, end_bytes, EndsBefore, is_end, LF}
 unfoldable pub use Rattle.bag_text.specs.Lines.{lines}
-pub use Rattle.bag_text.specs.Manifest.{as_manifest, AscendingPaths, checksum_of, coded_character, coded_front, has_coded, IsEntry, IsManifest, IsNoGoodPath, IsReached, IsSoundBefore, itself, LineIs, LineLists, Lists, ListsOn, ManifestFault, nothing, path_text, size_of, Spells, sum_text, triple}
+pub use Rattle.bag_text.specs.Manifest.{as_manifest, AscendingPaths, checksum_of, coded_character, leading_escape, has_coded, IsEntry, IsManifest, IsNoGoodPath, IsReached, IsSoundBefore, itself, LineIs, LineLists, Lists, ListsOn, ManifestFault, nothing, path_text, size_of, Spells, sum_text, triple}
 unfoldable pub use Rattle.bag_text.specs.Manifest.{decode}
 pub use Rattle.bag_text.specs.ManifestReading.{checksum_in, Entries, entries_in, entry_in, good_of, HasEntry, HasPath, is_owned, is_path_listed, listing_at, named_line_fault, next_char, path_spelled, paths_of}
 unfoldable pub use Rattle.bag_text.specs.ManifestReading.{add_line_of, entries_of, entry_of, manifest_of}
@@ -17,8 +17,8 @@ pub use Rattle.bag_text.specs.Paths.{comes_before, GoodPath, is_dots_of, is_good
 pub use Rattle.bag_text.specs.Text.{AreBlanks, begins_with, drop_last_blanks, has_mark, is_blank, skip_blanks, trim_blanks}
 pub use Rattle.bag_text.specs.TransferFaults.{BeginsWith, EntryFault, FaultIs, GoOn, HasSizes, IsEndOrHeader, IsHeaded, IsOpening, IsProperBeginning, last_path, PlaceFault}
 pub use Rattle.bag_text.specs.TransferForm.{Ascends, Clashes, clashes, content_at, ending, entry, File, Fits, Head, header, IsBag, max_content, max_files, opening, set_text}
-pub use Rattle.bag_text.specs.TransferReading.{after_opening, End, Entry, file_of, files_of, IsPlaceOf, named_set_fault, Place, result_at}
-unfoldable pub use Rattle.bag_text.specs.TransferReading.{digits_at, entry_at, file_at, files_at, header_at, literal_at, number_at, place_at, set_of}
+pub use Rattle.bag_text.specs.TransferReading.{after_opening, End, Entry, file_of, files_of, IsPlaceOf, named_set_fault, EndOrHead, result_at}
+unfoldable pub use Rattle.bag_text.specs.TransferReading.{digits_at, entry_at, file_at, files_at, header_at, literal_at, number_at, end_or_head_at, set_of}
 pub use Rattle.bag_text.specs.declared.bag_info.InfoFault.{InfoFault}
 pub use Rattle.bag_text.specs.declared.bag_info.InfoFault.TheVariants.{EmptyLabel, NoColon, StrayContinuation}
 pub use Rattle.bag_text.specs.declared.checksum.Algorithm.{Algorithm}

@@ -1,5 +1,5 @@
 -- The definitions at the bytes of a small bag.
-use Rattle.bag_text.proofs.Common.{◌≡◌, ℕ, List, [], ◌∷◌, ◌++◌, refl, codes, Some, is_utf8, chars, decode_pairs, V1_0, V0_97, PathClash, ListedTwice, StrayContinuation, lines, path_fault, decode, entry_of, add_line_of, entries_of, manifest_of, info_of, pairs_from, add_info_line, File, set_text, set_of, literal_at, digits_at, number_at, header_at, place_at, file_at, entry_at, files_at, Ok, Err, Sha256, declaration_fault, declaration_of}
+use Rattle.bag_text.proofs.Common.{◌≡◌, ℕ, List, [], ◌∷◌, ◌++◌, refl, codes, Some, is_utf8, chars, decode_pairs, V1_0, V0_97, PathClash, ListedTwice, StrayContinuation, lines, path_fault, decode, entry_of, add_line_of, entries_of, manifest_of, info_of, pairs_from, add_info_line, File, set_text, set_of, literal_at, digits_at, number_at, header_at, end_or_head_at, file_at, entry_at, files_at, Ok, Err, Sha256, declaration_fault, declaration_of}
 use Rattle.std.specs.Fmt.{digits}
 use Rattle.bag_text.specs.declared.declaration.DeclFault.TheVariants.{UnsupportedVersion}
 use Rattle.bag_text.specs.declared.path.PathFault.TheVariants.{DotSegment}
@@ -58,7 +58,7 @@ unfolding text bag declaration manifest digits
 is_its_form = refl
 
 is_read : set_of text ≡ Ok bag
-unfolding text bag declaration manifest set_of literal_at digits_at number_at header_at place_at file_at entry_at files_at is_utf8 chars lib.Utf8.encode
+unfolding text bag declaration manifest set_of literal_at digits_at number_at header_at end_or_head_at file_at entry_at files_at is_utf8 chars lib.Utf8.encode
 is_read = refl
 
 -- a file in a file, with another path between them
@@ -68,7 +68,7 @@ clash : set_of (
     ++ codes "FILE 7 0" ++ 10 ∷ [] ++ codes "data/a!" ++ 10 ∷ []
     ++ codes "FILE 8 0" ++ 10 ∷ [] ++ codes "data/a/b" ++ 10 ∷ []
     ++ codes "END" ++ 10 ∷ []) ≡ Err PathClash
-unfolding set_of literal_at digits_at number_at header_at place_at file_at entry_at files_at is_utf8 chars lib.Utf8.encode
+unfolding set_of literal_at digits_at number_at header_at end_or_head_at file_at entry_at files_at is_utf8 chars lib.Utf8.encode
 clash = refl
 
 -- one spelled path in the two versions, and a digit in the other case

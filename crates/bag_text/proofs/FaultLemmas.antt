@@ -1,5 +1,5 @@
 -- The faults of reading are those of the table.
-use Rattle.bag_text.proofs.FirstLemmas.{err_through, never_both, ◌≡◌, ℕ, inl, inr, Bool, true, false, cond, eqb, List, [], ◌∷◌, ◌++◌, refl, sym, ap, subst, ◌∙◌, arith, append_assoc, lit<, lit≤, decimal, append-nil, Flaw, Short, Bad, ◌>>=◌, Place, End, Entry, literal_at, number_at, header_at, place_at, Head, header, ending, max_content, max_path, BeginsWith, IsProperBeginning, HasSizes, IsEndOrHeader, Result, Ok, Err, number_ok, number_again, number_short, number_bad, HeadFits, file_word, after_word, steps, spelled, literal_ok, literal_again, literal_ends, literal_bad}
+use Rattle.bag_text.proofs.FirstLemmas.{err_through, never_both, ◌≡◌, ℕ, inl, inr, Bool, true, false, cond, eqb, List, [], ◌∷◌, ◌++◌, refl, sym, ap, subst, ◌∙◌, arith, append_assoc, lit<, lit≤, decimal, append-nil, Flaw, Short, Bad, ◌>>=◌, EndOrHead, End, Entry, literal_at, number_at, header_at, end_or_head_at, Head, header, ending, max_content, max_path, BeginsWith, IsProperBeginning, HasSizes, IsEndOrHeader, Result, Ok, Err, number_ok, number_again, number_short, number_bad, HeadFits, file_word, after_word, steps, spelled, literal_ok, literal_again, literal_ends, literal_bad}
 use Rattle.bag_text.proofs.FormLemmas.{place_header}
 
 -- ---- headers that end too soon, and bad ones
@@ -74,11 +74,11 @@ sized p c fits = record { some_path = fits.path.low; short_path = fits.path.high
 pub fit : (p c : ℕ) → HasSizes p c → HeadFits p c
 fit p c sizes = record { path = record { low = sizes.some_path; high = sizes.short_path }; content = record { low = omega arith; high = sizes.short_content } }
 
-unplaced : (t : List ℕ) (p : Place) → place_at t ≡ Ok p → (f : Flaw) → place_at t ≡ Err f → ⊥
-unplaced t p e f g = never_both p f (place_at t) e g
+unplaced : (t : List ℕ) (p : EndOrHead) → end_or_head_at t ≡ Ok p → (f : Flaw) → end_or_head_at t ≡ Err f → ⊥
+unplaced t p e f g = never_both p f (end_or_head_at t) e g
 
-place_bad : (t more : List ℕ) → place_at t ≡ Err Bad → place_at (t ++ more) ≡ Err Bad
-unfolding place_at
+place_bad : (t more : List ℕ) → end_or_head_at t ≡ Err Bad → end_or_head_at (t ++ more) ≡ Err Bad
+unfolding end_or_head_at
 place_bad [] more e = absurd cc
 place_bad (b ∷ t) more e = by_first (eqb b 69) e
   where
@@ -87,23 +87,23 @@ place_bad (b ∷ t) more e = by_first (eqb b 69) e
     by_first true e = rw (literal_bad ending (b ∷ t) more (err_through (literal_at ending (b ∷ t)) (λ rest. End rest) Bad e)) refl
     by_first false e = rw (header_bad (b ∷ t) more (err_through (header_at (b ∷ t)) (λ head. Entry head) Bad e)) refl
 
-pub place_end : (rest : List ℕ) → place_at (ending ++ rest) ≡ Ok (End rest)
-unfolding place_at literal_at
+pub place_end : (rest : List ℕ) → end_or_head_at (ending ++ rest) ≡ Ok (End rest)
+unfolding end_or_head_at literal_at
 place_end rest = refl
 
-nothing_stands : (t : List ℕ) (f : Flaw) → place_at t ≡ Err f → BeginsWith IsEndOrHeader t → ⊥
+nothing_stands : (t : List ℕ) (f : Flaw) → end_or_head_at t ≡ Err f → BeginsWith IsEndOrHeader t → ⊥
 nothing_stands t f e (front, rest, what, is) = by_kind what
   where
     by_kind : IsEndOrHeader front → ⊥
-    by_kind (inl end) = unplaced t (End rest) (ap place_at (is ∙ ap (λ (x : List ℕ). x ++ rest) end) ∙ place_end rest) f e
-    by_kind (inr h) = unplaced t (Entry (record { path_len = h.0; content_len = h.1; rest = rest })) (ap place_at (is ∙ ap (λ (x : List ℕ). x ++ rest) h.3) ∙ place_header h.0 h.1 rest (fit h.0 h.1 h.2)) f e
+    by_kind (inl end) = unplaced t (End rest) (ap end_or_head_at (is ∙ ap (λ (x : List ℕ). x ++ rest) end) ∙ place_end rest) f e
+    by_kind (inr h) = unplaced t (Entry (record { path_len = h.0; content_len = h.1; rest = rest })) (ap end_or_head_at (is ∙ ap (λ (x : List ℕ). x ++ rest) h.3) ∙ place_header h.0 h.1 rest (fit h.0 h.1 h.2)) f e
 
 -- a fault of what stands there is the one of the table
-pub bad_place : (t : List ℕ) → place_at t ≡ Err Bad → (BeginsWith IsEndOrHeader t → ⊥) × (IsProperBeginning IsEndOrHeader t → ⊥)
+pub bad_place : (t : List ℕ) → end_or_head_at t ≡ Err Bad → (BeginsWith IsEndOrHeader t → ⊥) × (IsProperBeginning IsEndOrHeader t → ⊥)
 bad_place t e = (nothing_stands t Bad e, λ proper. nothing_stands (t ++ proper.0) Bad (place_bad t proper.0 e) (t ++ proper.0, [], proper.2, sym (append-nil (t ++ proper.0))))
 
-completes : (t : List ℕ) → place_at t ≡ Err Short → (more : List ℕ) × IsEndOrHeader (t ++ more)
-unfolding place_at
+completes : (t : List ℕ) → end_or_head_at t ≡ Err Short → (more : List ℕ) × IsEndOrHeader (t ++ more)
+unfolding end_or_head_at
 completes [] e = (ending, inl refl)
 completes (b ∷ t) e = by_first (eqb b 69) e
   where
@@ -111,7 +111,7 @@ completes (b ∷ t) e = by_first (eqb b 69) e
     by_first true e = let w = literal_ends ending (b ∷ t) (err_through (literal_at ending (b ∷ t)) (λ rest. End rest) Short e) in (w.0, inl w.1)
     by_first false e = let h = header_short (b ∷ t) (err_through (header_at (b ∷ t)) (λ head. Entry head) Short e) in (h.2, inr (h.0, h.1, sized h.0 h.1 h.3, h.4))
 
-pub short_place : (t : List ℕ) → place_at t ≡ Err Short → IsProperBeginning IsEndOrHeader t
+pub short_place : (t : List ℕ) → end_or_head_at t ≡ Err Short → IsProperBeginning IsEndOrHeader t
 short_place t e =
     let w = completes t e in
     (w.0, (λ none. nothing_stands t Short e (t, [], subst (λ (x : List ℕ). IsEndOrHeader x) (ap (λ (x : List ℕ). t ++ x) none ∙ append-nil t) w.1, sym (append-nil t))), w.1)

@@ -1,5 +1,5 @@
 -- What is read is a transfer form, and a transfer form is read.
-use Rattle.bag_text.proofs.FirstLemmas.{and_parts, bind_ok, ok_if, ok_unless, never_both, ◌≡◌, ℕ, zero, suc, ◌+◌, ◌-◌, ◌<◌, ◌≤◌, Bool, true, false, cond, eqb, ltb, not, List, [], ◌∷◌, ◌++◌, length, get_or, take, drop, refl, sym, ap, subst, ◌∙◌, arith, append_assoc, IfOk, Option, Some, None, is_none, is_utf8, flat_map, AllByRecursion, nat_tests, not-false, eqb-true, ltb-false, le-ltb, append-nil, take_at, drop_at, take-append-drop, length-append, length-take, length-drop, drop_more, Flaw, Short, Bad, SetFault, BadEntry, Truncated, OutOfOrder, BadPath, TrailingBytes, PathClash, path_fault, ◌>>=◌, Gives, Place, End, Entry, literal_at, header_at, place_at, file_at, result_at, entry_at, files_at, after_opening, set_of, named_set_fault, File, Head, header, entry, opening, ending, set_text, max_content, max_files, Ascends, clashes, Fits, IsBag, max_path, is_good, comes_before, Result, Ok, Err, ok_is, InBounds, HeadFits, literal_ok, literal_again, header_ok, header_again}
+use Rattle.bag_text.proofs.FirstLemmas.{and_parts, bind_ok, ok_if, ok_unless, never_both, ◌≡◌, ℕ, zero, suc, ◌+◌, ◌-◌, ◌<◌, ◌≤◌, Bool, true, false, cond, eqb, ltb, not, List, [], ◌∷◌, ◌++◌, length, get_or, take, drop, refl, sym, ap, subst, ◌∙◌, arith, append_assoc, IfOk, Option, Some, None, is_none, is_utf8, flat_map, AllByRecursion, nat_tests, not-false, eqb-true, ltb-false, le-ltb, append-nil, take_at, drop_at, take-append-drop, length-append, length-take, length-drop, drop_more, Flaw, Short, Bad, SetFault, BadEntry, Truncated, OutOfOrder, BadPath, TrailingBytes, PathClash, path_fault, ◌>>=◌, Gives, EndOrHead, End, Entry, literal_at, header_at, end_or_head_at, file_at, result_at, entry_at, files_at, after_opening, set_of, named_set_fault, File, Head, header, entry, opening, ending, set_text, max_content, max_files, Ascends, clashes, Fits, IsBag, max_path, is_good, comes_before, Result, Ok, Err, ok_is, InBounds, HeadFits, literal_ok, literal_again, header_ok, header_again}
 use Rattle.bag_text.specs.TransferReading.{entry_of}
 
 -- a file with its bytes in place
@@ -65,23 +65,23 @@ path_fits path e = record { low = by_empty (eqb (length path) 0) refl; high = by
 -- ---- the entry that a text begins with
 
 pub end_again : (offset left : ℕ) (before : List ℕ) → entry_at offset left before ending ≡ Ok None
-unfolding entry_at place_at literal_at
+unfolding entry_at end_or_head_at literal_at
 end_again offset zero before = refl
 end_again offset (suc left) before = refl
 
 entry_bytes : (f : File) (rest : List ℕ) → entry f ++ rest ≡ header (length f.path) (length f.content) ++ (f.path ++ (f.content ++ 10 ∷ rest))
 entry_bytes f rest = simp append_assoc
 
-pub place_header : (p c : ℕ) (rest : List ℕ) → HeadFits p c → place_at (header p c ++ rest) ≡ Ok (Entry (record { path_len = p; content_len = c; rest = rest }))
-unfolding place_at
+pub place_header : (p c : ℕ) (rest : List ℕ) → HeadFits p c → end_or_head_at (header p c ++ rest) ≡ Ok (Entry (record { path_len = p; content_len = c; rest = rest }))
+unfolding end_or_head_at
 place_header p c rest fits = rw (header_again p c rest fits) refl
 
 pub entry_again : (offset more : ℕ) (before : List ℕ) (f : File) (rest : List ℕ) → Fits f → comes_before before f.path ≡ true → entry_at offset (suc more) before (entry f ++ rest) ≡ Ok (Some (f, rest))
 unfolding entry_at
 entry_again offset more before f rest fits after =
     let head : HeadFits (length f.path) (length f.content) = record { path = path_fits f.path fits.good; content = record { low = omega arith; high = fits.small } } in
-    let place : place_at (entry f ++ rest) ≡ Ok (Entry (record { path_len = length f.path; content_len = length f.content; rest = f.path ++ (f.content ++ 10 ∷ rest) })) = ap place_at (entry_bytes f rest) ∙ place_header (length f.path) (length f.content) (f.path ++ (f.content ++ 10 ∷ rest)) head in
-    ap (λ (p : Result Place Flaw). result_at offset p >>= entry_of offset (suc more) before) place ∙ rw (file_again offset before f rest fits.good after) refl
+    let place : end_or_head_at (entry f ++ rest) ≡ Ok (Entry (record { path_len = length f.path; content_len = length f.content; rest = f.path ++ (f.content ++ 10 ∷ rest) })) = ap end_or_head_at (entry_bytes f rest) ∙ place_header (length f.path) (length f.content) (f.path ++ (f.content ++ 10 ∷ rest)) head in
+    ap (λ (p : Result EndOrHead Flaw). result_at offset p >>= entry_of offset (suc more) before) place ∙ rw (file_again offset before f rest fits.good after) refl
 
 pub files_again : (whole : ℕ) (fs : List File) (left : ℕ) (before : List ℕ) → length fs ≤ left → AllByRecursion Fits fs → Ascends before fs → files_at whole left before (flat_map entry fs ++ ending) ≡ Ok fs
 unfolding files_at
@@ -102,25 +102,25 @@ set_again fs bag =
 
 -- ---- what is read
 
-pub record IsPlace (t : List ℕ) (p : Place) : Type 0 where
+pub record IsPlace (t : List ℕ) (p : EndOrHead) : Type 0 where
   pub at_end : (rest : List ℕ) → p ≡ End rest → t ≡ ending ++ rest
   pub at_entry : (head : Head) → p ≡ Entry head → (t ≡ header head.path_len head.content_len ++ head.rest) × HeadFits head.path_len head.content_len
 
-pub place_ok : (t : List ℕ) (p : Place) → place_at t ≡ Ok p → IsPlace t p
-unfolding place_at
+pub place_ok : (t : List ℕ) (p : EndOrHead) → end_or_head_at t ≡ Ok p → IsPlace t p
+unfolding end_or_head_at
 place_ok [] p e = absurd cc
 place_ok (b ∷ t) p e = by_first (eqb b 69) e
   where
     by_first : (x : Bool) → cond x (literal_at ending (b ∷ t) >>= λ rest. Ok (End rest)) (header_at (b ∷ t) >>= λ head. Ok (Entry head)) ≡ Ok p → IsPlace (b ∷ t) p
     by_first true e =
         let read = bind_ok (literal_at ending (b ∷ t)) (λ rest. Ok (End rest)) p e in
-        subst (λ (p : Place). IsPlace (b ∷ t) p) (ok_is (End read.0) p read.2) (record {
+        subst (λ (p : EndOrHead). IsPlace (b ∷ t) p) (ok_is (End read.0) p read.2) (record {
           at_end = λ other same. literal_ok ending (b ∷ t) other (read.1 ∙ (let k : read.0 ≡ other = cc in rw k refl));
           at_entry = λ head same. absurd cc;
         })
     by_first false e =
         let read = bind_ok (header_at (b ∷ t)) (λ head. Ok (Entry head)) p e in
-        subst (λ (p : Place). IsPlace (b ∷ t) p) (ok_is (Entry read.0) p read.2) (record {
+        subst (λ (p : EndOrHead). IsPlace (b ∷ t) p) (ok_is (Entry read.0) p read.2) (record {
           at_end = λ rest same. absurd cc;
           at_entry = λ other same. header_ok (b ∷ t) other (read.1 ∙ (let k : read.0 ≡ other = cc in rw k refl));
         })
@@ -142,13 +142,13 @@ entry_whole offset before t head x is e =
 
 pub entry_ok : (offset left : ℕ) (before t : List ℕ) (o : Option (File × List ℕ)) → entry_at offset left before t ≡ Ok o → IsEntry before t o
 unfolding entry_at
-entry_ok offset left before t o e = by_place left (place_at t) refl e
+entry_ok offset left before t o e = by_place left (end_or_head_at t) refl e
   where
-    by_place : (left : ℕ) (r : Result Place Flaw) → place_at t ≡ r → (result_at offset r >>= entry_of offset left before) ≡ Ok o → IsEntry before t o
+    by_place : (left : ℕ) (r : Result EndOrHead Flaw) → end_or_head_at t ≡ r → (result_at offset r >>= entry_of offset left before) ≡ Ok o → IsEntry before t o
     by_place left (Err f) is e = absurd cc
     by_place left (Ok (End rest)) is e = by_rest rest is e
       where
-        by_rest : (rest : List ℕ) → place_at t ≡ Ok (End rest) → (cond (eqb (length rest) 0) (Ok None) (Err TrailingBytes)) ≡ Ok o → IsEntry before t o
+        by_rest : (rest : List ℕ) → end_or_head_at t ≡ Ok (End rest) → (cond (eqb (length rest) 0) (Ok None) (Err TrailingBytes)) ≡ Ok o → IsEntry before t o
         by_rest [] is e = subst (λ (o : Option (File × List ℕ)). IsEntry before t o) (ok_is None o e) (record {
           none = λ _. (place_ok t (End []) is).at_end [] refl ∙ append-nil ending;
           some = λ x same. absurd cc;
@@ -165,9 +165,9 @@ entry_ok offset left before t o e = by_place left (place_at t) refl e
 
 no_file_past_limit : (offset : ℕ) (before text : List ℕ) (file : File × List ℕ) → entry_at offset 0 before text ≡ Ok (Some file) → ⊥
 unfolding entry_at
-no_file_past_limit offset before text file e = by_place (place_at text) e
+no_file_past_limit offset before text file e = by_place (end_or_head_at text) e
   where
-    by_place : (p : Result Place Flaw) → (result_at offset p >>= entry_of offset 0 before) ≡ Ok (Some file) → ⊥
+    by_place : (p : Result EndOrHead Flaw) → (result_at offset p >>= entry_of offset 0 before) ≡ Ok (Some file) → ⊥
     by_place (Ok (End rest)) h = let wrong = (ok_if (eqb (length rest) 0) (Ok None) TrailingBytes (Some file) h).1 in absurd cc
     by_place (Ok (Entry head)) h = absurd cc
     by_place (Err flaw) h = absurd cc
@@ -239,7 +239,7 @@ not_nil : (b : ℕ) (more : List ℕ) → eqb (length (b ∷ more)) 0 ≡ false
 not_nil b more = let some : 0 < length (b ∷ more) = omega arith in grind (arith, nat_tests)
 
 pub end_trails : (offset left b : ℕ) (before more : List ℕ) → entry_at offset left before (ending ++ b ∷ more) ≡ Err TrailingBytes
-unfolding entry_at place_at literal_at
+unfolding entry_at end_or_head_at literal_at
 end_trails offset zero b before more = rw (not_nil b more) refl
 end_trails offset (suc left) b before more = rw (not_nil b more) refl
 

@@ -1,5 +1,5 @@
 -- Reading the lines of `bag-info.txt`.
-use Rattle.bag_text.proofs.FirstLemmas.{inl, inr, cases_Bool, some_if, ok_unless, ok_is, ◌≡◌, one-add, ℕ, suc, zero, ◌+◌, ◌-◌, ◌<◌, ◌≤◌, Bool, true, false, cond, eqb, not, ◌||◌, List, [], ◌∷◌, ◌++◌, length, take, drop, refl, sym, ap, subst, ◌∙◌, ◌⊎◌, arith, append_assoc, Option, Some, None, Result, Ok, Err, Contains, list_any, list_all, position_or_len, AllByRecursion, option_to_list, is_utf8, IsCharBoundary, cow_str_bytes, IsUtf8-from_is_utf8, is_utf8-from_IsUtf8, IsUtf8-take, IsUtf8-drop, IsCharBoundary-after_ascii, prefix_len-le-length, append-nil, map_push, nil_from_length, same_Some, list_any-append, and_parts, or_parts, or_right, eqb-true, get_or-append_seam, take-append_seam, drop-append-add, take-length, is_blank, AreBlanks, skip_blanks, drop_last_blanks, is_end, lines, LF, CR, CRLF, end_bytes, EndsBefore, AreLines, InfoFault, NoColon, EmptyLabel, StrayContinuation, Pair, is_colon, begins_blank, ◌>>=◌, FailsAs, label_of, value_of, colon_cut, pair_of, extend_last, add_info_line, pairs_from, named_info_fault, Kept, pair_in, pairs_of, has_line_feed, IsOwnedIfContinued, AreMarked, length-append, IsUtf8, fails_on, dropped}
+use Rattle.bag_text.proofs.FirstLemmas.{inl, inr, cases_Bool, some_if, ok_unless, ok_is, ◌≡◌, one-add, ℕ, suc, zero, ◌+◌, ◌-◌, ◌<◌, ◌≤◌, Bool, true, false, cond, eqb, not, ◌||◌, List, [], ◌∷◌, ◌++◌, length, take, drop, refl, sym, ap, subst, ◌∙◌, ◌⊎◌, arith, append_assoc, Option, Some, None, Result, Ok, Err, Contains, list_any, list_all, position_or_len, AllByRecursion, option_to_list, is_utf8, IsCharBoundary, cow_str_bytes, IsUtf8-from_is_utf8, is_utf8-from_IsUtf8, IsUtf8-take, IsUtf8-drop, IsCharBoundary-after_ascii, prefix_len-le-length, append-nil, map_push, nil_from_length, same_Some, list_any-append, and_parts, or_parts, or_right, eqb-true, get_or-append_seam, take-append_seam, drop-append-add, take-length, is_blank, AreBlanks, skip_blanks, drop_last_blanks, is_end, lines, LF, CR, CRLF, end_bytes, EndsBefore, AreLines, InfoFault, NoColon, EmptyLabel, StrayContinuation, Pair, is_colon, begins_blank, ◌>>=◌, FailsAs, label_of, value_of, colon_cut, pair_of, extend_last, add_info_line, pairs_from, named_info_fault, CodePair, pair_in, pairs_of, has_line_feed, IsOwnedIfContinued, AreMarked, length-append, IsUtf8, fails_on, dropped}
 use Rattle.bag_text.specs.Lines.{End}
 use Rattle.std.proofs.lemmas.List.Elements.{Contains-append_left, Contains-push_cases}
 use Rattle.bag_text.proofs.LineLemmas.{no_lines, are_lines}
@@ -174,11 +174,11 @@ add_continued n before line e g = rw (e, g) refl
 -- ---- the last pair
 
 -- pairs of which the last was taken
-last_is : (old init : List Kept) (last : Option Kept) (kept : Kept) → old ≡ init ++ option_to_list last → last ≡ Some kept → old ≡ init ++ kept ∷ []
-last_is old init last kept is some = is ∙ ap (λ (o : Option Kept). init ++ option_to_list o) some
+last_is : (old init : List CodePair) (last : Option CodePair) (kept : CodePair) → old ≡ init ++ option_to_list last → last ≡ Some kept → old ≡ init ++ kept ∷ []
+last_is old init last kept is some = is ∙ ap (λ (o : Option CodePair). init ++ option_to_list o) some
 
 -- the last pair with one line more
-pub continued : (n : ℕ) (old init now : List Kept) (last : Option Kept) (kept next : Kept) (line : List ℕ) → old ≡ init ++ option_to_list last → last ≡ Some kept → now ≡ init ++ next ∷ [] → pair_in next ≡ record { label = kept.0.now; value = cow_str_bytes kept.1 ++ 10 ∷ line }
+pub continued : (n : ℕ) (old init now : List CodePair) (last : Option CodePair) (kept next : CodePair) (line : List ℕ) → old ≡ init ++ option_to_list last → last ≡ Some kept → now ≡ init ++ next ∷ [] → pair_in next ≡ record { label = kept.0.now; value = cow_str_bytes kept.1 ++ 10 ∷ line }
     → cond (eqb (length (pairs_of old)) 0) (Err (StrayContinuation n)) (Ok (extend_last (pairs_of old) line)) ≡ Ok (pairs_of now)
 continued n old init now last kept next line is some now-is next-is =
     let before : pairs_of old ≡ pairs_of init ++ pair_in kept ∷ [] = ap pairs_of (last_is old init last kept is some) ∙ map_push pair_in init kept in
@@ -191,20 +191,20 @@ pub joined_feed : (value more line : List ℕ) → value ≡ more ++ 10 ∷ line
 joined_feed value more line is = ap has_line_feed is ∙ list_any-append (λ b. eqb b 10) more (10 ∷ line) ∙ or_right (list_any (λ b. eqb b 10) more) true refl
 
 -- no pairs
-pub none_marked : (now : List Kept) → now ≡ [] → AreMarked now
-none_marked now is other in_now = let place = (subst (λ (x : List Kept). Contains x other) is in_now).1 in absurd (omega (arith, place))
+pub none_marked : (now : List CodePair) → now ≡ [] → AreMarked now
+none_marked now is other in_now = let place = (subst (λ (x : List CodePair). Contains x other) is in_now).1 in absurd (omega (arith, place))
 
 -- pairs of which the last is another
-pub marked_last : (old init now : List Kept) (last : Option Kept) (kept next : Kept) → old ≡ init ++ option_to_list last → last ≡ Some kept → now ≡ init ++ next ∷ [] → IsOwnedIfContinued next → AreMarked old → AreMarked now
-marked_last old init now last kept next is some now-is marked all other in_now = by_place (Contains-push_cases init next other (subst (λ (x : List Kept). Contains x other) now-is in_now))
+pub marked_last : (old init now : List CodePair) (last : Option CodePair) (kept next : CodePair) → old ≡ init ++ option_to_list last → last ≡ Some kept → now ≡ init ++ next ∷ [] → IsOwnedIfContinued next → AreMarked old → AreMarked now
+marked_last old init now last kept next is some now-is marked all other in_now = by_place (Contains-push_cases init next other (subst (λ (x : List CodePair). Contains x other) now-is in_now))
   where
     by_place : Contains init other ⊎ (next ≡ other) → IsOwnedIfContinued other
-    by_place (inl before) = all other (subst (λ (x : List Kept). Contains x other) (sym (last_is old init last kept is some)) (Contains-append_left init (kept ∷ []) other before))
+    by_place (inl before) = all other (subst (λ (x : List CodePair). Contains x other) (sym (last_is old init last kept is some)) (Contains-append_left init (kept ∷ []) other before))
     by_place (inr same) = subst IsOwnedIfContinued same marked
 
 -- pairs and one more
-pub marked_more : (old now : List Kept) (next : Kept) → now ≡ old ++ next ∷ [] → IsOwnedIfContinued next → AreMarked old → AreMarked now
-marked_more old now next now-is marked all other in_now = by_place (Contains-push_cases old next other (subst (λ (x : List Kept). Contains x other) now-is in_now))
+pub marked_more : (old now : List CodePair) (next : CodePair) → now ≡ old ++ next ∷ [] → IsOwnedIfContinued next → AreMarked old → AreMarked now
+marked_more old now next now-is marked all other in_now = by_place (Contains-push_cases old next other (subst (λ (x : List CodePair). Contains x other) now-is in_now))
   where
     by_place : Contains old other ⊎ (next ≡ other) → IsOwnedIfContinued other
     by_place (inl before) = all other before

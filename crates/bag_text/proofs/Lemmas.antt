@@ -1,7 +1,7 @@
 -- The lemmas of this crate that several proofs of its functions cite, passed on from one place. Declares nothing.
 pub use Rattle.bag_text.proofs.BagListLemmas.{ascends, has_fault, is_list, is_made, is_refused, made_bag, met, none_left, passed, text_is_good}
 pub use Rattle.bag_text.proofs.ClashLemmas.{clash_at, clash_law, not_under, under_rest}
-pub use Rattle.bag_text.proofs.Common.{◌+◌, ◌++◌, ◌<◌, ◌==◌, [], AllByRecursion, ap, AreMarked, arith, Ascends, clashes, comes_before, content_at, Decides-eqb, decode, drop, entry, eqb, Equal, err_from_is_err_and, false, fault_from, File, file_of, files_at, files_of, flat_map, Gives, Greater, is_blank, is_colon, is_end, is_good, is_some, is_utf8-from_IsUtf8, IsPartitionPoint-from_clause, IsUtf8-from_is_utf8, Kept, length, Less, lies_under, lines, List, list_all, list_any, listing_at, map, map_push, max_files, named_set_fault, nat_tests, not, option_map, pairs_from, pairs_of, position_from_yields_List, refl, rules, set_of, slice_get, strip_prefix_is, subst, sym, true, unwrap_or, YieldsList-from_slice, ℕ, ◌∙◌, ◌∷◌, ◌≡◌, ◌≤◌}
+pub use Rattle.bag_text.proofs.Common.{◌+◌, ◌++◌, ◌<◌, ◌==◌, [], AllByRecursion, ap, AreMarked, arith, Ascends, clashes, comes_before, content_at, Decides-eqb, decode, drop, entry, eqb, Equal, err_from_is_err_and, false, fault_from, File, file_of, files_at, files_of, flat_map, Gives, Greater, is_blank, is_colon, is_end, is_good, is_some, is_utf8-from_IsUtf8, IsPartitionPoint-from_clause, IsUtf8-from_is_utf8, CodePair, length, Less, lies_under, lines, List, list_all, list_any, listing_at, map, map_push, max_files, named_set_fault, nat_tests, not, option_map, pairs_from, pairs_of, position_from_yields_List, refl, rules, set_of, slice_get, strip_prefix_is, subst, sym, true, unwrap_or, YieldsList-from_slice, ℕ, ◌∙◌, ◌∷◌, ◌≡◌, ◌≤◌}
 pub use Rattle.bag_text.proofs.FormLemmas.{files_ok, is_found, none_begins, set_again, set_ok, two_texts}
 pub use Rattle.bag_text.proofs.InfoReadLemmas.{add_continued, all_read, continued, first_sound, IsSoundLine, joined_feed, label_text, line_fails, marked_last, marked_more, more_than_blanks, next_line, no_rest, none_marked, nothing_behind, pair_feed, skipped_text, something_behind, sound_lines, value_text, was_cut}
 pub use Rattle.bag_text.proofs.LineLemmas.{are_lines, found_or_len, no_lines, one_list}

@@ -1,5 +1,5 @@
 -- Spelled paths.
-use Rattle.bag_text.proofs.Common.{inl, inr, cases_Bool, ◌≡◌, ℕ, ◌+◌, ◌≤◌, true, false, cond, not, List, [], ◌∷◌, ◌++◌, length, refl, sym, ap, subst, ◌∙◌, append_assoc, Option, Some, None, list_all, position_or_len, and_parts, or_parts, prefix_len-le-length, append-nil, same_Some, Version, is_none, is_some, Result, Ok, Err, Ordering, Less, Equal, Greater, nat_cmp, match_ordering, is_eq, slice_cmp, insert_entry, is_at, lookup, cow_str_bytes, Algorithm, LineFault, ListedTwice, lines, is_utf8, path_fault, is_good, is_blank, coded_character, coded_front, has_coded, Spells, nothing, triple, itself, decode, FailsAs, next_char, Entries, entry_in, is_path_listed, entry_of, add_line_of, entries_of, named_line_fault, map, CowStr, Global, Listing}
+use Rattle.bag_text.proofs.Common.{inl, inr, cases_Bool, ◌≡◌, ℕ, ◌+◌, ◌≤◌, true, false, cond, not, List, [], ◌∷◌, ◌++◌, length, refl, sym, ap, subst, ◌∙◌, append_assoc, Option, Some, None, list_all, position_or_len, and_parts, or_parts, prefix_len-le-length, append-nil, same_Some, Version, is_none, is_some, Result, Ok, Err, Ordering, Less, Equal, Greater, nat_cmp, match_ordering, is_eq, slice_cmp, insert_entry, is_at, lookup, cow_str_bytes, Algorithm, LineFault, ListedTwice, lines, is_utf8, path_fault, is_good, is_blank, coded_character, leading_escape, has_coded, Spells, nothing, triple, itself, decode, FailsAs, next_char, Entries, entry_in, is_path_listed, entry_of, add_line_of, entries_of, named_line_fault, map, CowStr, Global, Listing}
 use Rattle.bag_text.proofs.ResultLemmas.{no_value, fails_on}
 use Rattle.bag_text.proofs.LineLemmas.{no_lines}
 
@@ -153,7 +153,7 @@ spelled_is_decoded v s p nothing = refl
 spelled_is_decoded v s p (triple {a = a} {b = b} {c = c} {x = x} {s = t} {p = q} e rest) = by_code v a b c t ∙ ap (decode_by v a (b ∷ c ∷ t) t) e ∙ ap (λ (r : List ℕ). x ∷ r) (spelled_is_decoded v t q rest)
 spelled_is_decoded v s p (itself {a = a} {s = t} {p = q} e rest) = of_rest t e (spelled_is_decoded v t q rest)
   where
-    of_rest : (t : List ℕ) → coded_front v (a ∷ t) ≡ None → decode v t ≡ q → decode v (a ∷ t) ≡ a ∷ q
+    of_rest : (t : List ℕ) → leading_escape v (a ∷ t) ≡ None → decode v t ≡ q → decode v (a ∷ t) ≡ a ∷ q
     of_rest [] e again = ap (λ (r : List ℕ). a ∷ r) again
     of_rest (b ∷ []) e again = ap (λ (r : List ℕ). a ∷ r) again
     of_rest (b ∷ c ∷ t) e again = by_code v a b c t ∙ ap (decode_by v a (b ∷ c ∷ t) t) e ∙ ap (λ (r : List ℕ). a ∷ r) again

@@ -1,5 +1,5 @@
 -- A cause is found exactly where a path isn't good.
-use Rattle.bag_text.proofs.FirstLemmas.{◌≡◌, ℕ, Bool, true, false, cond, List, [], ◌∷◌, length, refl, sym, ap, subst, ◌∙◌, not, Option, Some, None, IsSome, codes, bytes_eq, find, ◌↔◌, ◌==◌, inl, inr, list_any, is_utf8, false≢true, or_parts, or_from, Version, V0_97, same_Some, is_some, begins_with, GoodPath, segments, IsNoGoodPath, Spells, nothing, triple, itself, coded_character, coded_front, decode, has_coded, ◌||◌, ◌⊎◌, ◌&&◌, spells_decoded, spelled_is_decoded, no_fault, none_rows, not_empty, rows_none, without_fault}
+use Rattle.bag_text.proofs.FirstLemmas.{◌≡◌, ℕ, Bool, true, false, cond, List, [], ◌∷◌, length, refl, sym, ap, subst, ◌∙◌, not, Option, Some, None, IsSome, codes, bytes_eq, find, ◌↔◌, ◌==◌, inl, inr, list_any, is_utf8, false≢true, or_parts, or_from, Version, V0_97, same_Some, is_some, begins_with, GoodPath, segments, IsNoGoodPath, Spells, nothing, triple, itself, coded_character, leading_escape, decode, has_coded, ◌||◌, ◌⊎◌, ◌&&◌, spells_decoded, spelled_is_decoded, no_fault, none_rows, not_empty, rows_none, without_fault}
 use Rattle.bag_text.specs.declared.causes.PathCause.{PathCause}
 use Rattle.bag_text.specs.declared.causes.PathCause.TheVariants.{NotUtf8, TooLong, EmptySegment, DotSegment, DotDotSegment, Nul}
 use Rattle.bag_text.specs.PathCauses.{own_causes, stands_for}
@@ -108,7 +108,7 @@ ends_a_line a b c x e = by_tests (not (a == 37)) (b == 48 && (c == 65 || c == 97
     by_tests false false false false e = absurd cc
 
 abbrev IsFree : List ℕ → Type 0
-IsFree path = coded_front V0_97 path ≡ None
+IsFree path = leading_escape V0_97 path ≡ None
 
 -- no triple begins, goes on or ends with the end of a line
 free_first : (x : ℕ) → (x ≡ 10) ⊎ (x ≡ 13) → (path : List ℕ) → IsFree (x ∷ path)
@@ -149,5 +149,5 @@ free_spelled a s p free (itself {a = b} {s = t} {p = q} apart rest) = of_third t
 -- In version 0.97 no path that is spelled has a coded triple in it.
 pub never_listed : (s p : List ℕ) → Spells V0_97 s p → has_coded V0_97 p ≡ false
 never_listed s p nothing = refl
-never_listed s p (triple {a = a} {b = b} {c = c} {x = x} {s = t} {p = q} coded rest) = or_from (is_some (coded_front V0_97 (x ∷ q))) (has_coded V0_97 q) (ap is_some (free_first x (ends_a_line a b c x coded) q)) (never_listed t q rest)
-never_listed s p (itself {a = a} {s = t} {p = q} free rest) = or_from (is_some (coded_front V0_97 (a ∷ q))) (has_coded V0_97 q) (ap is_some (free_spelled a t q free rest)) (never_listed t q rest)
+never_listed s p (triple {a = a} {b = b} {c = c} {x = x} {s = t} {p = q} coded rest) = or_from (is_some (leading_escape V0_97 (x ∷ q))) (has_coded V0_97 q) (ap is_some (free_first x (ends_a_line a b c x coded) q)) (never_listed t q rest)
+never_listed s p (itself {a = a} {s = t} {p = q} free rest) = or_from (is_some (leading_escape V0_97 (a ∷ q))) (has_coded V0_97 q) (ap is_some (free_spelled a t q free rest)) (never_listed t q rest)

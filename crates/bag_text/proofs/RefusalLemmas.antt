@@ -1,5 +1,5 @@
 -- A row of the table that stands is the fault that reading gives.
-use Rattle.bag_text.proofs.FirstLemmas.{◌≡◌, ℕ, zero, suc, ◌+◌, ◌-◌, ◌<◌, ◌≤◌, ◌≢◌, ◌⊎◌, inl, inr, true, false, cond, eqb, ltb, not, List, [], ◌∷◌, ◌++◌, length, refl, sym, ap, subst, ◌∙◌, arith, append_assoc, flat_map, AllByRecursion, nat_tests, lt-ltb, le-ltb, append-nil, take_at, drop_at, length-append, Flaw, Short, Bad, SetFault, BadOpening, BadEntry, Truncated, OutOfOrder, BadPath, TooManyFiles, TrailingBytes, PathClash, is_good, comes_before, File, Head, header, entry, opening, ending, set_text, max_files, Ascends, clashes, Fits, IsBag, BeginsWith, IsProperBeginning, IsOpening, IsEndOrHeader, IsHeaded, EntryFault, PlaceFault, last_path, GoOn, FaultIs, Place, End, Entry, literal_at, place_at, file_at, result_at, entry_at, files_at, after_opening, set_of, Result, Ok, Err, same_ok, same_err, never_both, literal_ok, literal_again, literal_ends, literal_bad}
+use Rattle.bag_text.proofs.FirstLemmas.{◌≡◌, ℕ, zero, suc, ◌+◌, ◌-◌, ◌<◌, ◌≤◌, ◌≢◌, ◌⊎◌, inl, inr, true, false, cond, eqb, ltb, not, List, [], ◌∷◌, ◌++◌, length, refl, sym, ap, subst, ◌∙◌, arith, append_assoc, flat_map, AllByRecursion, nat_tests, lt-ltb, le-ltb, append-nil, take_at, drop_at, length-append, Flaw, Short, Bad, SetFault, BadOpening, BadEntry, Truncated, OutOfOrder, BadPath, TooManyFiles, TrailingBytes, PathClash, is_good, comes_before, File, Head, header, entry, opening, ending, set_text, max_files, Ascends, clashes, Fits, IsBag, BeginsWith, IsProperBeginning, IsOpening, IsEndOrHeader, IsHeaded, EntryFault, PlaceFault, last_path, GoOn, FaultIs, EndOrHead, End, Entry, literal_at, end_or_head_at, file_at, result_at, entry_at, files_at, after_opening, set_of, Result, Ok, Err, same_ok, same_err, never_both, literal_ok, literal_again, literal_ends, literal_bad}
 use Rattle.bag_text.proofs.FormLemmas.{place_ok, place_header, end_trails, entry_again, files_again, set_ok, set_again}
 use Rattle.bag_text.proofs.FaultLemmas.{sized, fit, place_end, short_place, bad_place}
 use Rattle.bag_text.proofs.SetLemmas.{at_fault, at_file}
@@ -45,45 +45,45 @@ opening_bad t begins proper = by_read (literal_at opening t) refl
 -- ---- what stands at an entry's place
 
 -- what follows the end, or the header
-behind_place : Place → List ℕ
+behind_place : EndOrHead → List ℕ
 behind_place (End rest) = rest
 behind_place (Entry head) = head.rest
 
 -- What is read at an entry's place is read with bytes after it, too.
-place_grows : (t more : List ℕ) (p : Place) → place_at t ≡ Ok p → (q : Place) × (place_at (t ++ more) ≡ Ok q) × (behind_place q ≡ behind_place p ++ more)
+place_grows : (t more : List ℕ) (p : EndOrHead) → end_or_head_at t ≡ Ok p → (q : EndOrHead) × (end_or_head_at (t ++ more) ≡ Ok q) × (behind_place q ≡ behind_place p ++ more)
 unfolding behind_place
-place_grows t more (End rest) e = (End (rest ++ more), ap place_at (ap (λ (x : List ℕ). x ++ more) ((place_ok t (End rest) e).at_end rest refl) ∙ append_assoc ending rest more) ∙ place_end (rest ++ more), refl)
+place_grows t more (End rest) e = (End (rest ++ more), ap end_or_head_at (ap (λ (x : List ℕ). x ++ more) ((place_ok t (End rest) e).at_end rest refl) ∙ append_assoc ending rest more) ∙ place_end (rest ++ more), refl)
 place_grows t more (Entry head) e =
     let h = (place_ok t (Entry head) e).at_entry head refl in (
       Entry (record { path_len = head.path_len; content_len = head.content_len; rest = head.rest ++ more }),
-      ap place_at (ap (λ (x : List ℕ). x ++ more) h.0 ∙ append_assoc (header head.path_len head.content_len) head.rest more) ∙ place_header head.path_len head.content_len (head.rest ++ more) h.1,
+      ap end_or_head_at (ap (λ (x : List ℕ). x ++ more) h.0 ∙ append_assoc (header head.path_len head.content_len) head.rest more) ∙ place_header head.path_len head.content_len (head.rest ++ more) h.1,
       refl,
     )
 
 -- The end or a header is read, with nothing after it.
-place_whole : (t : List ℕ) → IsEndOrHeader t → (q : Place) × (place_at t ≡ Ok q) × (behind_place q ≡ [])
+place_whole : (t : List ℕ) → IsEndOrHeader t → (q : EndOrHead) × (end_or_head_at t ≡ Ok q) × (behind_place q ≡ [])
 unfolding behind_place
-place_whole t (inl end) = (End [], ap place_at (end ∙ sym (append-nil ending)) ∙ place_end [], refl)
-place_whole t (inr h) = (Entry (record { path_len = h.0; content_len = h.1; rest = [] }), ap place_at (h.3 ∙ sym (append-nil (header h.0 h.1))) ∙ place_header h.0 h.1 [] (fit h.0 h.1 h.2), refl)
+place_whole t (inl end) = (End [], ap end_or_head_at (end ∙ sym (append-nil ending)) ∙ place_end [], refl)
+place_whole t (inr h) = (Entry (record { path_len = h.0; content_len = h.1; rest = [] }), ap end_or_head_at (h.3 ∙ sym (append-nil (header h.0 h.1))) ∙ place_header h.0 h.1 [] (fit h.0 h.1 h.2), refl)
 
 -- A proper beginning of the end or of a header is too short.
-place_short : (t : List ℕ) → IsProperBeginning IsEndOrHeader t → place_at t ≡ Err Short
-place_short t proper = by_read (place_at t) refl
+place_short : (t : List ℕ) → IsProperBeginning IsEndOrHeader t → end_or_head_at t ≡ Err Short
+place_short t proper = by_read (end_or_head_at t) refl
   where
-    by_read : (r : Result Place Flaw) → place_at t ≡ r → r ≡ Err Short
+    by_read : (r : Result EndOrHead Flaw) → end_or_head_at t ≡ r → r ≡ Err Short
     by_read (Err Short) is = refl
     by_read (Err Bad) is = absurd ((bad_place t is).1 proper)
     by_read (Ok p) is =
         let grown = place_grows t proper.0 p is in
         let whole = place_whole (t ++ proper.0) proper.2 in
-        let same = same_ok grown.0 whole.0 (place_at (t ++ proper.0)) grown.1 whole.1 in
+        let same = same_ok grown.0 whole.0 (end_or_head_at (t ++ proper.0)) grown.1 whole.1 in
         absurd (proper.1 (nothing_more (behind_place p) proper.0 (sym grown.2 ∙ ap behind_place same ∙ whole.2)))
 
 -- What neither begins with the end or a header nor is a beginning of one is bad.
-place_bad : (t : List ℕ) → (BeginsWith IsEndOrHeader t → ⊥) → (IsProperBeginning IsEndOrHeader t → ⊥) → place_at t ≡ Err Bad
-place_bad t begins proper = by_read (place_at t) refl
+place_bad : (t : List ℕ) → (BeginsWith IsEndOrHeader t → ⊥) → (IsProperBeginning IsEndOrHeader t → ⊥) → end_or_head_at t ≡ Err Bad
+place_bad t begins proper = by_read (end_or_head_at t) refl
   where
-    by_read : (r : Result Place Flaw) → place_at t ≡ r → r ≡ Err Bad
+    by_read : (r : Result EndOrHead Flaw) → end_or_head_at t ≡ r → r ≡ Err Bad
     by_read (Err Bad) is = refl
     by_read (Err Short) is = absurd (proper (short_place t is))
     by_read (Ok (End rest)) is = absurd (begins (ending, rest, inl refl, (place_ok t (End rest) is).at_end rest refl))
@@ -135,7 +135,7 @@ header_refused offset (suc more) before t head f is lt h =
     let fails : file_at offset before (head_is head.path_len head.content_len head.rest) ≡ Err f = file_refused offset before head f h in
     rw (is.text, place_header head.path_len head.content_len head.rest (fit head.path_len head.content_len is.sizes), fails) refl
 
-place_fails : (offset left : ℕ) (before t : List ℕ) (flaw : Flaw) (f : SetFault) → place_at t ≡ Err flaw → result_at offset (place_at t) ≡ Err f → entry_at offset left before t ≡ Err f
+place_fails : (offset left : ℕ) (before t : List ℕ) (flaw : Flaw) (f : SetFault) → end_or_head_at t ≡ Err flaw → result_at offset (end_or_head_at t) ≡ Err f → entry_at offset left before t ≡ Err f
 unfolding entry_at
 place_fails offset left before t flaw f e g = rw g refl
 

@@ -1,5 +1,5 @@
 -- A fault that reading gives is the one of the table.
-use Rattle.bag_text.proofs.FirstLemmas.{not-true, err_if, err_unless, err_through, never_both, ◌≡◌, ℕ, zero, suc, ◌+◌, ◌-◌, ◌<◌, ◌≤◌, ◌≢◌, inl, inr, Bool, true, false, cond, eqb, ltb, not, List, [], ◌∷◌, ◌++◌, length, get_or, take, drop, refl, sym, ap, subst, ◌∙◌, arith, append_assoc, Option, Some, None, IfErr, flat_map, AllByRecursion, nat_tests, eqb-true, ltb-true, ltb-false, append-nil, take-append-drop, length-take, length-drop, drop_more, Flaw, Short, Bad, SetFault, BadOpening, BadEntry, Truncated, OutOfOrder, BadPath, TooManyFiles, TrailingBytes, PathClash, Memory, ◌>>=◌, Gives, Place, End, Entry, literal_at, place_at, file_at, result_at, entry_at, files_at, after_opening, set_of, named_set_fault, File, Head, entry, opening, ending, max_files, Ascends, clashes, Fits, is_good, comes_before, IsHeaded, EntryFault, PlaceFault, last_path, GoOn, FaultIs, Result, Ok, Err, err_is, literal_ok, literal_again, literal_ends, literal_bad}
+use Rattle.bag_text.proofs.FirstLemmas.{not-true, err_if, err_unless, err_through, never_both, ◌≡◌, ℕ, zero, suc, ◌+◌, ◌-◌, ◌<◌, ◌≤◌, ◌≢◌, inl, inr, Bool, true, false, cond, eqb, ltb, not, List, [], ◌∷◌, ◌++◌, length, get_or, take, drop, refl, sym, ap, subst, ◌∙◌, arith, append_assoc, Option, Some, None, IfErr, flat_map, AllByRecursion, nat_tests, eqb-true, ltb-true, ltb-false, append-nil, take-append-drop, length-take, length-drop, drop_more, Flaw, Short, Bad, SetFault, BadOpening, BadEntry, Truncated, OutOfOrder, BadPath, TooManyFiles, TrailingBytes, PathClash, Memory, ◌>>=◌, Gives, EndOrHead, End, Entry, literal_at, end_or_head_at, file_at, result_at, entry_at, files_at, after_opening, set_of, named_set_fault, File, Head, entry, opening, ending, max_files, Ascends, clashes, Fits, is_good, comes_before, IsHeaded, EntryFault, PlaceFault, last_path, GoOn, FaultIs, Result, Ok, Err, err_is, literal_ok, literal_again, literal_ends, literal_bad}
 use Rattle.bag_text.specs.TransferReading.{entry_of}
 use Rattle.bag_text.proofs.FormLemmas.{place_ok, entry_ok, files_ok}
 use Rattle.bag_text.proofs.FaultLemmas.{sized, short_place, bad_place}
@@ -64,9 +64,9 @@ of_entry offset left before t head _ is lt h = (head, is, lt, h)
 
 pub entry_fault : (offset left : ℕ) (before t : List ℕ) (f : SetFault) → entry_at offset left before t ≡ Err f → PlaceFault offset left before t f
 unfolding entry_at
-entry_fault offset left before t f e = by_place left (place_at t) refl e
+entry_fault offset left before t f e = by_place left (end_or_head_at t) refl e
   where
-    by_place : (left : ℕ) (r : Result Place Flaw) → place_at t ≡ r → (result_at offset r >>= entry_of offset left before) ≡ Err f → PlaceFault offset left before t f
+    by_place : (left : ℕ) (r : Result EndOrHead Flaw) → end_or_head_at t ≡ r → (result_at offset r >>= entry_of offset left before) ≡ Err f → PlaceFault offset left before t f
     by_place left (Err Short) is e = subst (λ (f : SetFault). PlaceFault offset left before t f) (err_is Truncated f e) (inl (short_place t is))
     by_place left (Err Bad) is e = let b = bad_place t is in subst (λ (f : SetFault). PlaceFault offset left before t f) (err_is (BadEntry offset) f e) (inl (refl, b.0, b.1))
     by_place left (Ok (End [])) is e = absurd cc

@@ -64,13 +64,13 @@ named_info_fault Memory = None
 named_info_fault fault = Some fault
 
 -- a pair as the code has it: a slice of the text, and a value
-abbrev pub Kept : Type 0
-Kept = Bor (List ℕ) × CowStr Global
+abbrev pub CodePair : Type 0
+CodePair = Bor (List ℕ) × CowStr Global
 
-abbrev pub pair_in : Kept → Pair
+abbrev pub pair_in : CodePair → Pair
 pair_in kept = record { label = kept.0.now; value = cow_str_bytes kept.1 }
 
-abbrev pub pairs_of : List Kept → List Pair
+abbrev pub pairs_of : List CodePair → List Pair
 pairs_of all = map pair_in all
 
 -- the pairs that were read, in their order
@@ -82,8 +82,8 @@ abbrev pub has_line_feed : List ℕ → Bool
 has_line_feed text = list_any (λ b. b == 10) text
 
 -- a value is owned exactly where it has several lines
-abbrev pub IsOwnedIfContinued : Kept → Type 0
+abbrev pub IsOwnedIfContinued : CodePair → Type 0
 IsOwnedIfContinued kept = is_owned kept.1 ≡ has_line_feed (cow_str_bytes kept.1)
 
-abbrev pub AreMarked : List Kept → Type 0
-AreMarked all = (kept : Kept) → Contains all kept → IsOwnedIfContinued kept
+abbrev pub AreMarked : List CodePair → Type 0
+AreMarked all = (kept : CodePair) → Contains all kept → IsOwnedIfContinued kept

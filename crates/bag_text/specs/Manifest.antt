@@ -30,21 +30,21 @@ coded_character v a b c =
     else if b == 50 && c == 53 then percent v
     else None
 
-abbrev pub coded_front : Version → List ℕ → Option ℕ
-coded_front v (a ∷ b ∷ c ∷ s) = coded_character v a b c
-coded_front v s = None
+abbrev pub leading_escape : Version → List ℕ → Option ℕ
+leading_escape v (a ∷ b ∷ c ∷ s) = coded_character v a b c
+leading_escape v s = None
 
 -- whether some place of a text begins a coded triple, so that something is decoded
 abbrev pub has_coded : Version → List ℕ → Bool
 has_coded v [] = false
-has_coded v (a ∷ s) = is_some (coded_front v (a ∷ s)) || has_coded v s
+has_coded v (a ∷ s) = is_some (leading_escape v (a ∷ s)) || has_coded v s
 
 -- A text spells a path: both fall into as many parts, pairwise a coded triple and its character, or a
 -- character that begins no coded triple and itself.
 pub data Spells (v : Version) : List ℕ → List ℕ → Type 0 where
   nothing : Spells v [] []
   triple : {a b c x : ℕ} {s p : List ℕ} → coded_character v a b c ≡ Some x → Spells v s p → Spells v (a ∷ b ∷ c ∷ s) (x ∷ p)
-  itself : {a : ℕ} {s p : List ℕ} → coded_front v (a ∷ s) ≡ None → Spells v s p → Spells v (a ∷ s) (a ∷ p)
+  itself : {a : ℕ} {s p : List ℕ} → leading_escape v (a ∷ s) ≡ None → Spells v s p → Spells v (a ∷ s) (a ∷ p)
 
 -- the path that a text spells, read left to right, once
 unfoldable pub decode : Version → List ℕ → List ℕ

@@ -7,8 +7,8 @@ use Rattle.bag_text.specs.Answers.{◌>>=◌}
 use Rattle.bag_text.specs.Paths.{max_path, is_good, comes_before}
 use Rattle.bag_text.specs.TransferForm.{File, Head, opening, ending, max_content, max_files, clashes}
 use Rattle.bag_text.specs.declared.header.Header.{Header}
-use Rattle.bag_text.specs.declared.header.EntryPlace.{EntryPlace}
-use Rattle.bag_text.specs.declared.header.EntryPlace.TheVariants as places
+use Rattle.bag_text.specs.declared.header.EndOrEntry.{EndOrEntry}
+use Rattle.bag_text.specs.declared.header.EndOrEntry.TheVariants as places
 use Rattle.bag_text.specs.declared.header.Flaw.{Flaw}
 use Rattle.bag_text.specs.declared.header.Flaw.TheVariants.{Short, Bad}
 use Rattle.bag_text.specs.declared.set_fault.SetFault.{SetFault}
@@ -41,13 +41,13 @@ header_at text = do
   Ok (record { path_len = p.0; content_len = c.0; rest = c.1 })
 
 -- what is at an entry's place: the end with what follows it, or a header
-pub data Place : Type 0 where
-  End : List ℕ → Place
-  Entry : Head → Place
+pub data EndOrHead : Type 0 where
+  End : List ℕ → EndOrHead
+  Entry : Head → EndOrHead
 
-unfoldable pub place_at : List ℕ → Result Place Flaw
-place_at [] = Err Short
-place_at (b ∷ text) =
+unfoldable pub end_or_head_at : List ℕ → Result EndOrHead Flaw
+end_or_head_at [] = Err Short
+end_or_head_at (b ∷ text) =
     if b == 69 then (literal_at ending (b ∷ text) >>= λ rest. Ok (End rest))
     else (header_at (b ∷ text) >>= λ head. Ok (Entry head))
 
@@ -73,13 +73,13 @@ result_at offset (Ok x) = Ok x
 result_at offset (Err e) = Err (flaw_at offset e)
 
 -- what follows from what is there: none at the end, else a file and what follows it
-abbrev pub entry_of : ℕ → ℕ → List ℕ → Place → Result (Option (File × List ℕ)) SetFault
+abbrev pub entry_of : ℕ → ℕ → List ℕ → EndOrHead → Result (Option (File × List ℕ)) SetFault
 entry_of offset left before (End rest) = if length rest == 0 then Ok None else Err TrailingBytes
 entry_of offset zero before (Entry head) = Err TooManyFiles
 entry_of offset (suc more) before (Entry head) = file_at offset before head >>= λ file. Ok (Some file)
 
 unfoldable pub entry_at : ℕ → ℕ → List ℕ → List ℕ → Result (Option (File × List ℕ)) SetFault
-entry_at offset left before text = result_at offset (place_at text) >>= entry_of offset left before
+entry_at offset left before text = result_at offset (end_or_head_at text) >>= entry_of offset left before
 
 -- the files of what is left, of which there may be so many more
 unfoldable pub files_at : ℕ → ℕ → List ℕ → List ℕ → Result (List File) SetFault
@@ -119,9 +119,9 @@ files_of pairs = map file_of pairs
 abbrev pub head_of : Header → Head
 head_of h = record { path_len = h.path_len; content_len = h.content_len; rest = h.rest.now }
 
-abbrev pub place_read : EntryPlace → Place
-place_read (places.End rest) = End rest.now
-place_read (places.Entry h) = Entry (head_of h)
+abbrev pub end_or_head_of : EndOrEntry → EndOrHead
+end_or_head_of (places.End rest) = End rest.now
+end_or_head_of (places.Entry h) = Entry (head_of h)
 
 -- the files before this place come before the path, and the others don't
 abbrev pub IsPlaceOf : List ℕ → List (Bor (List ℕ) × Bor (List ℕ)) → ℕ → Type 0

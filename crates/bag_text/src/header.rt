@@ -1,4 +1,4 @@
-//! What is at an entry's place in a transfer form.
+//! What comes next in a transfer form: its end, or an entry.
 
 ghost use Rattle.std.specs.Prelude.{◌≤◌};
 ghost use Rattle.bag_text.specs.Paths.{max_path};
@@ -21,9 +21,9 @@ pub struct Header<'a> {
     ghost content_fits: { content_len ≤ max_content },
 }
 
-/// What is at an entry's place.
+/// The end of a form, or the header of its next entry.
 #[derive(Clone, Copy)]
-pub enum EntryPlace<'a> {
+pub enum EndOrEntry<'a> {
     End(&'a [u8]),
     Entry(Header<'a>),
 }

@@ -5,7 +5,7 @@ ghost use Rattle.std.specs.List.{list_all, position_or_len};
 ghost use Rattle.bag_text.specs.Text.{is_blank, begins_with};
 ghost use Rattle.bag_text.specs.Paths.{is_good};
 ghost use Rattle.bag_text.specs.Lines.{lines};
-ghost use Rattle.bag_text.specs.Manifest.{coded_front, has_coded, decode};
+ghost use Rattle.bag_text.specs.Manifest.{leading_escape, has_coded, decode};
 ghost use Rattle.bag_text.specs.ManifestReading.{next_char, good_of, key_of, checksum_in, path_spelled, entry_of, manifest_of, add_line_of, entries_of, entry_in, named_line_fault};
 ghost use Rattle.bag_text.specs.Answers.{Gives};
 ghost use Rattle.std.specs.Prelude.{◌↔◌, ◌⊎◌, IfErr, IsTrue, IsSome, Contains, is_some};
@@ -32,7 +32,7 @@ use std::collections::BTreeMap;
 
 /// The character that a text's first three bytes mean.
 fn first_coded(version: Version, text: &[u8]) -> Option<u8>
-    ensures { result ≡ coded_front version text.now }
+    ensures { result ≡ leading_escape version text.now }
 {
     match text {
         [b'%', b'0', b'A' | b'a', ..] => Some(b'\n'),

@@ -3,10 +3,10 @@
 ghost use Rattle.std.specs.Prelude.{◌≡◌, ◌<◌, ◌≤◌, ◌^◌, List, [], length, map, ℕ, Option, option_map, codes, None, Some, Ok, Err, IfOk, IfSome, MatchResult};
 ghost use Rattle.bag_text.specs.Answers.{Gives};
 ghost use Rattle.bag_text.specs.TransferForm.{File, opening, ending, max_content, max_files};
-ghost use Rattle.bag_text.specs.TransferReading.{literal_at, digits_at, number_at, header_at, place_at, file_at, files_at, set_of, named_set_fault, file_of, files_of, head_of, place_read, after_opening, flaw_at, result_at, entry_at};
+ghost use Rattle.bag_text.specs.TransferReading.{literal_at, digits_at, number_at, header_at, end_or_head_at, file_at, files_at, set_of, named_set_fault, file_of, files_of, head_of, end_or_head_of, after_opening, flaw_at, result_at, entry_at};
 
 use crate::clash::do_clash;
-use crate::header::{EntryPlace, Flaw, Header};
+use crate::header::{EndOrEntry, Flaw, Header};
 use crate::order::is_before;
 use crate::path::{MAX_PATH, good_path};
 use crate::set_fault::SetFault;
@@ -122,15 +122,15 @@ fn read_header<'a>(text: &'a [u8]) -> Result<Header<'a>, Flaw>
     })
 }
 
-#[tactic(auto, unfolding(crate::specs::TransferReading::place_at))]
-fn read_place<'a>(text: &'a [u8]) -> Result<EntryPlace<'a>, Flaw>
-    ensures { MatchResult result (λ p. place_at text.now ≡ Ok (place_read p))
-        (λ flaw. place_at text.now ≡ Err flaw) }
+#[tactic(auto, unfolding(crate::specs::TransferReading::end_or_head_at))]
+fn read_end_or_entry<'a>(text: &'a [u8]) -> Result<EndOrEntry<'a>, Flaw>
+    ensures { MatchResult result (λ p. end_or_head_at text.now ≡ Ok (end_or_head_of p))
+        (λ flaw. end_or_head_at text.now ≡ Err flaw) }
 {
     match text {
         [] => Err(Flaw::Short),
-        [b'E', ..] => Ok(EntryPlace::End(literal(b"END\n", text)?)),
-        _ => Ok(EntryPlace::Entry(read_header(text)?)),
+        [b'E', ..] => Ok(EndOrEntry::End(literal(b"END\n", text)?)),
+        _ => Ok(EndOrEntry::Entry(read_header(text)?)),
     }
 }
 
@@ -175,11 +175,11 @@ fn fault_at(offset: usize, flaw: Flaw) -> SetFault
     }
 }
 
-fn place_or_fault<'a>(offset: usize, text: &'a [u8]) -> Result<EntryPlace<'a>, SetFault>
-    ensures { MatchResult result (λ p. result_at offset (place_at text.now) ≡ Ok (place_read p))
-        (λ fault. result_at offset (place_at text.now) ≡ Err fault) }
+fn end_or_entry<'a>(offset: usize, text: &'a [u8]) -> Result<EndOrEntry<'a>, SetFault>
+    ensures { MatchResult result (λ p. result_at offset (end_or_head_at text.now) ≡ Ok (end_or_head_of p))
+        (λ fault. result_at offset (end_or_head_at text.now) ≡ Err fault) }
 {
-    match read_place(text) {
+    match read_end_or_entry(text) {
         Ok(place) => Ok(place),
         Err(flaw) => Err(fault_at(offset, flaw)),
     }
@@ -200,15 +200,15 @@ fn read_entry<'a>(
         ≡ Ok (option_map (λ x. (file_of x.0, x.1.now)) found))
         (λ fault. entry_at offset left before.now text.now ≡ Err fault) }
 {
-    match place_or_fault(offset, text)? {
-        EntryPlace::End(behind) => {
+    match end_or_entry(offset, text)? {
+        EndOrEntry::End(behind) => {
             if behind.is_empty() {
                 Ok(None)
             } else {
                 Err(SetFault::TrailingBytes)
             }
         }
-        EntryPlace::Entry(header) => {
+        EndOrEntry::Entry(header) => {
             if left == 0 {
                 return Err(SetFault::TooManyFiles);
             }

@@ -1,7 +1,5 @@
 -- What is said of bytes is one thing.
-use Rattle.std.proofs.Common.{◌≡◌, ℕ, ◌<◌, ◌≤◌, ◌⊎◌, inl, inr, ◌≢◌, ◌++◌, List, length, sym, ap, subst, ◌∙◌, arith, append_assoc}
-use Rattle.std.specs.Prelude.{Some, Result, Ok, Err, IfOk, IsErr}
-use Rattle.std.specs.declared.alloc.AllocError.{AllocError}
+use Rattle.commands.proofs.Common.{◌≡◌, ℕ, ◌<◌, ◌≤◌, ◌⊎◌, inl, inr, ◌≢◌, ◌++◌, List, length, sym, ap, subst, ◌∙◌, arith, append_assoc, Some, Result, Ok, Err, IfOk, IsErr, AllocError, Outcome, SaysValid, SaysInvalid, SaysUnreadable, SaysTooLong, SaysOfBag, valid, invalid, SaysOfBytes, too_long, unreadable, of_bag}
 use Rattle.bag_text.specs.TransferForm.{File, IsBag, IsFormOf, max_form, set_text}
 use Rattle.bag_text.specs.TransferFaults.{FaultIs}
 use Rattle.bag_text.specs.declared.declaration.Version.{Version}
@@ -12,7 +10,7 @@ use Rattle.bag_text.proofs.RefusalLemmas.{one_fault_stands, form_has_none}
 use Rattle.bag_text.proofs.FormLemmas.{two_texts}
 use Rattle.bag_check.specs.declared.fault.BagFault.{BagFault}
 use Rattle.bag_check.specs.declared.fault.BagFault.TheVariants as faults
-use Rattle.bag_check.specs.declared.report.BagReport.{BagReport}
+use Rattle.bag_text.specs.declared.report.BagReport.{BagReport}
 use Rattle.bag_check.specs.Validity.{Report, Valid, report_of}
 use Rattle.bag_check.specs.Faults.{Fault, FirstFault}
 use Rattle.bag_check.specs.Judging.{judge}
@@ -20,8 +18,6 @@ use Rattle.bag_check.specs.Answers.{named_fault, NamesFirst, report_seen}
 use Rattle.bag_check.proofs.FaultLemmas.{one_first_fault}
 use Rattle.bag_check.proofs.ValidLemmas.{none_stands}
 use Rattle.bag_check.proofs.JudgeLaws.{valid_judged}
-use Rattle.commands.specs.declared.outcome.Outcome.{Outcome}
-use Rattle.commands.specs.Checking.{SaysValid, SaysInvalid, SaysUnreadable, SaysTooLong, SaysOfBag, valid, invalid, SaysOfBytes, too_long, unreadable, of_bag}
 
 abbrev Answer : Type 0
 Answer = Result Outcome AllocError

@@ -1,13 +1,9 @@
 -- Where the rules of a policy may have no days, they decide alike on each day.
-use Rattle.std.proofs.Common.{◌≡◌, ℕ, List, Ok, false}
-use Rattle.jiff.specs.Types.{Date}
+use Rattle.commands.proofs.Common.{◌≡◌, ℕ, List, Ok, false, Date, PolicyValue, may_have_days, read_is_spelled, SpellsPolicyBytes}
 use Rattle.office_core.specs.Days.{IsDay}
-use Rattle.office_core.specs.Policies.{PolicyValue, may_have_days}
 use Rattle.office_core.specs.Rules.{Question, asked_on, decision_of}
-use Rattle.office_core.proofs.PolicyAnswers.{read_is_spelled}
 use Rattle.office_core.proofs.PolicyDays.{no_days_told}
 use Rattle.office_core.proofs.RuleLemmas.{decided_alike}
-use Rattle.commands.specs.Explaining.{SpellsPolicyBytes}
 
 pub alike_on_each_day : (bytes : List ℕ) (policy : PolicyValue) (asked : Question) (day other : Date) → SpellsPolicyBytes bytes policy → may_have_days bytes ≡ false → IsDay day → IsDay other
     → decision_of policy.rules (asked_on day asked) ≡ decision_of policy.rules (asked_on other asked)

@@ -1,20 +1,12 @@
 -- What is said of a policy file is one thing.
-use Rattle.std.proofs.Common.{◌≡◌, ◌⊎◌, ◌∙◌, ℕ, List, Option, Some, None, Result, Ok, Err, IfOk, ap, inl, inr, refl, sym, string_bytes, subst, unwrap_or}
+use Rattle.commands.proofs.Common.{◌≡◌, ◌⊎◌, ◌∙◌, ℕ, List, Option, Some, None, Result, Ok, Err, IfOk, ap, inl, inr, refl, sym, string_bytes, subst, unwrap_or, AllocError, Date, PolicyValue, PolicyFault, Allow, Deny, Explains, allowed, denied, by_default, undated, refused, HasFault, IsOnDay, SaysBadPolicy, SaysDayMissing, SaysDecision, SaysRule, SpellsPolicyBytes, WantsDay, bad_policy_text, decision_on, question_on, unlisted_line, Outcome, IsPolicyRefused}
 use Rattle.std.proofs.lemmas.Bool.{false≢true}
 use Rattle.std.proofs.lemmas.Option.{none-some}
-use Rattle.std.specs.declared.alloc.AllocError.{AllocError}
-use Rattle.jiff.specs.Types.{Date}
-use Rattle.office_core.specs.Policies.{PolicyValue}
-use Rattle.office_core.specs.declared.policy_fault.PolicyFault.{PolicyFault}
 use Rattle.office_core.specs.declared.rule.Decision.{Decision}
 use Rattle.office_core.specs.declared.rule.Effect.{Effect}
-use Rattle.office_core.specs.declared.rule.Effect.TheVariants.{Allow, Deny}
-use Rattle.commands.specs.Explaining.{Explains, allowed, denied, by_default, undated, refused, HasFault, IsOnDay, SaysBadPolicy, SaysDayMissing, SaysDecision, SaysRule, SpellsPolicyBytes, WantsDay, bad_policy_text, decision_on, question_on, unlisted_line}
 use Rattle.commands.specs.declared.asked.Asked.{Asked}
 use Rattle.commands.specs.declared.ending.Ending.TheVariants.{Refused}
-use Rattle.commands.specs.declared.outcome.Outcome.{Outcome}
 use Rattle.commands.specs.declared.policy_file.RefusedPolicy.{RefusedPolicy}
-use Rattle.commands.specs.PolicyFiles.{IsPolicyRefused}
 use Rattle.commands.specs.Printing.{IsAnswer, Prints}
 use Rattle.commands.proofs.DayLemmas.{alike_on_each_day}
 

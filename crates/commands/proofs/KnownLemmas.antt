@@ -1,5 +1,5 @@
 -- What holds of bytes that are known to be there.
-use Rattle.std.proofs.Common.{◌≡◌, ℕ, List, Option, Some, None, IfSome, subst}
+use Rattle.commands.proofs.Common.{◌≡◌, ℕ, List, Option, Some, None, IfSome, subst}
 
 -- what holds of the bytes that were read holds of those that the reader gave, where they are known
 pub of_known : (known : Option (List ℕ)) (bytes : List ℕ) (part : List ℕ → List ℕ) (P : List ℕ → Type 0) → IfSome known (λ given. bytes ≡ part given) → P bytes

@@ -1,11 +1,7 @@
 -- What a policy's text is read as.
-use Rattle.std.proofs.Common.{◌≡◌, ◌⊎◌, ◌∙◌, List, ℕ, Result, Ok, Err, IfOk, IfErr, IsUtf8, inl, inr, sym, ap}
+use Rattle.commands.proofs.Common.{◌≡◌, ◌⊎◌, ◌∙◌, List, ℕ, Result, Ok, Err, IfOk, IfErr, IsUtf8, inl, inr, sym, ap, refusal_is, PolicyValue, named_policy_fault, policy_of, PolicyFault, HasFault, SpellsPolicyBytes}
 use Rattle.bag_text.specs.Answers.{Answers}
-use Rattle.office_core.proofs.PolicyAnswers.{refusal_is}
-use Rattle.office_core.specs.Policies.{PolicyValue, named_policy_fault, policy_of}
-use Rattle.office_core.specs.declared.policy_fault.PolicyFault.{PolicyFault}
 use Rattle.office_core.specs.declared.policy_fault.PolicyFault.TheVariants.{Memory}
-use Rattle.commands.specs.Explaining.{HasFault, SpellsPolicyBytes}
 
 abbrev Read : Type 0
 Read = Result PolicyValue PolicyFault

@@ -17,7 +17,7 @@ use crate::outcome::Outcome;
 use crate::trouble::Trouble;
 use bag_check::{BagFault, BagReport, check_bag};
 use bag_text::{BagSet, MAX_FORM, SetFault, read_bagset};
-use fault_words::{bag_lines, form_lines, hint_for, too_long_words};
+use fault_words::{TooLong, bag_lines, form_lines, hint_for};
 use std::alloc::{AllocError, Global};
 use std::fmt::Write;
 use std::io::Read;
@@ -85,10 +85,9 @@ fn too_long_outcome(alloc: Global) -> Result<Outcome, AllocError>
     ensures { IfOk result SaysTooLong }
 {
     let text = String::from_str(alloc, "unreadable SIZE\n")?;
-    let words = too_long_words();
     Ok(Outcome {
         text,
-        reason: Some(format!(in alloc; "{words}\n")?),
+        reason: Some(format!(in alloc; "{TooLong}\n")?),
         ending: Ending::Refused,
     })
 }

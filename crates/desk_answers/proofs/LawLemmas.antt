@@ -1,28 +1,17 @@
 -- The laws of answers.
-use Rattle.std.proofs.Common.{◌≡◌, ◌≢◌, ◌↔◌, ◌⊎◌, inl, inr, ℕ, ◌^◌, ◌<◌, ◌≤◌, List, [], ◌∷◌, length, map, decimal, codes, refl, sym, subst, ap, ◌∙◌, append_assoc, append-nil, lit<, lit≤, arith}
-use Rattle.std.specs.List.{All, flat_map}
-use Rattle.std.proofs.lemmas.List.Elements.{All-nil, All-cons}
-use Rattle.std.proofs.lemmas.List.Sums.{AllPass-from_list_all}
+use Rattle.desk_answers.proofs.Common.{◌≡◌, ◌≢◌, ◌↔◌, ◌⊎◌, inl, inr, ℕ, ◌^◌, ◌<◌, ◌≤◌, List, [], ◌∷◌, length, map, decimal, codes, refl, sym, subst, ap, ◌∙◌, append_assoc, append-nil, lit<, lit≤, arith, All, flat_map, All-nil, All-cons, AllPass-from_list_all, is_token_byte, IsToken, Field, IsField, print_field, ResponseHead, ReadsResponse, Answer, Refusal, code_of, Content, json, body_of, response_text, refusal_status, status_of, content_of, IsResponse, named_value, response_fields, values_of, IsInAlphabet}
 use Rattle.serde_json.proofs.OnLiterals.{serde_json_on_literals}
-use Rattle.httparse.specs.Grammar.{is_token_byte, IsToken, Field, IsField, print_field, ResponseHead, ReadsResponse}
 use Rattle.httparse.proofs.GrammarLemmas.{response_unique}
-use Rattle.office_core.specs.declared.answer.Answer.{Answer}
 use Rattle.office_core.specs.declared.answer.Answer.TheVariants as answers
-use Rattle.office_core.specs.declared.refusal.Refusal.{Refusal}
 use Rattle.office_core.specs.declared.refusal.Refusal.TheVariants as refusals
 use Rattle.desk_routes.specs.Table.{method_text, methods_of}
 use Rattle.desk_routes.specs.declared.method.Method.{Method}
-use Rattle.desk_routes.specs.declared.place.Pattern.{Pattern}
-use Rattle.desk_routes.specs.declared.place.Pattern.TheVariants as patterns
+use Rattle.desk_routes.specs.declared.resource.Pattern.{Pattern}
+use Rattle.desk_routes.specs.declared.resource.Pattern.TheVariants as patterns
 use Rattle.desk_routes.specs.declared.refusal.DeskRefusal.{DeskRefusal}
 use Rattle.desk_routes.specs.declared.refusal.DeskRefusal.TheVariants as desks
-use Rattle.desk_answers.specs.Statuses.{code_of}
-use Rattle.desk_answers.specs.Responses.{Content, json, body_of, response_text}
-use Rattle.desk_answers.specs.Refusals.{refusal_status}
-use Rattle.desk_answers.specs.Bodies.{status_of, content_of}
 use Rattle.desk_answers.specs.DeskRefusals.{desk_status, desk_data, methods_text, allow_fields, lines_text}
 use Rattle.desk_answers.specs.Answers.{answer_text, refusal_text}
-use Rattle.desk_answers.specs.Messages.{IsResponse, named_value, response_fields, values_of, IsInAlphabet}
 use Rattle.desk_answers.proofs.Values.{IsValue, is_value}
 use Rattle.desk_answers.proofs.Readings.{line, is_line, reading}
 
@@ -43,17 +32,9 @@ record AreMethods (methods : List Method) : Type 0 where
   in_order : IsInAlphabet (map method_text methods)
 
 methods_are : (pattern : Pattern) → AreMethods (methods_of pattern)
-methods_are patterns.Class = record { value = is_value (methods_text (methods_of patterns.Class)) refl refl refl; in_order = tt }
-methods_are patterns.Collection = record { value = is_value (methods_text (methods_of patterns.Collection)) refl refl refl; in_order = tt }
 methods_are patterns.Deposits = record { value = is_value (methods_text (methods_of patterns.Deposits)) refl refl refl; in_order = (refl, tt) }
 methods_are patterns.Deposit = record { value = is_value (methods_text (methods_of patterns.Deposit)) refl refl refl; in_order = (refl, tt) }
-methods_are patterns.HoldsOfDeposit = record { value = is_value (methods_text (methods_of patterns.HoldsOfDeposit)) refl refl refl; in_order = tt }
-methods_are patterns.Bag = record { value = is_value (methods_text (methods_of patterns.Bag)) refl refl refl; in_order = tt }
-methods_are patterns.File = record { value = is_value (methods_text (methods_of patterns.File)) refl refl refl; in_order = tt }
-methods_are patterns.Audit = record { value = is_value (methods_text (methods_of patterns.Audit)) refl refl refl; in_order = tt }
-methods_are patterns.Holds = record { value = is_value (methods_text (methods_of patterns.Holds)) refl refl refl; in_order = tt }
-methods_are patterns.Hold = record { value = is_value (methods_text (methods_of patterns.Hold)) refl refl refl; in_order = tt }
-methods_are patterns.Due = record { value = is_value (methods_text (methods_of patterns.Due)) refl refl refl; in_order = tt }
+methods_are pattern = record { value = is_value (methods_text (methods_of pattern)) refl refl refl; in_order = tt }
 
 pub methods_in_order : (pattern : Pattern) → IsInAlphabet (map method_text (methods_of pattern))
 methods_in_order pattern = (methods_are pattern).in_order
@@ -101,15 +82,7 @@ without_allow refusal none small code other = record {
 is_answered : (refusal : DeskRefusal) → IsAnswered refusal
 unfolding serde_json_on_literals
 is_answered (desks.Method pattern) = record { small = lit< tt; read = allow_is_read pattern; code = lit≤ tt; allow = (λ _. refl, λ _. λ e. cc) }
-is_answered desks.TooLarge = without_allow desks.TooLarge refl (lit< tt) (lit≤ tt) (λ e. omega arith)
-is_answered desks.Truncated = without_allow desks.Truncated refl (lit< tt) (lit≤ tt) (λ e. omega arith)
-is_answered desks.BadHead = without_allow desks.BadHead refl (lit< tt) (lit≤ tt) (λ e. omega arith)
-is_answered desks.Chunked = without_allow desks.Chunked refl (lit< tt) (lit≤ tt) (λ e. omega arith)
-is_answered desks.BadLength = without_allow desks.BadLength refl (lit< tt) (lit≤ tt) (λ e. omega arith)
-is_answered desks.TwoCallers = without_allow desks.TwoCallers refl (lit< tt) (lit≤ tt) (λ e. omega arith)
-is_answered desks.NoRoute = without_allow desks.NoRoute refl (lit< tt) (lit≤ tt) (λ e. omega arith)
-is_answered desks.BadQuery = without_allow desks.BadQuery refl (lit< tt) (lit≤ tt) (λ e. omega arith)
-is_answered desks.BadBody = without_allow desks.BadBody refl (lit< tt) (lit≤ tt) (λ e. omega arith)
+is_answered refusal = without_allow refusal refl (lit< tt) (lit≤ tt) (λ e. omega arith)
 
 pub refusal_reading : (refusal : DeskRefusal) → IsResponse (refusal_text refusal) (desk_status refusal) (response_fields (allow_fields refusal) (json (desk_data refusal))) (body_of (json (desk_data refusal)))
 refusal_reading refusal =
@@ -149,19 +122,7 @@ refusal_length refusal head rest reads =
 
 refusal_code : (refusal : Refusal) → (400 ≤ code_of (refusal_status refusal)) × (code_of (refusal_status refusal) ≢ 405)
 refusal_code (refusals.NoSuch subject) = (lit≤ tt, λ e. omega arith)
-refusal_code (refusals.DeniedByRule rule) = (lit≤ tt, λ e. omega arith)
-refusal_code refusals.DeniedByDefault = (lit≤ tt, λ e. omega arith)
-refusal_code (refusals.Gone day) = (lit≤ tt, λ e. omega arith)
-refusal_code (refusals.Taken deposit) = (lit≤ tt, λ e. omega arith)
-refusal_code refusals.ClosedAhead = (lit≤ tt, λ e. omega arith)
-refusal_code (refusals.BadBag fault) = (lit≤ tt, λ e. omega arith)
-refusal_code (refusals.Held hold) = (lit≤ tt, λ e. omega arith)
-refusal_code (refusals.NotDue due) = (lit≤ tt, λ e. omega arith)
-refusal_code (refusals.Released day) = (lit≤ tt, λ e. omega arith)
-refusal_code refusals.Full = (lit≤ tt, λ e. omega arith)
-refusal_code refusals.Memory = (lit≤ tt, λ e. omega arith)
-refusal_code refusals.Store = (lit≤ tt, λ e. omega arith)
-refusal_code refusals.NoFile = (lit≤ tt, λ e. omega arith)
+refusal_code _ = (lit≤ tt, λ e. omega arith)
 
 pub refused_code : (refusal : Refusal) → 400 ≤ code_of (refusal_status refusal)
 refused_code refusal = (refusal_code refusal).0
@@ -171,20 +132,10 @@ abbrev IsCoded : Answer → Type 0
 IsCoded answer = ((code_of (status_of answer) ≡ 200) ⊎ (code_of (status_of answer) ≡ 201)) ⊎ ((refusal : Refusal) × (answer ≡ answers.Refused refusal))
 
 is_coded : (answer : Answer) → IsCoded answer
-is_coded (answers.Class name years) = inl (inl refl)
-is_coded (answers.Collection name) = inl (inl refl)
 is_coded (answers.Deposited deposit) = inl (inr refl)
-is_coded (answers.List deposits) = inl (inl refl)
-is_coded (answers.Record row) = inl (inl refl)
-is_coded (answers.Holds holds) = inl (inl refl)
-is_coded (answers.Bag bytes) = inl (inl refl)
-is_coded (answers.File bytes) = inl (inl refl)
-is_coded (answers.Audit deposit report) = inl (inl refl)
 is_coded (answers.HoldPlaced hold) = inl (inr refl)
-is_coded (answers.HoldReleased hold day) = inl (inl refl)
-is_coded (answers.Destroyed deposit day) = inl (inl refl)
-is_coded (answers.DueList day deposits) = inl (inl refl)
 is_coded (answers.Refused refusal) = inr (refusal, refl)
+is_coded _ = inl (inl refl)
 
 accepted_so : (answer : Answer) → IsCoded answer → ((refusal : Refusal) → answer ≢ answers.Refused refusal) → (code_of (status_of answer) ≡ 200) ⊎ (code_of (status_of answer) ≡ 201)
 accepted_so answer (inl code) is_not = code

@@ -1,10 +1,5 @@
 -- The text of a list, made item by item.
-use Rattle.std.proofs.Common.{◌≡◌, ℕ, ◌≤◌, Bool, false, List, [], ◌∷◌, ◌++◌, length, take, drop, map, codes, sym, ap, ◌∙◌, append_assoc}
-use Rattle.std.proofs.lemmas.List.{drop_all, drop_at, take_at}
-use Rattle.serde_json.specs.Data.{Data, string}
-use Rattle.serde_json.specs.View.{items_of}
-use Rattle.serde_json.specs.Written.{compact_text, items_text}
-use Rattle.desk_answers.specs.Objects.{object_of, list_of}
+use Rattle.desk_answers.proofs.Common.{◌≡◌, ℕ, ◌≤◌, Bool, false, List, [], ◌∷◌, ◌++◌, length, take, drop, map, codes, sym, ap, ◌∙◌, append_assoc, drop_all, drop_at, take_at, Data, string, items_of, compact_text, items_text, object_of, list_of}
 
 -- what is still to write of a list, with its end
 abbrev pub rest_text : {A : Type 0} → (A → Data) → Bool → List A → List ℕ

@@ -1,5 +1,4 @@
-use Rattle.std.proofs.Common.{◌≡◌, ℕ, ◌+◌, ◌<◌, List, [], ◌∷◌, ◌++◌, length, get_or, take, map}
-use Rattle.std.proofs.lemmas.List.{map-append, take_more}
+use Rattle.desk_answers.proofs.Common.{◌≡◌, ℕ, ◌+◌, ◌<◌, List, [], ◌∷◌, ◌++◌, length, get_or, take, map, map-append, take_more}
 
 -- one more item on either side, which is seen alike, and which a loop reads in its place
 pub map-take_next : {A B C : Type 0} (f : A → C) (g : B → C) (xs new : List A) (x : A) (ys : List B) (i : ℕ) (d : B) → map f xs ≡ map g (take i ys) → new ≡ xs ++ x ∷ [] → f x ≡ g (get_or ys i d) → i < length ys → map f new ≡ map g (take (i + 1) ys)

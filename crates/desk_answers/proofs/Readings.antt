@@ -1,21 +1,12 @@
 -- Responses, read by HTTP's grammar.
-use Rattle.std.proofs.Common.{◌≡◌, ℕ, ◌^◌, ◌<◌, true, List, [], ◌∷◌, ◌++◌, length, map, decimal, codes, Some, refl, sym, ap, ◌∙◌, append_assoc, append-nil, lit<, lit≤}
-use Rattle.std.specs.List.{All, flat_map, list_all}
+use Rattle.desk_answers.proofs.Common.{◌≡◌, ℕ, ◌^◌, ◌<◌, true, List, [], ◌∷◌, ◌++◌, length, map, decimal, codes, Some, refl, sym, ap, ◌∙◌, append_assoc, append-nil, lit<, lit≤, All, flat_map, list_all, decimal_is_IsNumeral, map-append, All-nil, All-cons, All-append, AllPass-from_list_all, AllPass, is_token_byte, is_value_byte, IsToken, Field, IsField, crlf, print_field, ResponseHead, print_response, code_of, phrase_of, Content, media_text, media_type_of, body_of, response_text, named_value, IsResponse, response_fields}
 use Rattle.std.specs.Fmt.{digits}
-use Rattle.std.proofs.lemmas.Fmt.{decimal_is_IsNumeral}
-use Rattle.std.proofs.lemmas.List.{map-append}
 use Rattle.std.proofs.lemmas.List.Concat.{flat_map-append}
-use Rattle.std.proofs.lemmas.List.Elements.{All-nil, All-cons, All-append}
-use Rattle.std.proofs.lemmas.List.Sums.{AllPass-from_list_all}
 use Rattle.httparse.specs.Ascii.{crlf_bytes}
-use Rattle.httparse.specs.Grammar.{AllPass, is_token_byte, is_value_byte, IsToken, Field, IsField, crlf, print_field, ResponseHead, print_response}
-use Rattle.desk_answers.specs.Statuses.{code_of, phrase_of}
-use Rattle.desk_answers.specs.Responses.{Content, media_text, media_type_of, body_of, response_text}
-use Rattle.desk_answers.specs.Messages.{named_value, IsResponse, response_fields}
 use Rattle.desk_answers.specs.declared.head.MediaType.{MediaType}
 use Rattle.desk_answers.specs.declared.head.MediaType.TheVariants.{Json, OctetStream}
 use Rattle.desk_answers.specs.declared.status.Status.{Status}
-use Rattle.desk_answers.specs.declared.status.Status.TheVariants.{Success, Created, BadRequest, Forbidden, NotFound, MethodNotAllowed, Conflict, Gone, ContentTooLarge, UnprocessableContent, ServiceUnavailable}
+use Rattle.desk_answers.specs.declared.status.Status.TheVariants.{Success}
 use Rattle.desk_answers.proofs.Values.{IsValue, is_value, decimal_is_value, decimal_has_digits}
 
 -- a field's line, as the desk writes it
@@ -70,16 +61,7 @@ is_status status small three_digits reason = record { small = small; three_digit
 each_status : (status : Status) → IsStatus status
 unfolding digits
 each_status Success = is_status Success (lit< tt) refl refl
-each_status Created = is_status Created (lit< tt) refl refl
-each_status BadRequest = is_status BadRequest (lit< tt) refl refl
-each_status Forbidden = is_status Forbidden (lit< tt) refl refl
-each_status NotFound = is_status NotFound (lit< tt) refl refl
-each_status MethodNotAllowed = is_status MethodNotAllowed (lit< tt) refl refl
-each_status Conflict = is_status Conflict (lit< tt) refl refl
-each_status Gone = is_status Gone (lit< tt) refl refl
-each_status ContentTooLarge = is_status ContentTooLarge (lit< tt) refl refl
-each_status UnprocessableContent = is_status UnprocessableContent (lit< tt) refl refl
-each_status ServiceUnavailable = is_status ServiceUnavailable (lit< tt) refl refl
+each_status status = is_status status (lit< tt) refl refl
 
 -- ---- the fields
 

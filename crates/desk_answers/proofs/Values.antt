@@ -1,13 +1,7 @@
 -- Field values: what may stand in one, and that the blank before it is dropped when it is read.
-use Rattle.std.proofs.Common.{◌≡◌, ℕ, ◌+◌, ◌^◌, ◌<◌, ◌≤◌, ◌%◌, false, true, IsTrue, List, [], ◌∷◌, reverse, decimal, refl, sym, subst, arith}
-use Rattle.std.specs.List.{All, list_all}
+use Rattle.desk_answers.proofs.Common.{◌≡◌, ℕ, ◌+◌, ◌^◌, ◌<◌, ◌≤◌, ◌%◌, false, true, IsTrue, List, [], ◌∷◌, reverse, decimal, refl, sym, subst, arith, All, list_all, decimal_by_steps, reverse-append, All-nil, All-cons, All-head, All-tail, All-push, All-weaker, AllPass-from_list_all, AllPass, is_value_byte, is_ows, skip_ows, trim_ows}
 use Rattle.std.specs.Char.{is_ascii_digit}
 use Rattle.std.proofs.lemmas.Bool.Decides.{nat_tests}
-use Rattle.std.proofs.lemmas.Fmt.{decimal_by_steps}
-use Rattle.std.proofs.lemmas.List.{reverse-append}
-use Rattle.std.proofs.lemmas.List.Elements.{All-nil, All-cons, All-head, All-tail, All-push, All-weaker}
-use Rattle.std.proofs.lemmas.List.Sums.{AllPass-from_list_all}
-use Rattle.httparse.specs.Grammar.{AllPass, is_value_byte, is_ows, skip_ows, trim_ows}
 use Rattle.httparse.proofs.TrimLemmas.{trim_ows_space}
 
 abbrev IsDigit : ℕ → Type 0

@@ -1,17 +1,9 @@
 -- One walk over the refusals of the office and its answers, of what holds of the values that are said of them.
-use Rattle.std.proofs.Common.{◌≡◌, ℕ, List, [], ◌∷◌, false, true, refl, sym, subst, ap, ◌∙◌, map, Some, None}
-use Rattle.serde_json.specs.Data.{Data}
-use Rattle.serde_json.specs.Written.{compact_text, has_float}
+use Rattle.desk_answers.proofs.Common.{◌≡◌, ℕ, List, [], ◌∷◌, false, true, refl, sym, subst, ap, ◌∙◌, map, Some, None, Data, compact_text, has_float, Answer, Refusal, list_of, whole, refusal_data, content_of, Content, json, octets, body_of}
 use Rattle.office_core.specs.declared.answer.AuditReport.TheVariants.{Valid, Invalid}
-use Rattle.office_core.specs.declared.answer.Answer.{Answer}
 use Rattle.office_core.specs.declared.answer.Answer.TheVariants as answers
-use Rattle.office_core.specs.declared.refusal.Refusal.{Refusal}
 use Rattle.office_core.specs.declared.refusal.Refusal.TheVariants as refusals
-use Rattle.desk_answers.specs.Objects.{list_of, whole}
 use Rattle.desk_answers.specs.Rows.{record_data, live_hold_data}
-use Rattle.desk_answers.specs.Refusals.{refusal_data}
-use Rattle.desk_answers.specs.Bodies.{content_of}
-use Rattle.desk_answers.specs.Responses.{Content, json, octets, body_of}
 use Rattle.desk_answers.specs.Keys.{has_ascending_keys, content_has_ascending_keys}
 
 -- `compact_text` gives the text of a value without numbers that have a fraction
@@ -32,19 +24,7 @@ list_is_orderly f orderly (x ∷ xs) =
 
 refusal_is_orderly : (refusal : Refusal) → IsOrderly (refusal_data refusal)
 refusal_is_orderly (refusals.NoSuch subject) = (refl, refl)
-refusal_is_orderly (refusals.DeniedByRule rule) = (refl, refl)
-refusal_is_orderly refusals.DeniedByDefault = (refl, refl)
-refusal_is_orderly (refusals.Gone day) = (refl, refl)
-refusal_is_orderly (refusals.Taken deposit) = (refl, refl)
-refusal_is_orderly refusals.ClosedAhead = (refl, refl)
-refusal_is_orderly (refusals.BadBag fault) = (refl, refl)
-refusal_is_orderly (refusals.Held hold) = (refl, refl)
-refusal_is_orderly (refusals.NotDue due) = (refl, refl)
-refusal_is_orderly (refusals.Released day) = (refl, refl)
-refusal_is_orderly refusals.Full = (refl, refl)
-refusal_is_orderly refusals.Memory = (refl, refl)
-refusal_is_orderly refusals.Store = (refl, refl)
-refusal_is_orderly refusals.NoFile = (refl, refl)
+refusal_is_orderly _ = (refl, refl)
 
 -- what an answer carries is such a value, or bytes
 pub answer_is_orderly : (answer : Answer) → HasNoFloat (content_of answer) × (content_has_ascending_keys (content_of answer) ≡ true)

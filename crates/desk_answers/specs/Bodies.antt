@@ -4,7 +4,7 @@ use Rattle.jiff.specs.Types.{Date}
 use Rattle.serde_json.specs.Data.{Data, null, boolean, string}
 use Rattle.bag_text.specs.Declaration.{version_text}
 use Rattle.office_core.specs.Days.{day_text}
-use Rattle.bag_check.specs.declared.report.BagReport.{BagReport}
+use Rattle.bag_text.specs.declared.report.BagReport.{BagReport}
 use Rattle.office_core.specs.declared.answer.DepositRecord.{DepositRecord}
 use Rattle.office_core.specs.declared.answer.LiveHold.{LiveHold}
 use Rattle.office_core.specs.declared.answer.AuditReport.{AuditReport}

@@ -19,11 +19,11 @@ due_text Never = codes "permanent"
 -- what is told of a deposit
 abbrev pub record_data : DepositRecord → Data
 record_data row = object_of (
-    (codes "accession", string row.accession)
+    (codes "accession", string row.description.accession)
     ∷ (codes "bytes", whole row.bytes)
-    ∷ (codes "class", string row.class)
-    ∷ (codes "closed", string (day_text row.closed))
-    ∷ (codes "collection", string row.collection)
+    ∷ (codes "class", string row.description.class)
+    ∷ (codes "closed", string (day_text row.description.closed))
+    ∷ (codes "collection", string row.description.collection)
     ∷ (codes "deposit", whole row.number)
     ∷ (codes "deposited", string (day_text row.deposited))
     ∷ (codes "due", string (due_text row.due))

@@ -6,7 +6,7 @@ ghost use Rattle.office_core.specs.declared.answer.Answer.{Answer};
 ghost use Rattle.office_core.specs.declared.answer.Answer.TheVariants.{Refused};
 ghost use Rattle.office_core.specs.declared.refusal.Refusal.{Refusal};
 ghost use Rattle.desk_routes.specs.Table.{method_text, methods_of};
-ghost use Rattle.desk_routes.specs.declared.place.Pattern.{Pattern};
+ghost use Rattle.desk_routes.specs.declared.resource.Pattern.{Pattern};
 ghost use Rattle.desk_routes.specs.declared.refusal.DeskRefusal.{DeskRefusal};
 ghost use Rattle.desk_routes.specs.declared.refusal.DeskRefusal.TheVariants.{Method as WrongMethod};
 ghost use Rattle.desk_answers.specs.Statuses.{code_of};

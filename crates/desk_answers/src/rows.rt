@@ -25,12 +25,13 @@ fn scope_text(scope: Scope) -> &'static str
 pub(crate) fn record_data(alloc: Global, row: &DepositRecord) -> Result<Value, AllocError>
     ensures { IfOk result (λ value. view value ≡ record_data row.now) }
 {
+    let about = &row.description;
     let members = [
-        ("accession", MemberValue::Text(row.accession.as_str())),
+        ("accession", MemberValue::Text(about.accession.as_str())),
         ("bytes", MemberValue::Number(row.bytes as u64)),
-        ("class", MemberValue::Text(row.class.as_str())),
-        ("closed", MemberValue::Day(row.closed)),
-        ("collection", MemberValue::Text(row.collection.as_str())),
+        ("class", MemberValue::Text(about.class.as_str())),
+        ("closed", MemberValue::Day(about.closed)),
+        ("collection", MemberValue::Text(about.collection.as_str())),
         ("deposit", MemberValue::Number(row.number as u64)),
         ("deposited", MemberValue::Day(row.deposited)),
         ("due", MemberValue::Due(row.due)),

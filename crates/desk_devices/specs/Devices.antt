@@ -41,8 +41,8 @@ CountsFailedWrite old new result bytes =
     MatchResult result (λ n. new ≡ (if took_nothing n bytes then one_more old else old)) (λ _. new ≡ one_more old)
 
 -- a call that failed keeps its error as the last, and a call that worked leaves the last
-abbrev pub KeepsError : {T : Type 0} → Option Error → Option Error → Result T Error → Type 0
-KeepsError old new result = MatchResult result (λ _. new ≡ old) (λ error. new ≡ Some error)
+abbrev pub NotesError : {T : Type 0} → Option Error → Option Error → Result T Error → Type 0
+NotesError old new result = MatchResult result (λ _. new ≡ old) (λ error. new ≡ Some error)
 
 -- a write that took nothing of some bytes has no error of its own, and is given one
 abbrev pub IsZeroWrite : Bool → Option Error → Option Error → Type 0
@@ -50,8 +50,8 @@ IsZeroWrite true old new = (error : Error) × (new ≡ Some error) × (error_kin
 IsZeroWrite false old new = new ≡ old
 
 -- so does a write
-abbrev pub KeepsWriteError : Option Error → Option Error → Result ℕ Error → List ℕ → Type 0
-KeepsWriteError old new result bytes =
+abbrev pub NotesWriteError : Option Error → Option Error → Result ℕ Error → List ℕ → Type 0
+NotesWriteError old new result bytes =
     MatchResult result (λ n. IsZeroWrite (took_nothing n bytes) old new) (λ error. new ≡ Some error)
 
 -- the device failed in between: the number rose, or is at its last value

@@ -3,7 +3,7 @@
 ghost use Rattle.std.specs.Prelude.{◌≡◌, None, Some};
 ghost use Rattle.std.specs.Io.{ReadsAtMost, WritesAtMost};
 ghost use Rattle.std.specs.Io.KnownBytes.{ReadConsumes, WriteAppends, Keeps};
-ghost use Rattle.desk_devices.specs.Devices.{CountsFailure, CountsFailedWrite, KeepsError, KeepsWriteError, device_of, failures_of, last_error_of, one_more};
+ghost use Rattle.desk_devices.specs.Devices.{CountsFailure, CountsFailedWrite, NotesError, NotesWriteError, device_of, failures_of, last_error_of, one_more};
 
 use std::io;
 use std::io::{Error, ErrorKind, Read, Write};
@@ -79,7 +79,7 @@ impl<R: Read> Read for Counted<R> {
         ensures bytes { ReadConsumes (R.remaining (device_of self.old))
             (R.remaining (device_of self.new)) result buf.new }
         ensures counted { CountsFailure (failures_of self.old) (failures_of self.new) result }
-        ensures error { KeepsError (last_error_of self.old) (last_error_of self.new) result }
+        ensures error { NotesError (last_error_of self.old) (last_error_of self.new) result }
     {
         let result = self.device.read(buf);
         if let Err(error) = &result {
@@ -98,7 +98,7 @@ impl<W: Write> Write for Counted<W> {
             (W.contents (device_of self.new)) result buf.now }
         ensures counted { CountsFailedWrite (failures_of self.old)
             (failures_of self.new) result buf.now }
-        ensures error { KeepsWriteError (last_error_of self.old)
+        ensures error { NotesWriteError (last_error_of self.old)
             (last_error_of self.new) result buf.now }
     {
         let result = self.device.write(buf);
@@ -113,7 +113,7 @@ impl<W: Write> Write for Counted<W> {
     fn flush(&mut self) -> io::Result<()>
         ensures bytes { Keeps (W.contents (device_of self.old)) (W.contents (device_of self.new)) }
         ensures counted { CountsFailure (failures_of self.old) (failures_of self.new) result }
-        ensures error { KeepsError (last_error_of self.old) (last_error_of self.new) result }
+        ensures error { NotesError (last_error_of self.old) (last_error_of self.new) result }
     {
         let result = self.device.flush();
         if let Err(error) = &result {

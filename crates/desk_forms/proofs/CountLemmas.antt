@@ -1,11 +1,7 @@
 -- The values under a key, by counting its pairs.
-use Rattle.std.proofs.Common.{◌≡◌, ℕ, true, false, ◌⊎◌, List, [], ◌∷◌, length, map, filter, nat_eq, Contains, refl, sym, ap, ◌∙◌, subst, inl, inr, arith}
-use Rattle.std.specs.Cmp.Lexicographic.{pointwise, bytes_decides}
-use Rattle.std.proofs.lemmas.Bool.{cases_Bool, cond-true, cond-false}
+use Rattle.desk_forms.proofs.Common.{◌≡◌, ℕ, true, false, ◌⊎◌, List, [], ◌∷◌, length, map, filter, nat_eq, Contains, refl, sym, ap, ◌∙◌, subst, inl, inr, arith, pointwise, bytes_decides, cases_Bool, cond-true, cond-false, Contains-append_right, Contains-append_cases, Contains-push_cases, values_under, count_of, StandsOnce}
 use Rattle.std.proofs.lemmas.List.{length-map, nil_from_length}
-use Rattle.std.proofs.lemmas.List.Elements.{Contains-append_right, Contains-append_cases, Contains-push_cases}
 use Rattle.std.proofs.lemmas.List.Sums.{length-filter}
-use Rattle.desk_forms.specs.Queries.{values_under, count_of, StandsOnce}
 
 abbrev pub Pair : Type 0
 Pair = List ℕ × List ℕ

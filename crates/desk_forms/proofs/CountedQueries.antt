@@ -1,12 +1,7 @@
 -- Which queries say something, by counting their keys.
-use Rattle.std.proofs.Common.{◌≡◌, ℕ, zero, suc, ◌≤◌, ◌⊎◌, List, [], ◌∷◌, length, Option, Some, None, Contains, codes, refl, sym, ◌∙◌, subst, inl, inr, arith}
-use Rattle.std.proofs.lemmas.List.Elements.{All-contains, Contains-get_or}
+use Rattle.desk_forms.proofs.Common.{◌≡◌, ℕ, zero, suc, ◌≤◌, ◌⊎◌, List, [], ◌∷◌, length, Option, Some, None, Contains, codes, refl, sym, ◌∙◌, subst, inl, inr, arith, All-contains, Contains-get_or, day_text, Listing, Description, values_under, count_of, StandsOnce, GivesName, AsksListing, DescribesDeposit, HaveForm, IsDayText, IsListing, IsDepositQuery}
 use Rattle.std.specs.Prelude.{slice_index_or}
-use Rattle.office_core.specs.Days.{day_text}
 use Rattle.office_core.specs.Names.{IsName, IsAccession}
-use Rattle.desk_forms.specs.declared.query.Listing.{Listing}
-use Rattle.desk_forms.specs.declared.query.DepositQuery.{DepositQuery}
-use Rattle.desk_forms.specs.Queries.{values_under, count_of, StandsOnce, GivesName, AsksListing, DescribesDeposit, HaveForm, IsDayText, IsListing, IsDepositQuery}
 use Rattle.desk_forms.proofs.CountLemmas.{Pair, none_contained, first_contained, contained, same_pair, length-values_of, pair_of_value, value_of_pair, once_by_count, nowhere_by_count}
 
 some_one : (xs : List (List ℕ)) → length xs ≡ 1 → (v : List ℕ) × (xs ≡ v ∷ [])
@@ -78,7 +73,7 @@ listing_by_counts pairs = (
       (record { collection = collection.0; class = class.0 }, record { keys = h.keys; collection = collection.1; class = class.1 }),
 )
 
-pub deposit_by_counts : (pairs : List Pair) → ((deposit : DepositQuery) × DescribesDeposit pairs deposit → IsDepositQuery pairs) × (IsDepositQuery pairs → (deposit : DepositQuery) × DescribesDeposit pairs deposit)
+pub deposit_by_counts : (pairs : List Pair) → ((deposit : Description) × DescribesDeposit pairs deposit → IsDepositQuery pairs) × (IsDepositQuery pairs → (deposit : Description) × DescribesDeposit pairs deposit)
 deposit_by_counts pairs = (
   λ h. record {
     keys = h.1.keys;

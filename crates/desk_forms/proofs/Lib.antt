@@ -1,3 +1,4 @@
+pub mod Common
 pub mod CountLemmas
 pub mod CountedQueries
 pub mod PathLemmas

@@ -1,12 +1,6 @@
 -- The keys of a query: what the tests of the code decide.
-use Rattle.std.proofs.Common.{◌≡◌, ℕ, List, [], ◌∷◌, map, nat_eq, Contains, Bor, Decides, refl, sym}
-use Rattle.std.specs.Cmp.Lexicographic.{pointwise, bytes_decides}
+use Rattle.desk_forms.proofs.Common.{◌≡◌, ℕ, List, [], ◌∷◌, map, nat_eq, Contains, Bor, Decides, refl, sym, pointwise, bytes_decides, Decides-by_and, Decides-by_or, Decides-like, Decides-contains, is_one_of, HasOnly, has_only}
 use Rattle.std.specs.List.{list_any}
-use Rattle.std.proofs.lemmas.Bool.Decides.{Decides-by_and, Decides-by_or, Decides-like}
-use Rattle.std.proofs.lemmas.List.Elements.{Decides-contains}
-use Rattle.office_core.specs.Policies.{is_one_of}
-use Rattle.desk_forms.specs.Queries.{HasOnly}
-use Rattle.desk_forms.specs.QueryReading.{has_only}
 
 -- a key is found among keys that are lent
 pub list_any-lent : (keys : List (Bor (List ℕ))) (key : List ℕ) → list_any (λ known. pointwise nat_eq key known.now) keys ≡ is_one_of (map (λ k. k.now) keys) key

@@ -1,13 +1,9 @@
 -- What a query or a body says is one thing.
-use Rattle.std.proofs.Common.{◌≡◌, ℕ, List, [], ◌∷◌, Option, Some, None, codes, refl, sym, ap, ◌∙◌}
+use Rattle.desk_forms.proofs.Common.{◌≡◌, ℕ, List, [], ◌∷◌, Option, Some, None, codes, refl, sym, ap, ◌∙◌, day_text, Listing, Description, values_under, GivesName, AsksListing, DescribesDeposit}
 use Rattle.std.proofs.lemmas.Option.{same_Some}
-use Rattle.office_core.specs.Days.{day_text}
 use Rattle.office_core.proofs.DayLemmas.{day_text-injective}
-use Rattle.desk_forms.specs.declared.query.Listing.{Listing}
-use Rattle.desk_forms.specs.declared.query.DepositQuery.{DepositQuery}
 use Rattle.desk_forms.specs.declared.body.HoldBody.{HoldBody}
 use Rattle.desk_forms.specs.declared.body.HoldBody.TheVariants.{Deposit, Collection, Class}
-use Rattle.desk_forms.specs.Queries.{values_under, GivesName, AsksListing, DescribesDeposit}
 use Rattle.desk_forms.specs.Bodies.{years_object, SaysYears, hold_object, SaysHold}
 
 one_value : (values : List (List ℕ)) (a b : List ℕ) → values ≡ a ∷ [] → values ≡ b ∷ [] → a ≡ b
@@ -26,7 +22,7 @@ one_listing pairs a b x y =
     let class = one_name (codes "class") pairs a.class b.class x.class y.class in
     λ i. record { collection = collection i; class = class i }
 
-pub one_deposit_query : (pairs : List (List ℕ × List ℕ)) (a b : DepositQuery) → DescribesDeposit pairs a → DescribesDeposit pairs b → a ≡ b
+pub one_deposit_query : (pairs : List (List ℕ × List ℕ)) (a b : Description) → DescribesDeposit pairs a → DescribesDeposit pairs b → a ≡ b
 one_deposit_query pairs a b x y =
     let collection = one_value _ a.collection b.collection x.collection.0 y.collection.0 in
     let class = one_value _ a.class b.class x.class.0 y.class.0 in

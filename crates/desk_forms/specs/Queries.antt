@@ -7,7 +7,7 @@ use Rattle.jiff.specs.Types.{Date}
 use Rattle.office_core.specs.Days.{IsDay, day_text}
 use Rattle.office_core.specs.Names.{IsName, IsAccession}
 use Rattle.desk_forms.specs.declared.query.Listing.{Listing}
-use Rattle.desk_forms.specs.declared.query.DepositQuery.{DepositQuery}
+use Rattle.office_core.specs.Descriptions.{Description}
 
 -- the text that a key or a value means
 abbrev pub text_of : List ℕ → List ℕ
@@ -41,7 +41,7 @@ pub record AsksListing (pairs : List (List ℕ × List ℕ)) (listing : Listing)
   pub class : GivesName (codes "class") pairs listing.class
 
 -- what the query of a deposit says of the deposit
-pub record DescribesDeposit (pairs : List (List ℕ × List ℕ)) (deposit : DepositQuery) : Type 0 where
+pub record DescribesDeposit (pairs : List (List ℕ × List ℕ)) (deposit : Description) : Type 0 where
   pub keys : HasOnly (codes "collection" ∷ (codes "class" ∷ (codes "accession" ∷ (codes "closed" ∷ [])))) pairs
   pub collection : StandsOnce (codes "collection") pairs deposit.collection × IsName deposit.collection
   pub class : StandsOnce (codes "class") pairs deposit.class × IsName deposit.class

@@ -6,7 +6,7 @@ ghost use Rattle.desk_forms.specs.Bodies.{SaysYears, SaysHold};
 ghost use Rattle.desk_forms.specs.Paths.{StandsFor};
 ghost use Rattle.desk_forms.specs.Queries.{values_under, count_of, StandsOnce, AsksListing, DescribesDeposit, IsListing, IsDepositQuery};
 ghost use Rattle.desk_forms.specs.declared.body.HoldBody.{HoldBody};
-ghost use Rattle.desk_forms.specs.declared.query.DepositQuery.{DepositQuery};
+ghost use Rattle.office_core.specs.Descriptions.{Description};
 ghost use Rattle.desk_forms.specs.declared.query.Listing.{Listing};
 
 /// A path decodes to what it means, each triplet from the front to its octet (RFC 3986,
@@ -31,14 +31,14 @@ pub fn counted_queries()
     ensures listing { (pairs : List (List ℕ × List ℕ))
         → ((listing : Listing) × AsksListing pairs listing) ↔ IsListing pairs }
     ensures deposit { (pairs : List (List ℕ × List ℕ))
-        → ((deposit : DepositQuery) × DescribesDeposit pairs deposit) ↔ IsDepositQuery pairs }
+        → ((deposit : Description) × DescribesDeposit pairs deposit) ↔ IsDepositQuery pairs }
 {}
 
 /// A query asks for one listing at most, and describes one deposit at most.
 pub fn one_query()
     ensures listing { (pairs : List (List ℕ × List ℕ)) (a b : Listing)
         → AsksListing pairs a → AsksListing pairs b → a ≡ b }
-    ensures deposit { (pairs : List (List ℕ × List ℕ)) (a b : DepositQuery)
+    ensures deposit { (pairs : List (List ℕ × List ℕ)) (a b : Description)
         → DescribesDeposit pairs a → DescribesDeposit pairs b → a ≡ b }
 {}
 

@@ -8,6 +8,4 @@ mod query;
 
 pub use body::{BodyFault, HoldBody, check_no_body, read_hold, read_years};
 pub use path::{OwnedPath, decode_path};
-pub use query::{
-    DepositQuery, Listing, QueryFault, check_no_query, read_deposit_query, read_listing,
-};
+pub use query::{Listing, QueryFault, check_no_query, read_deposit_query, read_listing};

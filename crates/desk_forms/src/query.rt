@@ -7,6 +7,7 @@ ghost use Rattle.std.specs.List.{list_any};
 ghost use Rattle.std.specs.Cow.{cow_str_bytes};
 ghost use Rattle.jiff.specs.Types.{Date};
 ghost use Rattle.office_core.specs.Days.{IsDay, day_text};
+ghost use Rattle.office_core.specs.Descriptions.{Description};
 ghost use Rattle.office_core.specs.Names.{IsName, IsAccession};
 ghost use Rattle.office_core.specs.Policies.{is_one_of};
 ghost use Rattle.desk_forms.specs.declared.query.QueryFault.TheVariants.{Memory};
@@ -14,7 +15,9 @@ ghost use Rattle.desk_forms.specs.Queries.{text_of, query_pairs, values_under, S
 ghost use Rattle.desk_forms.specs.QueryReading.{has_only};
 
 use form_urlencoded::{decode, raw_pairs};
-use office_core::{Accession, Day, Name, OwnedAccession, OwnedName};
+use office_core::{
+    Accession, Day, DescriptionOf, Name, OwnedAccession, OwnedDescription, OwnedName,
+};
 use std::alloc::{AllocError, Global};
 use std::borrow::CowStr;
 
@@ -23,16 +26,6 @@ use std::borrow::CowStr;
 pub struct Listing {
     pub collection: Option<OwnedName>,
     pub class: Option<OwnedName>,
-}
-
-/// What the query of a deposit says of it.
-#[derive(Debug, Drop)]
-pub struct DepositQuery {
-    pub collection: OwnedName,
-    pub class: OwnedName,
-    pub accession: OwnedAccession,
-    /// The day on which the records were closed.
-    pub closed: Day,
 }
 
 /// Why a query isn't read.
@@ -227,9 +220,9 @@ pub fn read_listing(alloc: Global, query: &[u8]) -> Result<Listing, QueryFault>
 /// What the query of a deposit says of it: `collection` and `class`, which are names, `accession`,
 /// an accession number, and `closed`, a day, each once. `BadQuery` where it describes no deposit,
 /// and `Memory` where there is no memory.
-pub fn read_deposit_query(alloc: Global, query: &[u8]) -> Result<DepositQuery, QueryFault>
+pub fn read_deposit_query(alloc: Global, query: &[u8]) -> Result<OwnedDescription, QueryFault>
     ensures deposit { IfOk result (λ deposit. DescribesDeposit (query_pairs query.now) deposit) }
-    ensures refused { result ≡ Err QueryFault.BadQuery → (deposit : DepositQuery)
+    ensures refused { result ≡ Err QueryFault.BadQuery → (deposit : Description)
         → ¬ DescribesDeposit (query_pairs query.now) deposit }
 {
     check_keys(
@@ -237,7 +230,7 @@ pub fn read_deposit_query(alloc: Global, query: &[u8]) -> Result<DepositQuery, Q
         query,
         &["collection", "class", "accession", "closed"],
     )?;
-    Ok(DepositQuery {
+    Ok(DescriptionOf {
         collection: need_name(alloc, query, "collection")?,
         class: need_name(alloc, query, "class")?,
         accession: need_accession(alloc, query, "accession")?,

@@ -1,5 +1,5 @@
 -- The head that is found is the shortest front that ends with an empty line.
-use Rattle.desk_heads.proofs.Common.{◌≡◌, ◌≢◌, ℕ, suc, zero, ◌<◌, ◌≤◌, ◌⊎◌, inl, inr, List, [], ◌∷◌, ◌++◌, length, take, drop, Option, Some, None, refl, sym, ap, ◌∙◌, subst, arith, true, false, cond, Bool, length-append, length-take-le, take_all, ◌==◌, length-take, take-append-le, take-append-drop, cases_lt, eqb-true, option_map, Short, TooLarge, Found, max_head, head_at, head_end, end_after_line_feed, or_later, head_place, EndsWithEmptyLine, IsHeadEnd, HasNoHead}
+use Rattle.desk_heads.proofs.Common.{◌≡◌, ◌≢◌, ℕ, suc, zero, ◌<◌, ◌≤◌, ◌⊎◌, inl, inr, List, [], ◌∷◌, ◌++◌, length, take, drop, Option, Some, None, refl, sym, ap, ◌∙◌, subst, arith, true, false, cond, Bool, length-append, length-take-le, take_all, ◌==◌, length-take, take-append-le, take-append-drop, cases_lt, eqb-true, option_map, Short, TooLarge, Found, max_head, head_at, head_end, end_after_line_feed, or_later, head_end_found, EndsWithEmptyLine, IsHeadEnd, HasNoHead}
 use Rattle.desk_heads.proofs.EndLemmas.{place_short, place_within, place_large, low_short, high_large, ends_here_more, suc_some, end_within, found_within}
 
 -- bytes that end so are two or more
@@ -192,7 +192,7 @@ pub first_found : (b : List ℕ) (n : ℕ) → IsHeadEnd b n → head_at b ≡ F
 unfolding head_at
 first_found b n h = elim (some_or_none (head_end (take max_head b))) [
   | inl none ↦ absurd (none_ends (take max_head b) none n (ends_front n b h.few h.ends))
-  | inr s ↦ ap (λ o. head_place o (length b)) s.1 ∙ ap Found (least_is_one b s.0 n (first_end (take max_head b) s.0 s.1) h)
+  | inr s ↦ ap (λ o. head_end_found o (length b)) s.1 ∙ ap Found (least_is_one b s.0 n (first_end (take max_head b) s.0 s.1) h)
 ]
 
 none_of : (b : List ℕ) → head_end (take max_head b) ≡ None → HasNoHead b
@@ -205,7 +205,7 @@ of_none b h = elim (some_or_none (head_end (take max_head b))) [
       absurd (h s.0 few (ends_whole s.0 b few (first_end (take max_head b) s.0 s.1).ends)))
 ]
 
-no_place : (e : Option ℕ) (len : ℕ) → ((n : ℕ) → head_place e len ≢ Found n) → e ≡ None
+no_place : (e : Option ℕ) (len : ℕ) → ((n : ℕ) → head_end_found e len ≢ Found n) → e ≡ None
 no_place None len h = refl
 no_place (Some n) len h = absurd (h n refl)
 
@@ -215,7 +215,7 @@ short_none b h = (place_short (head_end (take max_head b)) (length b) h, none_of
 
 pub none_short : (b : List ℕ) → length b < max_head × HasNoHead b → head_at b ≡ Short
 unfolding head_at
-none_short b h = ap (λ o. head_place o (length b)) (of_none b h.1) ∙ low_short (length b) h.0
+none_short b h = ap (λ o. head_end_found o (length b)) (of_none b h.1) ∙ low_short (length b) h.0
 
 pub large_none : (b : List ℕ) → head_at b ≡ TooLarge → max_head ≤ length b × HasNoHead b
 unfolding head_at
@@ -223,4 +223,4 @@ large_none b h = (place_large (head_end (take max_head b)) (length b) h, none_of
 
 pub none_large : (b : List ℕ) → max_head ≤ length b × HasNoHead b → head_at b ≡ TooLarge
 unfolding head_at
-none_large b h = ap (λ o. head_place o (length b)) (of_none b h.1) ∙ high_large (length b) h.0
+none_large b h = ap (λ o. head_end_found o (length b)) (of_none b h.1) ∙ high_large (length b) h.0

@@ -1,10 +1,10 @@
 -- Where a head ends, and what more bytes change.
-use Rattle.desk_heads.proofs.Common.{◌≡◌, ◌≢◌, ℕ, suc, ◌+◌, ◌-◌, ◌<◌, ◌≤◌, List, [], ◌∷◌, ◌++◌, length, take, drop, Option, Some, None, refl, sym, ap, ◌∙◌, arith, true, false, get_or, add-one, drop-cons, cond, Bool, nat_lt, length-append, take_all, min, length-take-le, ◌==◌, common_steps, length-take, take-append-le, append-nil, inl, inr, cases_lt, option_map, IfSome, Consumes, Short, TooLarge, Found, max_head, head_at, head_end, end_after_line_feed, or_later, head_place, empty_line_length}
+use Rattle.desk_heads.proofs.Common.{◌≡◌, ◌≢◌, ℕ, suc, ◌+◌, ◌-◌, ◌<◌, ◌≤◌, List, [], ◌∷◌, ◌++◌, length, take, drop, Option, Some, None, refl, sym, ap, ◌∙◌, arith, true, false, get_or, add-one, drop-cons, cond, Bool, nat_lt, length-append, take_all, min, length-take-le, ◌==◌, common_steps, length-take, take-append-le, append-nil, inl, inr, cases_lt, option_map, IfSome, Consumes, Short, TooLarge, Found, max_head, head_at, head_end, end_after_line_feed, or_later, head_end_found, empty_line_length}
 use Rattle.std.proofs.Math.Seq.{take-append-add}
-use Rattle.desk_heads.specs.declared.place.HeadPlace.{HeadPlace}
+use Rattle.desk_heads.specs.declared.head_end.HeadEnd.{HeadEnd}
 
 -- a head that is short has room
-pub place_short : (e : Option ℕ) (n : ℕ) → head_place e n ≡ Short → n < max_head
+pub place_short : (e : Option ℕ) (n : ℕ) → head_end_found e n ≡ Short → n < max_head
 place_short (Some k) n h = absurd (let f : Found k ≡ Short = h in cc)
 place_short None n h = grind (arith, common_steps)
 
@@ -95,17 +95,17 @@ head_end_more (x ∷ rest) more n h =
     (λ none k later. none_more (x == 10) (empty_line_length rest) (empty_line_length (rest ++ more)) (λ e. empty_line_none rest more (suc_some _ _ later).0 e (suc_some _ _ later).1) none)
     (suc_more _ _ (head_end_more rest more)) h
 
-pub low_short : (m : ℕ) → m < max_head → head_place None m ≡ Short
+pub low_short : (m : ℕ) → m < max_head → head_end_found None m ≡ Short
 low_short m h = grind (arith, common_steps)
 
-pub high_large : (m : ℕ) → max_head ≤ m → head_place None m ≡ TooLarge
+pub high_large : (m : ℕ) → max_head ≤ m → head_end_found None m ≡ TooLarge
 high_large m h = grind (arith, common_steps)
 
 -- the head stands in the front
-place_more : (e f : Option ℕ) (m n : ℕ) → m ≤ n → ((k : ℕ) → e ≡ Some k → f ≡ Some k) → (max_head ≤ m → f ≡ e) → head_place e m ≢ Short → head_place f n ≡ head_place e m
-place_more (Some k) f m n up some same h = ap (λ o. head_place o n) (some k refl)
+place_more : (e f : Option ℕ) (m n : ℕ) → m ≤ n → ((k : ℕ) → e ≡ Some k → f ≡ Some k) → (max_head ≤ m → f ≡ e) → head_end_found e m ≢ Short → head_end_found f n ≡ head_end_found e m
+place_more (Some k) f m n up some same h = ap (λ o. head_end_found o n) (some k refl)
 place_more None f m n up some same h =
-    elim (cases_lt m max_head) [ inl low ↦ absurd (h (low_short m low)) | inr high ↦ ap (λ o. head_place o n) (same high) ∙ high_large n (omega arith) ∙ sym (high_large m high) ]
+    elim (cases_lt m max_head) [ inl low ↦ absurd (h (low_short m low)) | inr high ↦ ap (λ o. head_end_found o n) (same high) ∙ high_large n (omega arith) ∙ sym (high_large m high) ]
 
 pub smaller_by : (old part new : List ℕ) (n : ℕ) → length old < max_head → 0 < n → n ≤ length part → new ≡ old ++ take n part → max_head - length new < max_head - length old
 smaller_by old part new n room some fits e = let l : length new ≡ length old + n = ap length e ∙ simp (length-append) (ap (λ k. length old + k) (length-take-le n part fits)) in omega arith
@@ -123,7 +123,7 @@ head_at_more b more h =
     place_more (head_end (take max_head b)) (head_end (take max_head (b ++ more))) (length b) (length (b ++ more)) longer (λ k e. ap head_end (front_more b more).1 ∙ head_end_more (take max_head b) (front_more b more).0 k e) (λ full. ap head_end (take-append-le max_head b more full)) h
 
 -- what is decided of what was given is decided of all
-pub whole_head : (a b : Option (List ℕ)) (given : List ℕ) (place : HeadPlace) → Consumes a b given → head_at given ≡ place → place ≢ Short → IfSome a (λ input. head_at input ≡ place)
+pub whole_head : (a b : Option (List ℕ)) (given : List ℕ) (place : HeadEnd) → Consumes a b given → head_at given ≡ place → place ≢ Short → IfSome a (λ input. head_at input ≡ place)
 whole_head None b given place c h not = tt
 whole_head (Some xs) None given place c h not = absurd c
 whole_head (Some xs) (Some ys) given place c h not = ap head_at c ∙ head_at_more given ys (λ e. not (sym h ∙ e)) ∙ h
@@ -136,11 +136,11 @@ take_min b = min_cases (length b) b refl
 
 pub place_found : (b : List ℕ) (m n : ℕ) → m ≡ min (length b) max_head → Some n ≡ head_end (take m b) → Found n ≡ head_at b
 unfolding head_at
-place_found b m n e h = ap (λ o. head_place o (length b)) (h ∙ ap (λ k. head_end (take k b)) e ∙ ap head_end (take_min b))
+place_found b m n e h = ap (λ o. head_end_found o (length b)) (h ∙ ap (λ k. head_end (take k b)) e ∙ ap head_end (take_min b))
 
 pub place_none : (b : List ℕ) (m : ℕ) → m ≡ min (length b) max_head → None ≡ head_end (take m b) → cond (nat_lt (length b) max_head) Short TooLarge ≡ head_at b
 unfolding head_at
-place_none b m e h = ap (λ o. head_place o (length b)) (h ∙ ap (λ k. head_end (take k b)) e ∙ ap head_end (take_min b))
+place_none b m e h = ap (λ o. head_end_found o (length b)) (h ∙ ap (λ k. head_end (take k b)) e ∙ ap head_end (take_min b))
 
 -- an end lies in the bytes
 one_some : (t : Bool) (n : ℕ) → cond t (Some 1) None ≡ Some n → n ≤ 1
@@ -175,7 +175,7 @@ end_within [] n h = absurd (cc h)
 end_within (x ∷ rest) n h = or_within (end_after_line_feed (x ∷ rest)) (option_map suc (head_end rest)) (suc (length rest)) n
     (λ k. here_within (x == 10) (empty_line_length rest) (length rest) k (empty_within rest)) (λ k. suc_within (head_end rest) (length rest) k (end_within rest)) h
 
-pub place_within : (e : Option ℕ) (len n : ℕ) → head_place e len ≡ Found n → e ≡ Some n
+pub place_within : (e : Option ℕ) (len n : ℕ) → head_end_found e len ≡ Found n → e ≡ Some n
 place_within (Some m) len n h = cc
 place_within None len n h = elim (cases_lt len max_head) [ inl low ↦ absurd (let s = low_short len low in let f : Short ≡ Found n = sym s ∙ h in cc) | inr high ↦ absurd (let s = high_large len high in let f : TooLarge ≡ Found n = sym s ∙ h in cc) ]
 
@@ -185,6 +185,6 @@ found_within b n h =
     let front = end_within (take max_head b) n (place_within (head_end (take max_head b)) (length b) n h) in
     let long = length-take max_head b in (omega arith, omega arith)
 
-pub place_large : (e : Option ℕ) (len : ℕ) → head_place e len ≡ TooLarge → max_head ≤ len
+pub place_large : (e : Option ℕ) (len : ℕ) → head_end_found e len ≡ TooLarge → max_head ≤ len
 place_large (Some n) len h = absurd (let f : Found n ≡ TooLarge = h in cc)
 place_large None len h = elim (cases_lt len max_head) [ inl low ↦ absurd (let f : Short ≡ TooLarge = sym (low_short len low) ∙ h in cc) | inr high ↦ high ]

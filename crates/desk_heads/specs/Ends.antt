@@ -2,8 +2,8 @@
 -- bare LF. That the first such end counts, and the most bytes, are Depot's own rules.
 use Rattle.std.specs.Prelude.{◌≡◌, ℕ, suc, ◌<◌, ◌≤◌, ◌==◌, ◌⊎◌, nat_lt, List, [], ◌∷◌, ◌++◌, take, length, Option, Some, None, option_map, if◌then◌else◌}
 use Rattle.desk_heads.specs.Bounds.{max_head}
-use Rattle.desk_heads.specs.declared.place.HeadPlace.{HeadPlace}
-use Rattle.desk_heads.specs.declared.place.HeadPlace.TheVariants.{Short, TooLarge, Found}
+use Rattle.desk_heads.specs.declared.head_end.HeadEnd.{HeadEnd}
+use Rattle.desk_heads.specs.declared.head_end.HeadEnd.TheVariants.{Short, TooLarge, Found}
 
 -- the bytes end with LF LF or LF CR LF
 abbrev pub EndsWithEmptyLine : List ℕ → Type 0
@@ -42,10 +42,10 @@ unfoldable pub head_end : List ℕ → Option ℕ
 head_end [] = None
 head_end (b ∷ rest) = or_later (end_after_line_feed (b ∷ rest)) (option_map suc (head_end rest))
 
-abbrev pub head_place : Option ℕ → ℕ → HeadPlace
-head_place (Some n) len = Found n
-head_place None len = if nat_lt len max_head then Short else TooLarge
+abbrev pub head_end_found : Option ℕ → ℕ → HeadEnd
+head_end_found (Some n) len = Found n
+head_end_found None len = if nat_lt len max_head then Short else TooLarge
 
 -- where the head of an input ends, so far as it has come
-unfoldable pub head_at : List ℕ → HeadPlace
-head_at input = head_place (head_end (take max_head input)) (length input)
+unfoldable pub head_at : List ℕ → HeadEnd
+head_at input = head_end_found (head_end (take max_head input)) (length input)

@@ -2,7 +2,7 @@
 use Rattle.std.specs.Prelude.{◌≡◌, ℕ, List, Option, Result, Ok, Err, ⊤}
 use Rattle.std.specs.Io.KnownBytes.{IsAtEnd}
 use Rattle.desk_heads.specs.Ends.{head_at}
-use Rattle.desk_heads.specs.declared.place.HeadPlace.TheVariants.{Short, TooLarge, Found}
+use Rattle.desk_heads.specs.declared.head_end.HeadEnd.TheVariants.{Short, TooLarge, Found}
 use Rattle.desk_heads.specs.declared.reading.HeadFault.{HeadFault}
 use Rattle.desk_heads.specs.declared.reading.HeadFault.TheVariants as faults
 use Rattle.desk_heads.specs.declared.reading.HeadBytes.{HeadBytes}

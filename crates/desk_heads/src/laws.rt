@@ -5,7 +5,7 @@ ghost use Rattle.desk_heads.specs.Bounds.{max_head};
 ghost use Rattle.desk_heads.specs.Ends.{IsHeadEnd, HasNoHead, head_at};
 ghost use Rattle.desk_heads.specs.Heads.{HeadContents, Judges};
 ghost use Rattle.desk_heads.specs.Steps.{RefusalStands, StandsFirst, SaysContents};
-ghost use Rattle.desk_heads.specs.declared.place.HeadPlace.TheVariants.{Short, TooLarge, Found};
+ghost use Rattle.desk_heads.specs.declared.head_end.HeadEnd.TheVariants.{Short, TooLarge, Found};
 ghost use Rattle.desk_heads.specs.declared.refusal.HeadRefusal.{HeadRefusal};
 
 /// The head that is found is the shortest front of the input that ends with an empty line, and has

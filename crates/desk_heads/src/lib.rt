@@ -3,14 +3,14 @@
 
 mod field;
 mod head;
+mod head_end;
 pub mod laws;
 mod length;
-mod place;
 mod reading;
 mod refusal;
 
 pub use head::{Head, judge_head};
+pub use head_end::{HeadEnd, find_head_end};
 pub use length::MAX_BODY;
-pub use place::{HeadPlace, place_of_head};
 pub use reading::{HeadBytes, HeadFault, read_head};
 pub use refusal::HeadRefusal;

@@ -6,7 +6,7 @@ ghost use Rattle.desk_devices.specs.Devices.{HasFailed, device_of, failures_of, 
 ghost use Rattle.desk_heads.specs.Bounds.{max_head};
 ghost use Rattle.desk_heads.specs.HeadReading.{EndRead, EndOf, HeadRead, HeadOf};
 
-use crate::place::{HeadPlace, place_of_head};
+use crate::head_end::{HeadEnd, find_head_end};
 use desk_devices::Counted;
 use std::alloc::Global;
 use std::io::Read;
@@ -53,10 +53,10 @@ fn read_to_end_of_head<R: Read>(
 {
     let mut chunk = [0u8; 1024];
     'reads: loop {
-        match place_of_head(bytes) {
-            HeadPlace::Found(n) => return Ok(n),
-            HeadPlace::TooLarge => return Err(HeadFault::TooLarge),
-            HeadPlace::Short => {}
+        match find_head_end(bytes) {
+            HeadEnd::Found(n) => return Ok(n),
+            HeadEnd::TooLarge => return Err(HeadFault::TooLarge),
+            HeadEnd::Short => {}
         }
         match reader.read(&mut chunk) {
             Ok(0) => return Err(HeadFault::Truncated),

@@ -1,19 +1,7 @@
 -- What is heard, from what was read.
-use Rattle.std.proofs.Common.{◌≡◌, ◌≢◌, ℕ, ◌+◌, ◌<◌, ◌≤◌, inl, inr, List, ◌++◌, length, take, drop, Option, Some, None, Ok, Err, refl, sym, ap, ◌∙◌, subst, arith, length-append, length-drop, append-nil}
-use Rattle.std.specs.Prelude.{Result, IfSome}
-use Rattle.std.specs.Io.KnownBytes.{Consumes, IsAtEnd}
-use Rattle.std.proofs.lemmas.List.{take-append-le, drop-append-le}
-use Rattle.desk_heads.specs.Ends.{head_at}
-use Rattle.desk_heads.specs.declared.place.HeadPlace.{HeadPlace}
-use Rattle.desk_heads.specs.declared.place.HeadPlace.TheVariants as places
+use Rattle.desk_hearing.proofs.Common.{◌≡◌, ◌≢◌, ℕ, ◌+◌, ◌<◌, ◌≤◌, inl, inr, List, ◌++◌, length, take, drop, Option, Some, None, Ok, Err, refl, sym, ap, ◌∙◌, subst, arith, length-append, length-drop, append-nil, Result, IfSome, Consumes, IsAtEnd, take-append-le, drop-append-le, head_at, HeadEnd, HeadContents, HeadRefusal, DeskRefusal, TooLarge, Truncated, Route, Hearing, HearsBody, HearsRest, HearsQuery, route_of_head, HearsRoute, HearsHead, HearsFront, HearsAt, Hears, Question}
+use Rattle.desk_heads.specs.declared.head_end.HeadEnd.TheVariants as ends
 use Rattle.desk_heads.proofs.EndLemmas.{head_at_more, found_within}
-use Rattle.desk_heads.specs.Heads.{HeadContents}
-use Rattle.desk_heads.specs.declared.refusal.HeadRefusal.{HeadRefusal}
-use Rattle.desk_routes.specs.declared.refusal.DeskRefusal.{DeskRefusal}
-use Rattle.desk_routes.specs.declared.refusal.DeskRefusal.TheVariants.{TooLarge, Truncated}
-use Rattle.desk_routes.specs.declared.route.Route.{Route}
-use Rattle.desk_hearing.specs.Hearing.{Hearing, HearsBody, HearsRest, HearsQuery, route_asked, HearsRoute, HearsHead, HearsFront, HearsAt, Hears}
-use Rattle.desk_hearing.specs.declared.question.Question.{Question}
 
 -- ---- a longer input is heard alike
 
@@ -36,24 +24,24 @@ route_longer contents (Err refusal) rest more hearing uncut h = h
 
 head_longer : (judgement : Result HeadContents HeadRefusal) (rest more : List ℕ) (hearing : Hearing) → hearing ≢ Err Truncated
     → HearsHead judgement rest hearing → HearsHead judgement (rest ++ more) hearing
-head_longer (Ok contents) rest more hearing uncut h = route_longer contents (route_asked contents) rest more hearing uncut h
+head_longer (Ok contents) rest more hearing uncut h = route_longer contents (route_of_head contents) rest more hearing uncut h
 head_longer (Err refusal) rest more hearing uncut h = h
 
 front_longer : (front rest more : List ℕ) (hearing : Hearing) → hearing ≢ Err Truncated → HearsFront front rest hearing → HearsFront front (rest ++ more) hearing
 front_longer front rest more hearing uncut h = (h.0, h.1, head_longer h.0 rest more hearing uncut h.2)
 
 -- a head stays where it is
-still_found : (b more : List ℕ) (n : ℕ) → head_at b ≡ places.Found n → head_at (b ++ more) ≡ places.Found n
-still_found b more n h = head_at_more b more (λ e. let wrong : places.Found n ≡ places.Short = sym h ∙ e in cc) ∙ h
+still_found : (b more : List ℕ) (n : ℕ) → head_at b ≡ ends.Found n → head_at (b ++ more) ≡ ends.Found n
+still_found b more n h = head_at_more b more (λ e. let wrong : ends.Found n ≡ ends.Short = sym h ∙ e in cc) ∙ h
 
 pub hears_longer : (b more : List ℕ) (hearing : Hearing) → Hears b hearing → hearing ≢ Err Truncated → Hears (b ++ more) hearing
 unfolding Hears
 hears_longer b more hearing h uncut = go (head_at b) refl h
   where
-    go : (p : HeadPlace) → head_at b ≡ p → HearsAt p b hearing → HearsAt (head_at (b ++ more)) (b ++ more) hearing
-    go places.Short e h = absurd (uncut h)
-    go places.TooLarge e h = subst (λ p. HearsAt p (b ++ more) hearing) (sym (head_at_more b more (λ s. let wrong : places.TooLarge ≡ places.Short = sym e ∙ s in cc) ∙ e)) h
-    go (places.Found n) e h =
+    go : (p : HeadEnd) → head_at b ≡ p → HearsAt p b hearing → HearsAt (head_at (b ++ more)) (b ++ more) hearing
+    go ends.Short e h = absurd (uncut h)
+    go ends.TooLarge e h = subst (λ p. HearsAt p (b ++ more) hearing) (sym (head_at_more b more (λ s. let wrong : ends.TooLarge ≡ ends.Short = sym e ∙ s in cc) ∙ e)) h
+    go (ends.Found n) e h =
         let within = (found_within b n e).0 in
         let longer = front_longer (take n b) (drop n b) more hearing uncut h in
         let front = subst (λ l. HearsFront l (drop n b ++ more) hearing) (sym (take-append-le n b more within)) longer in
@@ -62,23 +50,23 @@ hears_longer b more hearing h uncut = go (head_at b) refl h
 
 -- ---- what was read
 
-pub hears_large : (b : List ℕ) → head_at b ≡ places.TooLarge → Hears b (Err TooLarge)
+pub hears_large : (b : List ℕ) → head_at b ≡ ends.TooLarge → Hears b (Err TooLarge)
 unfolding Hears
 hears_large b h = subst (λ p. HearsAt p b (Err TooLarge)) (sym h) refl
 
-pub hears_short : (b : List ℕ) → head_at b ≡ places.Short → Hears b (Err Truncated)
+pub hears_short : (b : List ℕ) → head_at b ≡ ends.Short → Hears b (Err Truncated)
 unfolding Hears
 hears_short b h = subst (λ p. HearsAt p b (Err Truncated)) (sym h) refl
 
 -- what the front and all that follows it are heard as
-pub hears_front : (b more : List ℕ) (n : ℕ) (hearing : Hearing) → head_at b ≡ places.Found n → n ≤ length b
+pub hears_front : (b more : List ℕ) (n : ℕ) (hearing : Hearing) → head_at b ≡ ends.Found n → n ≤ length b
     → HearsFront (take n b) (drop n (b ++ more)) hearing → Hears (b ++ more) hearing
 unfolding Hears
 hears_front b more n hearing found within h =
     subst (λ p. HearsAt p (b ++ more) hearing) (sym (still_found b more n found))
     (subst (λ l. HearsFront l (drop n (b ++ more)) hearing) (sym (take-append-le n b more within)) h)
 
-pub hears_here : (b : List ℕ) (n : ℕ) (hearing : Hearing) → head_at b ≡ places.Found n → HearsFront (take n b) (drop n b) hearing → Hears b hearing
+pub hears_here : (b : List ℕ) (n : ℕ) (hearing : Hearing) → head_at b ≡ ends.Found n → HearsFront (take n b) (drop n b) hearing → Hears b hearing
 unfolding Hears
 hears_here b n hearing found h = subst (λ p. HearsAt p b hearing) (sym found) h
 
@@ -86,13 +74,13 @@ hears_here b n hearing found h = subst (λ p. HearsAt p b hearing) (sym found) h
 abbrev pub Announces : List ℕ → Option (List ℕ) → Question → ℕ → Type 0
 Announces front caller question count = (rest : List ℕ) (hearing : Hearing) → HearsRest caller question count rest hearing → HearsFront front rest hearing
 
-pub hears_cut : (b more all : List ℕ) (n count : ℕ) (caller : Option (List ℕ)) (question : Question) → all ≡ b ++ more → head_at b ≡ places.Found n → n ≤ length b
+pub hears_cut : (b more all : List ℕ) (n count : ℕ) (caller : Option (List ℕ)) (question : Question) → all ≡ b ++ more → head_at b ≡ ends.Found n → n ≤ length b
     → Announces (take n b) caller question count → length all < n + count → Hears all (Err Truncated)
 hears_cut b more all n count caller question e found within announces short =
     let cut : length (drop n (b ++ more)) < count = (let l = length-drop n (b ++ more) in let a = ap length e in let w = length-append b more in omega arith) in
     subst (λ l. Hears l (Err Truncated)) (sym e) (hears_front b more n (Err Truncated) found within (announces (drop n (b ++ more)) (Err Truncated) (inr (cut, refl))))
 
-pub hears_body : (b more all : List ℕ) (n count : ℕ) (caller : Option (List ℕ)) (question : Question) (hearing : Hearing) → all ≡ b ++ more → head_at b ≡ places.Found n → n ≤ length b
+pub hears_body : (b more all : List ℕ) (n count : ℕ) (caller : Option (List ℕ)) (question : Question) (hearing : Hearing) → all ≡ b ++ more → head_at b ≡ ends.Found n → n ≤ length b
     → Announces (take n b) caller question count → n + count ≤ length all → HearsBody caller question (take count (drop n all)) hearing → Hears all hearing
 hears_body b more all n count caller question hearing e found within announces long body =
     let fits : count ≤ length (drop n (b ++ more)) = (let l = length-drop n (b ++ more) in let a = ap length e in let w = length-append b more in omega arith) in

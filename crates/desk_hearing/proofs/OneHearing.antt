@@ -1,34 +1,19 @@
 -- An input is heard in one way.
-use Rattle.std.proofs.Common.{◌≡◌, ℕ, inl, inr, List, take, drop, Option, Ok, Err, sym, ap, ◌∙◌, subst, arith}
-use Rattle.std.specs.Prelude.{Result}
-use Rattle.desk_heads.specs.Ends.{head_at}
-use Rattle.desk_heads.specs.declared.place.HeadPlace.{HeadPlace}
-use Rattle.desk_heads.specs.declared.place.HeadPlace.TheVariants as places
-use Rattle.desk_heads.specs.Heads.{HeadContents}
-use Rattle.desk_heads.specs.declared.refusal.HeadRefusal.{HeadRefusal}
-use Rattle.desk_heads.proofs.StepLemmas.{one_judgement}
-use Rattle.desk_forms.specs.Queries.{query_pairs}
-use Rattle.desk_forms.specs.declared.query.Listing.{Listing}
+use Rattle.desk_hearing.proofs.Common.{◌≡◌, ℕ, inl, inr, List, take, drop, Option, Ok, Err, sym, ap, ◌∙◌, subst, arith, Result, head_at, HeadEnd, HeadContents, HeadRefusal, one_judgement, query_pairs, Listing, query_part, DeskRefusal, Route, QueryAsks, BodyAsks, ask_of_hold, heard_from, Hearing, HearsBody, HearsRest, HearsQuery, route_of_head, HearsRoute, HearsHead, HearsFront, HearsAt, Hears, OwnedRequest, Question}
+use Rattle.desk_heads.specs.declared.head_end.HeadEnd.TheVariants as ends
 use Rattle.desk_forms.proofs.SayingLemmas.{one_listing, one_deposit_query, one_years, one_hold}
-use Rattle.desk_routes.specs.Targets.{query_part}
-use Rattle.desk_routes.specs.declared.refusal.DeskRefusal.{DeskRefusal}
-use Rattle.desk_routes.specs.declared.route.Route.{Route}
 use Rattle.desk_routes.specs.declared.route.Route.TheVariants as routes
-use Rattle.desk_hearing.specs.Asking.{QueryAsks, BodyAsks, hold_asked, heard_from}
-use Rattle.desk_hearing.specs.Hearing.{Hearing, HearsBody, HearsRest, HearsQuery, route_asked, HearsRoute, HearsHead, HearsFront, HearsAt, Hears}
-use Rattle.desk_hearing.specs.declared.ask.Ask.{Ask}
-use Rattle.desk_hearing.specs.declared.ask.Ask.TheVariants as asks
-use Rattle.desk_hearing.specs.declared.question.Question.{Question}
+use Rattle.desk_hearing.specs.declared.owned_request.OwnedRequest.TheVariants as owned
 use Rattle.desk_hearing.specs.declared.question.Question.TheVariants as questions
 
-one_ask : (question : Question) (body : List ℕ) (a b : Ask) → BodyAsks question body a → BodyAsks question body b → a ≡ b
-one_ask (questions.Class name) body a b h k = h.2 ∙ ap (λ years. asks.DefineClass name years) (one_years body h.0 k.0 h.1 k.1) ∙ sym k.2
+one_ask : (question : Question) (body : List ℕ) (a b : OwnedRequest) → BodyAsks question body a → BodyAsks question body b → a ≡ b
+one_ask (questions.Class name) body a b h k = h.2 ∙ ap (λ years. owned.DefineClass name years) (one_years body h.0 k.0 h.1 k.1) ∙ sym k.2
 one_ask (questions.Deposit query) body a b h k = h ∙ sym k
-one_ask questions.Hold body a b h k = h.2 ∙ ap hold_asked (one_hold body h.0 k.0 h.1 k.1) ∙ sym k.2
+one_ask questions.Hold body a b h k = h.2 ∙ ap ask_of_hold (one_hold body h.0 k.0 h.1 k.1) ∙ sym k.2
 one_ask (questions.Whole known) body a b h k = h.1 ∙ sym k.1
 
 abbrev list_question : Listing → Question
-list_question listing = questions.Whole (asks.List listing.collection listing.class)
+list_question listing = questions.Whole (owned.List listing.collection listing.class)
 
 one_question : (route : Route) (query : List ℕ) (a b : Question) → QueryAsks route query a → QueryAsks route query b → a ≡ b
 one_question routes.Deposit query a b h k = h.2 ∙ ap questions.Deposit (one_deposit_query (query_pairs query) h.0 k.0 h.1 k.1) ∙ sym k.2
@@ -60,7 +45,7 @@ one_route contents (Ok route) rest a b h k = one_query contents route rest a b h
 one_route contents (Err refusal) rest a b h k = h ∙ sym k
 
 one_head : (judgement : Result HeadContents HeadRefusal) (rest : List ℕ) (a b : Hearing) → HearsHead judgement rest a → HearsHead judgement rest b → a ≡ b
-one_head (Ok contents) rest a b h k = one_route contents (route_asked contents) rest a b h k
+one_head (Ok contents) rest a b h k = one_route contents (route_of_head contents) rest a b h k
 one_head (Err refusal) rest a b h k = h ∙ sym k
 
 one_front : (front rest : List ℕ) (a b : Hearing) → HearsFront front rest a → HearsFront front rest b → a ≡ b
@@ -68,10 +53,10 @@ one_front front rest a b h k =
     let same = one_judgement front k.0 h.0 k.1 h.1 in
     one_head h.0 rest a b h.2 (subst (λ judgement. HearsHead judgement rest b) same k.2)
 
-one_at : (place : HeadPlace) (input : List ℕ) (a b : Hearing) → HearsAt place input a → HearsAt place input b → a ≡ b
-one_at (places.Found n) input a b h k = one_front (take n input) (drop n input) a b h k
-one_at places.TooLarge input a b h k = h ∙ sym k
-one_at places.Short input a b h k = h ∙ sym k
+one_at : (ended : HeadEnd) (input : List ℕ) (a b : Hearing) → HearsAt ended input a → HearsAt ended input b → a ≡ b
+one_at (ends.Found n) input a b h k = one_front (take n input) (drop n input) a b h k
+one_at ends.TooLarge input a b h k = h ∙ sym k
+one_at ends.Short input a b h k = h ∙ sym k
 
 pub one_hearing : (input : List ℕ) (a b : Hearing) → Hears input a → Hears input b → a ≡ b
 unfolding Hears

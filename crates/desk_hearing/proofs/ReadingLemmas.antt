@@ -1,31 +1,17 @@
 -- What a reader of a request answers, from what its steps answer.
-use Rattle.std.proofs.Common.{◌≡◌, ◌≢◌, ℕ, ◌+◌, ◌-◌, ◌<◌, ◌≤◌, inl, inr, List, ◌++◌, length, take, drop, Option, Some, None, Ok, Err, refl, sym, ap, ◌∙◌, subst, arith}
-use Rattle.std.specs.Prelude.{Result, IfSome}
-use Rattle.std.specs.Io.KnownBytes.{Consumes, IsAtEnd}
+use Rattle.desk_hearing.proofs.Common.{◌≡◌, ◌≢◌, ℕ, ◌+◌, ◌-◌, ◌<◌, ◌≤◌, inl, inr, List, ◌++◌, length, take, drop, Option, Some, None, Ok, Err, refl, sym, ap, ◌∙◌, subst, arith, Result, IfSome, Consumes, IsAtEnd, drop-take, head_at, DeskRefusal, Truncated, BadBody, HeardValue, heard_from, fault_of_head, fault_of_fill, fault_of_judging, Hears, AnswersFront, AnswersBody, OwnedRequest, JudgingFault, Announced, Question}
 use Rattle.std.proofs.KnownBytes.{Consumes-trans}
-use Rattle.std.proofs.lemmas.List.{drop-take}
-use Rattle.desk_heads.specs.Ends.{head_at}
 use Rattle.desk_heads.specs.HeadReading.{HeadRead}
 use Rattle.desk_devices.specs.declared.filling.FillFault.{FillFault}
 use Rattle.desk_devices.specs.declared.filling.FillFault.TheVariants as fills
 use Rattle.desk_heads.specs.declared.reading.HeadFault.{HeadFault}
 use Rattle.desk_heads.specs.declared.reading.HeadFault.TheVariants as heads
 use Rattle.desk_heads.specs.declared.reading.HeadBytes.{HeadBytes}
-use Rattle.desk_heads.specs.declared.place.HeadPlace.TheVariants as places
-use Rattle.desk_routes.specs.declared.refusal.DeskRefusal.{DeskRefusal}
-use Rattle.desk_routes.specs.declared.refusal.DeskRefusal.TheVariants.{TooLarge, Truncated, BadHead, Chunked, BadLength, TwoCallers, NoRoute, Method, BadQuery, BadBody}
-use Rattle.desk_hearing.specs.Asking.{HeardValue, heard_from}
-use Rattle.desk_hearing.specs.Faults.{fault_of_head, fault_of_fill, fault_of_judging}
-use Rattle.desk_hearing.specs.Hearing.{Hears}
+use Rattle.desk_heads.specs.declared.head_end.HeadEnd.TheVariants as ends
 use Rattle.desk_hearing.specs.Reading.{HeardOf, HeardOfAll}
-use Rattle.desk_hearing.specs.Steps.{AnswersFront, AnswersBody}
-use Rattle.desk_hearing.specs.declared.ask.Ask.{Ask}
 use Rattle.desk_hearing.specs.declared.fault.HeardFault.{HeardFault}
 use Rattle.desk_hearing.specs.declared.fault.HeardFault.TheVariants.{Refused, Read, Memory}
-use Rattle.desk_hearing.specs.declared.fault.JudgingFault.{JudgingFault}
 use Rattle.desk_hearing.specs.declared.fault.JudgingFault.TheVariants as judging
-use Rattle.desk_hearing.specs.declared.judging.Announced.{Announced}
-use Rattle.desk_hearing.specs.declared.question.Question.{Question}
 use Rattle.desk_hearing.proofs.HearingLemmas.{hears_large, hears_short, hears_here, hears_cut, hears_body, heard_of_all, heard_at_end, Announces}
 
 -- failures of the steps, at the types of their answers
@@ -52,7 +38,7 @@ head_given heads.Truncated old new h = λ remembered. let x = h (λ e. cc) in (x
 head_given heads.Read old new h = λ remembered. let x = h (λ e. cc) in (x.0, x.1, hears_short x.0 x.2)
 head_given heads.Memory old new h = λ remembered. absurd (remembered refl)
 
-pub front_given : (fault : JudgingFault) (old new : Option (List ℕ)) (bytes given : List ℕ) (n : ℕ) → Consumes old new given → bytes ≡ given → head_at given ≡ places.Found n
+pub front_given : (fault : JudgingFault) (old new : Option (List ℕ)) (bytes given : List ℕ) (n : ℕ) → Consumes old new given → bytes ≡ given → head_at given ≡ ends.Found n
     → AnswersFront (take n bytes) (Err fault) → GivenTo old new (Err (fault_of_judging fault))
 front_given (judging.Refused refusal) old new bytes given n c e found h = λ remembered.
     (given, c, hears_here given n (Err refusal) found (subst (λ l. AnswersFront (take n l) (Err (judging.Refused refusal))) e h (drop n given)))
@@ -67,12 +53,12 @@ pub record Filled (old new : Option (List ℕ)) (all : List ℕ) (n count : ℕ)
   pub more : List ℕ
   pub whole : all ≡ given ++ more
   pub consumed : Consumes old new all
-  pub found : head_at given ≡ places.Found n
+  pub found : head_at given ≡ ends.Found n
   pub within : n ≤ length given
   pub announces : Announces (take n given) caller question count
 
 pub filled : (old middle new : Option (List ℕ)) (bytes given more all : List ℕ) (n count : ℕ) (caller : Option (List ℕ)) (question : Question)
-    → Consumes old middle given → bytes ≡ given → head_at given ≡ places.Found n → n ≤ length bytes → Announces (take n bytes) caller question count
+    → Consumes old middle given → bytes ≡ given → head_at given ≡ ends.Found n → n ≤ length bytes → Announces (take n bytes) caller question count
     → all ≡ bytes ++ more → Consumes middle new more → Filled old new all n count caller question
 filled old middle new bytes given more all n count caller question c e found within announces whole d = record {
   given = given;
@@ -101,7 +87,7 @@ ask_given (judging.Refused refusal) old new all body n count caller question f l
     (all, f.consumed, hears_body f.given f.more all n count caller question (Err refusal) f.whole f.found f.within f.announces long (inr (refused.1, ap Err refused.0)))
 ask_given judging.Memory old new all body n count caller question f long e h = λ remembered. absurd (remembered refl)
 
-pub heard_given : (old new : Option (List ℕ)) (all body kept : List ℕ) (n count : ℕ) (caller : Option (List ℕ)) (question : Question) (ask : Ask) → Filled old new all n count caller question
+pub heard_given : (old new : Option (List ℕ)) (all body kept : List ℕ) (n count : ℕ) (caller : Option (List ℕ)) (question : Question) (ask : OwnedRequest) → Filled old new all n count caller question
     → n + count ≤ length all → body ≡ take count (drop n all) → kept ≡ take (n + count) all → AnswersBody question body (Ok ask)
     → GivenTo old new (Ok (heard_from caller ask (drop n kept)))
 heard_given old new all body kept n count caller question ask f long e k h = λ remembered.
@@ -122,15 +108,7 @@ nothing_said (Some input) fault h = h input
 refused_of_all : (old new : Option (List ℕ)) (refusal : DeskRefusal) → (given : List ℕ) × Consumes old new given × Hears given (Err refusal)
     → (refusal ≡ Truncated → IsAtEnd new) → IfSome old (λ input. Hears input (Err refusal))
 refused_of_all old new Truncated x end = heard_at_end old new x.0 (Err Truncated) x.1 (end refl) x.2
-refused_of_all old new TooLarge x end = heard_of_all old new x.0 (Err TooLarge) x.1 x.2 (λ e. cc)
-refused_of_all old new BadHead x end = heard_of_all old new x.0 (Err BadHead) x.1 x.2 (λ e. cc)
-refused_of_all old new Chunked x end = heard_of_all old new x.0 (Err Chunked) x.1 x.2 (λ e. cc)
-refused_of_all old new BadLength x end = heard_of_all old new x.0 (Err BadLength) x.1 x.2 (λ e. cc)
-refused_of_all old new TwoCallers x end = heard_of_all old new x.0 (Err TwoCallers) x.1 x.2 (λ e. cc)
-refused_of_all old new NoRoute x end = heard_of_all old new x.0 (Err NoRoute) x.1 x.2 (λ e. cc)
-refused_of_all old new (Method pattern) x end = heard_of_all old new x.0 (Err (Method pattern)) x.1 x.2 (λ e. cc)
-refused_of_all old new BadQuery x end = heard_of_all old new x.0 (Err BadQuery) x.1 x.2 (λ e. cc)
-refused_of_all old new BadBody x end = heard_of_all old new x.0 (Err BadBody) x.1 x.2 (λ e. cc)
+refused_of_all old new refusal x end = heard_of_all old new x.0 (Err refusal) x.1 x.2 (λ e. cc)
 
 pub whole_of : (old new : Option (List ℕ)) (result : Result HeardValue HeardFault) → GivenTo old new result → (result ≡ Err (Refused Truncated) → IsAtEnd new)
     → IfSome old (λ input. HeardOfAll input result)
@@ -144,10 +122,8 @@ whole_of old new (Err Memory) h end = nothing_said old Memory (λ input. tt)
 pub head_end : (fault : HeadFault) (old new : Option (List ℕ))
     → (no_head fault ≢ no_head heads.Memory → (given : List ℕ) × Consumes old new given × HeadRead given (Err fault) new)
     → unheard (fault_of_head fault) ≡ unheard (Refused Truncated) → IsAtEnd new
-head_end heads.TooLarge old new h e = absurd (cc)
 head_end heads.Truncated old new h e = (h (λ m. cc)).2.1
-head_end heads.Read old new h e = absurd (cc)
-head_end heads.Memory old new h e = absurd (cc)
+head_end _ old new h e = absurd (cc)
 
 pub judged_uncut : (fault : JudgingFault) → no_front fault ≢ no_front (judging.Refused Truncated) → unheard (fault_of_judging fault) ≢ unheard (Refused Truncated)
 judged_uncut (judging.Refused refusal) uncut = λ e. let same : refusal ≡ Truncated = cc in uncut (ap (λ r. no_front (judging.Refused r)) same)

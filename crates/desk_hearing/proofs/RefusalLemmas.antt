@@ -1,29 +1,9 @@
 -- An input is refused exactly where the steps before the refusal pass and its own fails.
-use Rattle.std.proofs.Common.{◌≡◌, ℕ, ◌≤◌, ◌⊎◌, inl, inr, List, ◌++◌, length, take, drop, Option, Some, None, Ok, Err, refl, sym, ap, ◌∙◌, subst, arith, length-append}
-use Rattle.std.specs.Prelude.{Result, ok_or, option_and_then}
-use Rattle.std.proofs.lemmas.List.{take-append-drop, length-take-le}
-use Rattle.std.proofs.Math.Seq.{take-append_seam, drop-append_seam}
-use Rattle.desk_heads.specs.Ends.{head_at, IsHeadEnd}
-use Rattle.desk_heads.specs.declared.place.HeadPlace.{HeadPlace}
-use Rattle.desk_heads.specs.declared.place.HeadPlace.TheVariants as places
-use Rattle.desk_heads.proofs.EndLaws.{found_first, first_found, short_none, none_short, large_none, none_large}
-use Rattle.desk_heads.specs.Heads.{HeadContents, Judges}
-use Rattle.desk_heads.specs.declared.refusal.HeadRefusal.{HeadRefusal}
+use Rattle.desk_hearing.proofs.Common.{◌≡◌, ℕ, ◌≤◌, ◌⊎◌, inl, inr, List, ◌++◌, length, take, drop, Option, Some, None, Ok, Err, refl, sym, ap, ◌∙◌, subst, arith, length-append, Result, ok_or, option_and_then, take-append-drop, length-take-le, take-append_seam, drop-append_seam, head_at, IsHeadEnd, HeadEnd, found_first, first_found, short_none, none_short, large_none, none_large, HeadContents, Judges, HeadRefusal, refused_first, first_refused, pattern_of, resource_named, method_of, route_at, route_of, route_of_resource, path_part, Resource, DeskRefusal, TooLarge, Truncated, BadHead, Chunked, BadLength, TwoCallers, NoRoute, Method, BadQuery, BadBody, Route, asked-found, nothing-named, named-nothing, method-refused, refused-method, Hearing, refusal_of_head, HearsBody, HearsRest, HearsQuery, route_of_head, HearsRoute, HearsHead, HearsFront, HearsAt, Hears, Question}
+use Rattle.desk_heads.specs.declared.head_end.HeadEnd.TheVariants as ends
 use Rattle.desk_heads.specs.declared.refusal.HeadRefusal.TheVariants as heads
-use Rattle.desk_heads.proofs.StepLemmas.{refused_first, first_refused}
-use Rattle.desk_routes.specs.Places.{pattern_of}
-use Rattle.desk_routes.specs.PathReading.{place_named}
-use Rattle.desk_routes.specs.Table.{method_of, route_at, route_of, route_of_place}
-use Rattle.desk_routes.specs.Targets.{path_part}
-use Rattle.desk_routes.specs.declared.place.Pattern.{Pattern}
-use Rattle.desk_routes.specs.declared.place.Place.{Place}
-use Rattle.desk_routes.specs.declared.refusal.DeskRefusal.{DeskRefusal}
-use Rattle.desk_routes.specs.declared.refusal.DeskRefusal.TheVariants.{TooLarge, Truncated, BadHead, Chunked, BadLength, TwoCallers, NoRoute, Method, BadQuery, BadBody}
-use Rattle.desk_routes.specs.declared.route.Route.{Route}
-use Rattle.desk_routes.proofs.TableLemmas.{asked-found, nothing-named, named-nothing, method-refused, refused-method}
-use Rattle.desk_hearing.specs.Hearing.{Hearing, refusal_of_head, HearsBody, HearsRest, HearsQuery, route_asked, HearsRoute, HearsHead, HearsFront, HearsAt, Hears}
+use Rattle.desk_routes.specs.declared.resource.Pattern.{Pattern}
 use Rattle.desk_hearing.specs.Refused.{BeginsWithHead, TakesHead, TakesRoute, TakesQuery, RefusesHead, IsRefused}
-use Rattle.desk_hearing.specs.declared.question.Question.{Question}
 use Rattle.desk_hearing.proofs.HearingLemmas.{hears_large, hears_short}
 use Rattle.desk_hearing.proofs.JudgingLemmas.{asked_route, head_refused, route_refused}
 use Rattle.desk_hearing.proofs.RequestLemmas.{route_asks}
@@ -34,18 +14,15 @@ refused_as : (input : List ℕ) (refusal other : DeskRefusal) → refusal ≡ ot
 refused_as input refusal other same h = subst (IsRefused input) (sym same) h
 
 head_is_refused : (input : List ℕ) (refusal : HeadRefusal) → RefusesHead input refusal → IsRefused input (refusal_of_head refusal)
-head_is_refused input heads.BadHead h = h
-head_is_refused input heads.Chunked h = h
-head_is_refused input heads.BadLength h = h
 head_is_refused input heads.TooLarge h = inr h
-head_is_refused input heads.TwoCallers h = h
+head_is_refused input _ h = h
 
 -- no route is refused for another reason than these
 or_fault : (found : Option Route) (refusal other : DeskRefusal) → ok_or found other ≡ Err refusal → refusal ≡ other
 or_fault (Some route) refusal other e = absurd (cc)
 or_fault None refusal other e = cc
 
-place_fault : (method : List ℕ) (place : Option Place) (refusal : DeskRefusal) → route_of_place method place ≡ Err refusal
+place_fault : (method : List ℕ) (place : Option Resource) (refusal : DeskRefusal) → route_of_resource method place ≡ Err refusal
     → (refusal ≡ NoRoute) ⊎ ((pattern : Pattern) × (refusal ≡ Method pattern))
 place_fault method None refusal e = inl (cc)
 place_fault method (Some place) refusal e =
@@ -53,7 +30,7 @@ place_fault method (Some place) refusal e =
 
 route_fault : (input : List ℕ) (contents : HeadContents) (rest : List ℕ) (refusal : DeskRefusal) → TakesHead input contents rest
     → route_of contents.method (path_part contents.target) ≡ Err refusal → IsRefused input refusal
-route_fault input contents rest refusal took e = elim (place_fault contents.method (place_named (path_part contents.target)) refusal e) [
+route_fault input contents rest refusal took e = elim (place_fault contents.method (resource_named (path_part contents.target)) refusal e) [
   | inl same ↦ refused_as input refusal NoRoute same (contents, rest, took, nothing-named contents.method (path_part contents.target) (e ∙ ap Err same))
   | inr some ↦ refused_as input refusal (Method some.0) some.1 (contents, rest, took, method-refused contents.method (path_part contents.target) some.0 (e ∙ ap Err some.1))
 ]
@@ -89,12 +66,12 @@ refused_query input contents route rest refusal found (inl h) =
 refused_query input contents route rest refusal found (inr h) =
     let e = h.1 in refused_as input refusal BadQuery (cc) (contents, route, rest, found, h.0)
 
-asked_is : (contents : HeadContents) (found : Result Route DeskRefusal) → route_asked contents ≡ found → route_of contents.method (path_part contents.target) ≡ found
-unfolding route_asked
+asked_is : (contents : HeadContents) (found : Result Route DeskRefusal) → route_of_head contents ≡ found → route_of contents.method (path_part contents.target) ≡ found
+unfolding route_of_head
 asked_is contents found e = e
 
 refused_route : (input : List ℕ) (contents : HeadContents) (rest : List ℕ) (refusal : DeskRefusal) → TakesHead input contents rest
-    → (found : Result Route DeskRefusal) → route_asked contents ≡ found → HearsRoute contents found rest (Err refusal) → IsRefused input refusal
+    → (found : Result Route DeskRefusal) → route_of_head contents ≡ found → HearsRoute contents found rest (Err refusal) → IsRefused input refusal
 refused_route input contents rest refusal took (Ok route) e h =
     refused_query input contents route rest refusal (record { head = took; asks = route_asks contents route e }) h
 refused_route input contents rest refusal took (Err fault) e h =
@@ -103,21 +80,21 @@ refused_route input contents rest refusal took (Err fault) e h =
 refused_head : (input head rest : List ℕ) (refusal : DeskRefusal) → BeginsWithHead input head rest
     → (judgement : Result HeadContents HeadRefusal) → Judges head judgement → HearsHead judgement rest (Err refusal) → IsRefused input refusal
 refused_head input head rest refusal begins (Ok contents) judged h =
-    refused_route input contents rest refusal (record { head = head; begins = begins; says = judged }) (route_asked contents) refl h
+    refused_route input contents rest refusal (record { head = head; begins = begins; says = judged }) (route_of_head contents) refl h
 refused_head input head rest refusal begins (Err fault) judged h =
     let same : refusal ≡ refusal_of_head fault = cc in
     refused_as input refusal (refusal_of_head fault) same (head_is_refused input fault (head, rest, begins, refused_first head fault judged))
 
-begins_found : (input : List ℕ) (n : ℕ) → head_at input ≡ places.Found n → BeginsWithHead input (take n input) (drop n input)
+begins_found : (input : List ℕ) (n : ℕ) → head_at input ≡ ends.Found n → BeginsWithHead input (take n input) (drop n input)
 begins_found input n found = let is = found_first input n found in record {
   parts = sym (take-append-drop n input);
   is = subst (IsHeadEnd input) (sym (length-take-le n input is.within)) is;
 }
 
-refused_at : (input : List ℕ) (refusal : DeskRefusal) (place : HeadPlace) → head_at input ≡ place → HearsAt place input (Err refusal) → IsRefused input refusal
-refused_at input refusal (places.Found n) found h = refused_head input (take n input) (drop n input) refusal (begins_found input n found) h.0 h.1 h.2
-refused_at input refusal places.TooLarge found h = let same : refusal ≡ TooLarge = cc in refused_as input refusal TooLarge same (inl (large_none input found))
-refused_at input refusal places.Short found h = let same : refusal ≡ Truncated = cc in refused_as input refusal Truncated same (inl (short_none input found))
+refused_at : (input : List ℕ) (refusal : DeskRefusal) (place : HeadEnd) → head_at input ≡ place → HearsAt place input (Err refusal) → IsRefused input refusal
+refused_at input refusal (ends.Found n) found h = refused_head input (take n input) (drop n input) refusal (begins_found input n found) h.0 h.1 h.2
+refused_at input refusal ends.TooLarge found h = let same : refusal ≡ TooLarge = cc in refused_as input refusal TooLarge same (inl (large_none input found))
+refused_at input refusal ends.Short found h = let same : refusal ≡ Truncated = cc in refused_as input refusal Truncated same (inl (short_none input found))
 
 pub refused_is : (input : List ℕ) (refusal : DeskRefusal) → Hears input (Err refusal) → IsRefused input refusal
 unfolding Hears

@@ -1,23 +1,7 @@
 -- An input is heard as asking something exactly where it is such a request.
-use Rattle.std.proofs.Common.{◌≡◌, ℕ, ◌≤◌, inl, inr, List, ◌++◌, length, take, drop, Option, Ok, Err, refl, sym, ap, ◌∙◌, subst, arith, length-append}
-use Rattle.std.specs.Prelude.{Result}
-use Rattle.std.proofs.lemmas.List.{take-append-drop, length-take-le}
-use Rattle.std.proofs.Math.Seq.{take-append_seam, drop-append_seam}
-use Rattle.desk_heads.specs.Ends.{head_at, IsHeadEnd}
-use Rattle.desk_heads.specs.declared.place.HeadPlace.{HeadPlace}
-use Rattle.desk_heads.specs.declared.place.HeadPlace.TheVariants as places
-use Rattle.desk_heads.proofs.EndLaws.{found_first, first_found}
-use Rattle.desk_heads.specs.Heads.{HeadContents, Judges}
-use Rattle.desk_heads.specs.declared.refusal.HeadRefusal.{HeadRefusal}
-use Rattle.desk_routes.specs.Table.{AsksFor}
-use Rattle.desk_routes.specs.Targets.{path_part, query_part}
-use Rattle.desk_routes.specs.declared.refusal.DeskRefusal.{DeskRefusal}
-use Rattle.desk_routes.specs.declared.route.Route.{Route}
-use Rattle.desk_routes.proofs.TableLemmas.{asked-found, found-asked}
-use Rattle.desk_hearing.specs.Asking.{HeardValue, bag_in, caller_text, heard_from, QueryAsks, BodyAsks}
-use Rattle.desk_hearing.specs.Hearing.{HearsBody, HearsRest, HearsQuery, route_asked, HearsRoute, HearsHead, HearsFront, HearsAt, Hears}
+use Rattle.desk_hearing.proofs.Common.{◌≡◌, ℕ, ◌≤◌, inl, inr, List, ◌++◌, length, take, drop, Option, Ok, Err, refl, sym, ap, ◌∙◌, subst, arith, length-append, Result, take-append-drop, length-take-le, take-append_seam, drop-append_seam, head_at, IsHeadEnd, HeadEnd, found_first, first_found, HeadContents, Judges, HeadRefusal, AsksFor, path_part, query_part, DeskRefusal, Route, asked-found, found-asked, HeardValue, bag_in, caller_text, heard_from, QueryAsks, BodyAsks, HearsBody, HearsRest, HearsQuery, route_of_head, HearsRoute, HearsHead, HearsFront, HearsAt, Hears, Question}
+use Rattle.desk_heads.specs.declared.head_end.HeadEnd.TheVariants as ends
 use Rattle.desk_hearing.specs.Requests.{SpellsRequest}
-use Rattle.desk_hearing.specs.declared.question.Question.{Question}
 use Rattle.desk_hearing.proofs.JudgingLemmas.{asked_route}
 
 -- ---- what is heard is a request
@@ -47,18 +31,18 @@ heard_route contents (Ok route) rest heard h = (route, refl, h)
 heard_route contents (Err refusal) rest heard h = absurd (cc)
 
 heard_head : (judgement : Result HeadContents HeadRefusal) (rest : List ℕ) (heard : HeardValue) → HearsHead judgement rest (Ok heard)
-    → (contents : HeadContents) × (judgement ≡ Ok contents) × HearsRoute contents (route_asked contents) rest (Ok heard)
+    → (contents : HeadContents) × (judgement ≡ Ok contents) × HearsRoute contents (route_of_head contents) rest (Ok heard)
 heard_head (Ok contents) rest heard h = (contents, refl, h)
 heard_head (Err refusal) rest heard h = absurd (cc)
 
-heard_at : (place : HeadPlace) (input : List ℕ) (heard : HeardValue) → HearsAt place input (Ok heard)
-    → (n : ℕ) × (place ≡ places.Found n) × HearsFront (take n input) (drop n input) (Ok heard)
-heard_at (places.Found n) input heard h = (n, refl, h)
-heard_at places.TooLarge input heard h = absurd (cc)
-heard_at places.Short input heard h = absurd (cc)
+heard_at : (ended : HeadEnd) (input : List ℕ) (heard : HeardValue) → HearsAt ended input (Ok heard)
+    → (n : ℕ) × (ended ≡ ends.Found n) × HearsFront (take n input) (drop n input) (Ok heard)
+heard_at (ends.Found n) input heard h = (n, refl, h)
+heard_at ends.TooLarge input heard h = absurd (cc)
+heard_at ends.Short input heard h = absurd (cc)
 
-pub route_asks : (contents : HeadContents) (route : Route) → route_asked contents ≡ Ok route → AsksFor contents.method (path_part contents.target) route
-unfolding route_asked
+pub route_asks : (contents : HeadContents) (route : Route) → route_of_head contents ≡ Ok route → AsksFor contents.method (path_part contents.target) route
+unfolding route_of_head
 route_asks contents route e = found-asked contents.method (path_part contents.target) route e
 
 pub heard_spells : (input : List ℕ) (heard : HeardValue) → Hears input (Ok heard) → SpellsRequest input heard
@@ -71,7 +55,7 @@ heard_spells input heard h =
     let front = at.2 in
     let head = heard_head front.0 rest heard front.2 in
     let contents = head.0 in
-    let route = heard_route contents (route_asked contents) rest heard head.2 in
+    let route = heard_route contents (route_of_head contents) rest heard head.2 in
     let query = heard_query contents route.0 rest heard route.2 in
     let body = heard_rest contents.caller query.0 contents.body_length rest heard query.2 in
     let said = heard_body contents.caller query.0 (take contents.body_length rest) heard body.1 in

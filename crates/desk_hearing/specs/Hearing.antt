@@ -1,8 +1,8 @@
 -- What is heard of a whole input: who asks what, or the first refusal in the order of the steps. RFC 9112, section 2.1, has the message: a head and a body. The steps and their order are Depot's own.
 use Rattle.std.specs.Prelude.{◌≡◌, ◌≤◌, ◌<◌, ◌⊎◌, ℕ, List, length, take, drop, Option, Result, Ok, Err}
 use Rattle.desk_heads.specs.Ends.{head_at}
-use Rattle.desk_heads.specs.declared.place.HeadPlace.{HeadPlace}
-use Rattle.desk_heads.specs.declared.place.HeadPlace.TheVariants as places
+use Rattle.desk_heads.specs.declared.head_end.HeadEnd.{HeadEnd}
+use Rattle.desk_heads.specs.declared.head_end.HeadEnd.TheVariants as ends
 use Rattle.desk_heads.specs.Heads.{HeadContents, Judges}
 use Rattle.desk_heads.specs.declared.refusal.HeadRefusal.{HeadRefusal}
 use Rattle.desk_heads.specs.declared.refusal.HeadRefusal.TheVariants as heads
@@ -12,7 +12,7 @@ use Rattle.desk_routes.specs.declared.refusal.DeskRefusal.{DeskRefusal}
 use Rattle.desk_routes.specs.declared.refusal.DeskRefusal.TheVariants.{TooLarge, Truncated, BadHead, Chunked, BadLength, TwoCallers, BadQuery, BadBody}
 use Rattle.desk_routes.specs.declared.route.Route.{Route}
 use Rattle.desk_hearing.specs.Asking.{HeardValue, heard_from, QueryAsks, BodyAsks}
-use Rattle.desk_hearing.specs.declared.ask.Ask.{Ask}
+use Rattle.desk_hearing.specs.declared.owned_request.OwnedRequest.{OwnedRequest}
 use Rattle.desk_hearing.specs.declared.question.Question.{Question}
 
 -- who asks what, or why that is refused
@@ -30,8 +30,8 @@ refusal_of_head heads.TwoCallers = TwoCallers
 -- the body: it asks something, or is refused
 abbrev pub HearsBody : Option (List ℕ) → Question → List ℕ → Hearing → Type 0
 HearsBody caller question body hearing =
-    ((ask : Ask) × BodyAsks question body ask × (hearing ≡ Ok (heard_from caller ask body)))
-    ⊎ (((ask : Ask) → BodyAsks question body ask → ⊥) × (hearing ≡ Err BadBody))
+    ((ask : OwnedRequest) × BodyAsks question body ask × (hearing ≡ Ok (heard_from caller ask body)))
+    ⊎ (((ask : OwnedRequest) → BodyAsks question body ask → ⊥) × (hearing ≡ Err BadBody))
 
 -- the end of the body: it has come, or the input ends before; bytes after the body are ignored
 abbrev pub HearsRest : Option (List ℕ) → Question → ℕ → List ℕ → Hearing → Type 0
@@ -46,8 +46,8 @@ HearsQuery contents route rest hearing =
     ⊎ (((question : Question) → QueryAsks route (query_part contents.target) question → ⊥) × (hearing ≡ Err BadQuery))
 
 -- the route that a head asks for, or why there is none
-unfoldable pub route_asked : HeadContents → Result Route DeskRefusal
-route_asked contents = route_of contents.method (path_part contents.target)
+unfoldable pub route_of_head : HeadContents → Result Route DeskRefusal
+route_of_head contents = route_of contents.method (path_part contents.target)
 
 -- the route: there is one of this method and path, or it is refused
 abbrev pub HearsRoute : HeadContents → Result Route DeskRefusal → List ℕ → Hearing → Type 0
@@ -56,7 +56,7 @@ HearsRoute contents (Err refusal) rest hearing = hearing ≡ Err refusal
 
 -- the head: it says something, or is refused (no head, chunks, the body's length, two callers)
 abbrev pub HearsHead : Result HeadContents HeadRefusal → List ℕ → Hearing → Type 0
-HearsHead (Ok contents) rest hearing = HearsRoute contents (route_asked contents) rest hearing
+HearsHead (Ok contents) rest hearing = HearsRoute contents (route_of_head contents) rest hearing
 HearsHead (Err refusal) rest hearing = hearing ≡ Err (refusal_of_head refusal)
 
 -- the front that is the head, and what follows it
@@ -64,10 +64,10 @@ abbrev pub HearsFront : List ℕ → List ℕ → Hearing → Type 0
 HearsFront front rest hearing = (judgement : Result HeadContents HeadRefusal) × Judges front judgement × HearsHead judgement rest hearing
 
 -- the end of the head: it is found, or is too far, or hasn't come
-abbrev pub HearsAt : HeadPlace → List ℕ → Hearing → Type 0
-HearsAt (places.Found n) input hearing = HearsFront (take n input) (drop n input) hearing
-HearsAt places.TooLarge input hearing = hearing ≡ Err TooLarge
-HearsAt places.Short input hearing = hearing ≡ Err Truncated
+abbrev pub HearsAt : HeadEnd → List ℕ → Hearing → Type 0
+HearsAt (ends.Found n) input hearing = HearsFront (take n input) (drop n input) hearing
+HearsAt ends.TooLarge input hearing = hearing ≡ Err TooLarge
+HearsAt ends.Short input hearing = hearing ≡ Err Truncated
 
 -- what is heard of an input
 unfoldable pub Hears : List ℕ → Hearing → Type 0

@@ -6,16 +6,16 @@ use Rattle.desk_heads.specs.Heads.{HeadContents, Judges}
 use Rattle.desk_heads.specs.Steps.{StandsFirst}
 use Rattle.desk_heads.specs.declared.refusal.HeadRefusal.{HeadRefusal}
 use Rattle.desk_heads.specs.declared.refusal.HeadRefusal.TheVariants as heads
-use Rattle.desk_routes.specs.Places.{SpellsPlace}
+use Rattle.desk_routes.specs.Resources.{SpellsResource}
 use Rattle.desk_routes.specs.Table.{AsksFor, IsOtherMethod}
 use Rattle.desk_routes.specs.Targets.{path_part, query_part}
-use Rattle.desk_routes.specs.declared.place.Pattern.{Pattern}
-use Rattle.desk_routes.specs.declared.place.Place.{Place}
+use Rattle.desk_routes.specs.declared.resource.Pattern.{Pattern}
+use Rattle.desk_routes.specs.declared.resource.Resource.{Resource}
 use Rattle.desk_routes.specs.declared.refusal.DeskRefusal.{DeskRefusal}
 use Rattle.desk_routes.specs.declared.refusal.DeskRefusal.TheVariants.{TooLarge, Truncated, BadHead, Chunked, BadLength, TwoCallers, NoRoute, Method, BadQuery, BadBody}
 use Rattle.desk_routes.specs.declared.route.Route.{Route}
 use Rattle.desk_hearing.specs.Asking.{QueryAsks, BodyAsks}
-use Rattle.desk_hearing.specs.declared.ask.Ask.{Ask}
+use Rattle.desk_hearing.specs.declared.owned_request.OwnedRequest.{OwnedRequest}
 use Rattle.desk_hearing.specs.declared.question.Question.{Question}
 
 -- ---- the steps that pass, each with those before it
@@ -66,7 +66,7 @@ RefusesHead input refusal = (head rest : List ℕ) × BeginsWithHead input head 
 -- its path names nothing
 abbrev pub NamesNothing : List ℕ → Type 0
 NamesNothing input =
-    (contents : HeadContents) × (rest : List ℕ) × TakesHead input contents rest × ((place : Place) → SpellsPlace (path_part contents.target) place → ⊥)
+    (contents : HeadContents) × (rest : List ℕ) × TakesHead input contents rest × ((resource : Resource) → SpellsResource (path_part contents.target) resource → ⊥)
 
 -- its path names a place of this pattern, which doesn't take the method
 abbrev pub RefusesMethod : List ℕ → Pattern → Type 0
@@ -86,7 +86,7 @@ EndsInBody input =
 
 -- its body isn't as the route says
 abbrev pub RefusesBody : List ℕ → Type 0
-RefusesBody input = (question : Question) × (body : List ℕ) × HasBody input question body × ((ask : Ask) → BodyAsks question body ask → ⊥)
+RefusesBody input = (question : Question) × (body : List ℕ) × HasBody input question body × ((ask : OwnedRequest) → BodyAsks question body ask → ⊥)
 
 -- ---- each refusal
 

@@ -5,7 +5,7 @@ use Rattle.desk_routes.specs.declared.route.Route.{Route}
 use Rattle.desk_routes.specs.declared.route.Route.TheVariants as routes
 use Rattle.desk_hearing.specs.Asking.{HasNoPair, QueryAsks, BodyAsks}
 use Rattle.desk_hearing.specs.Hearing.{Hearing, HearsRest, HearsFront}
-use Rattle.desk_hearing.specs.declared.ask.Ask.{Ask}
+use Rattle.desk_hearing.specs.declared.owned_request.OwnedRequest.{OwnedRequest}
 use Rattle.desk_hearing.specs.declared.fault.JudgingFault.{JudgingFault}
 use Rattle.desk_hearing.specs.declared.fault.JudgingFault.TheVariants.{Refused, Memory}
 use Rattle.desk_hearing.specs.declared.judging.Announced.{Announced}
@@ -19,9 +19,9 @@ AnswersQuery route query (Err (Refused refusal)) = (refusal ≡ BadQuery) × ((q
 AnswersQuery route query (Err Memory) = ⊤
 
 -- the body asks this, or nothing
-abbrev pub AnswersBody : Question → List ℕ → Result Ask JudgingFault → Type 0
+abbrev pub AnswersBody : Question → List ℕ → Result OwnedRequest JudgingFault → Type 0
 AnswersBody question body (Ok ask) = BodyAsks question body ask
-AnswersBody question body (Err (Refused refusal)) = (refusal ≡ BadBody) × ((ask : Ask) → BodyAsks question body ask → ⊥)
+AnswersBody question body (Err (Refused refusal)) = (refusal ≡ BadBody) × ((ask : OwnedRequest) → BodyAsks question body ask → ⊥)
 AnswersBody question body (Err Memory) = ⊤
 
 -- whatever follows the front: it is heard as its body is, or it is refused

@@ -3,7 +3,7 @@
 ghost use Rattle.std.specs.Prelude.{◌≡◌};
 ghost use Rattle.desk_hearing.specs.Asking.{ask_and_bag};
 
-use crate::ask::Ask;
+use crate::owned_request::OwnedRequest;
 use office_core::{OwnedName, Request};
 use std::marker::Model;
 
@@ -11,7 +11,7 @@ use std::marker::Model;
 #[derive(Drop)]
 pub struct Heard {
     pub(crate) caller: Option<OwnedName>,
-    pub(crate) ask: Ask,
+    pub(crate) ask: OwnedRequest,
     /// The bytes that were read, of which the body is what follows the head.
     pub(crate) bytes: Vec<u8>,
     /// Where the body begins.

@@ -1,11 +1,11 @@
 //! What the desk hears: a request read from the bytes of a reader, or why it is refused.
 #![tactic(auto)]
 
-mod ask;
 mod fault;
 mod heard;
 mod judging;
 pub mod laws;
+mod owned_request;
 mod question;
 mod reading;
 

@@ -3,14 +3,14 @@
 ghost use Rattle.std.specs.Prelude.{◌≡◌, ◌↔◌, Err, IfErr, IsOk};
 ghost use Rattle.desk_hearing.specs.Steps.{AllowsQuery, AnswersQuery, AnswersBody, IsRefusedQuery, IsRefusedBody};
 
-use crate::ask::Ask;
 use crate::fault::JudgingFault;
+use crate::owned_request::OwnedRequest;
 use desk_forms::{
-    DepositQuery, HoldBody, QueryFault, check_no_body, check_no_query, decode_path,
-    read_deposit_query, read_hold, read_listing, read_years,
+    HoldBody, QueryFault, check_no_body, check_no_query, decode_path, read_deposit_query,
+    read_hold, read_listing, read_years,
 };
 use desk_routes::{DeskRefusal, Route};
-use office_core::OwnedName;
+use office_core::{OwnedDescription, OwnedName};
 use std::alloc::Global;
 
 /// What is asked, as far as the route and its query say it.
@@ -19,11 +19,11 @@ pub(crate) enum Question {
     /// A class, whose years are in the body.
     Class(OwnedName),
     /// A deposit, whose bag is the body.
-    Deposit(DepositQuery),
+    Deposit(OwnedDescription),
     /// A hold, which the body says.
     Hold,
     /// All that is asked: there is no body.
-    Whole(Ask),
+    Whole(OwnedRequest),
 }
 
 /// Refuses a pair on a route without keys.
@@ -53,65 +53,64 @@ pub(crate) fn question_of(
         Route::DefineClass(name) => Ok(Question::Class(name.to_owned(alloc)?)),
         Route::DefineCollection(name) => {
             let name = name.to_owned(alloc)?;
-            Ok(Question::Whole(Ask::DefineCollection { name }))
+            Ok(Question::Whole(OwnedRequest::DefineCollection { name }))
         }
         Route::Deposit => Ok(Question::Deposit(read_deposit_query(alloc, query)?)),
         Route::List => {
             let listing = read_listing(alloc, query)?;
-            Ok(Question::Whole(Ask::List {
+            Ok(Question::Whole(OwnedRequest::List {
                 collection: listing.collection,
                 class: listing.class,
             }))
         }
-        Route::Record(deposit) => Ok(Question::Whole(Ask::Record { deposit })),
-        Route::Dispose(deposit) => Ok(Question::Whole(Ask::Dispose { deposit })),
-        Route::Holds(deposit) => Ok(Question::Whole(Ask::Holds { deposit })),
-        Route::DownloadBag(deposit) => Ok(Question::Whole(Ask::DownloadBag { deposit })),
+        Route::Record(deposit) => Ok(Question::Whole(OwnedRequest::Record { deposit })),
+        Route::Dispose(deposit) => Ok(Question::Whole(OwnedRequest::Dispose { deposit })),
+        Route::Holds(deposit) => Ok(Question::Whole(OwnedRequest::Holds { deposit })),
+        Route::DownloadBag(deposit) => Ok(Question::Whole(OwnedRequest::DownloadBag { deposit })),
         Route::DownloadFile { deposit, path } => {
             let path = decode_path(alloc, path.as_str())?;
-            Ok(Question::Whole(Ask::DownloadFile { deposit, path }))
+            Ok(Question::Whole(OwnedRequest::DownloadFile { deposit, path }))
         }
-        Route::Audit(deposit) => Ok(Question::Whole(Ask::Audit { deposit })),
+        Route::Audit(deposit) => Ok(Question::Whole(OwnedRequest::Audit { deposit })),
         Route::PlaceHold => Ok(Question::Hold),
-        Route::Release(hold) => Ok(Question::Whole(Ask::Release { hold })),
-        Route::DueList => Ok(Question::Whole(Ask::DueList)),
+        Route::Release(hold) => Ok(Question::Whole(OwnedRequest::Release { hold })),
+        Route::DueList => Ok(Question::Whole(OwnedRequest::DueList)),
     }
 }
 
 /// What the body says of a hold.
-fn hold_of(alloc: Global, body: &[u8]) -> Result<Ask, JudgingFault>
+fn hold_of(alloc: Global, body: &[u8]) -> Result<OwnedRequest, JudgingFault>
     ensures asked { AnswersBody Question.Hold body.now result }
     ensures unread { IsRefusedBody Question.Hold body.now
         → result ≡ Err (JudgingFault.Refused DeskRefusal.BadBody) }
 {
     match read_hold(alloc, body)? {
-        HoldBody::Deposit { deposit, matter } => Ok(Ask::HoldDeposit { deposit, matter }),
-        HoldBody::Collection { collection, matter } => Ok(Ask::HoldCollection {
+        HoldBody::Deposit { deposit, matter } => Ok(OwnedRequest::HoldDeposit { deposit, matter }),
+        HoldBody::Collection { collection, matter } => Ok(OwnedRequest::HoldCollection {
             collection,
             matter,
         }),
-        HoldBody::Class { class, matter } => Ok(Ask::HoldClass { class, matter }),
+        HoldBody::Class { class, matter } => Ok(OwnedRequest::HoldClass { class, matter }),
     }
 }
 
 /// What the question asks with this body. A body that is no text where JSON is asked for, or is there
 /// where none is, is refused before anything is allocated.
-pub(crate) fn ask_of(alloc: Global, question: Question, body: &[u8]) -> Result<Ask, JudgingFault>
+pub(crate) fn ask_of(
+    alloc: Global,
+    question: Question,
+    body: &[u8],
+) -> Result<OwnedRequest, JudgingFault>
     ensures asked { AnswersBody question body.now result }
     ensures unread { IsRefusedBody question body.now
         → result ≡ Err (JudgingFault.Refused DeskRefusal.BadBody) }
 {
     match question {
-        Question::Class(name) => Ok(Ask::DefineClass {
+        Question::Class(name) => Ok(OwnedRequest::DefineClass {
             name,
             years: read_years(alloc, body)?,
         }),
-        Question::Deposit(query) => Ok(Ask::Deposit {
-            collection: query.collection,
-            class: query.class,
-            accession: query.accession,
-            closed: query.closed,
-        }),
+        Question::Deposit(description) => Ok(OwnedRequest::Deposit { description }),
         Question::Hold => hold_of(alloc, body),
         Question::Whole(ask) => {
             check_no_body(body)?;

@@ -1,20 +1,17 @@
 -- What came of one connection, and of several in turn.
-use Rattle.std.proofs.Common.{◌≡◌, ℕ, List, [], ◌∷◌, ◌++◌, Bool, true, false, cond, ◌+◌, ◌<◌, ◌≤◌, Option, Some, None, IfOk, IfSome, Result, Ok, Err, OnErr, OnOk, ◌⊎◌, inl, inr, length, take, count_by, refl, sym, ◌∙◌, ap, subst, append-nil, arith}
-use mir.Val.{bool_byte}
+use Rattle.desk_listening.proofs.Common.{◌≡◌, ℕ, List, [], ◌∷◌, ◌++◌, Bool, true, false, cond, ◌+◌, ◌<◌, ◌≤◌, Option, Some, None, IfOk, IfSome, Result, Ok, Err, OnErr, OnOk, ◌⊎◌, inl, inr, length, take, count_by, refl, sym, ◌∙◌, ap, subst, append-nil, arith, bool_byte, Appends, Consumes, IsAtEnd, device_of, OfficeNote, Connection, served, refused, lost, IsAfter, IsAfterAll, IsOf, IsRun, ReportsConnection, answers_of, is_answered, is_served, items_of, noted, Takes, TakesAll, IsWritten, Leaves, Link, Talks, WritesBeginning}
 use Rattle.jiff.specs.Types.{Date}
 use Rattle.sqlite.specs.Held.{Held, state}
 use Rattle.sqlite.specs.State.{State, HasCleanDisk}
 use Rattle.sqlite.specs.Store.{Ghosts}
 use Rattle.office_core.specs.declared.answer.Answer.{Answer}
 use Rattle.office_history.specs.Runs.{Item}
-use Rattle.office_engine.specs.Keeping.{IsKeptBy, Runs, Serves}
+use Rattle.office_engine.specs.Storing.{IsStoredBy, Runs, TakesStep}
 use Rattle.std.proofs.lemmas.List.Sums.{sum_by-append}
 use Rattle.std.proofs.lemmas.Option.{IfSome_then}
 use Rattle.std.specs.Prelude.{MatchBool}
-use Rattle.std.specs.Io.KnownBytes.{Appends, Consumes, IsAtEnd}
 use Rattle.std.specs.declared.io.Read.{Ghosts as Reads}
 use Rattle.std.specs.declared.io.Write.{Ghosts as Writes}
-use Rattle.desk_devices.specs.Devices.{device_of}
 use Rattle.desk_devices.specs.declared.counted.Counted.{Counted}
 use Rattle.desk_routes.specs.declared.refusal.DeskRefusal.TheVariants.{Truncated}
 use Rattle.desk_answers.specs.Answers.{answer_text, refusal_text}
@@ -25,11 +22,7 @@ use Rattle.desk_answers.specs.declared.status.Status.{Status}
 use Rattle.desk_hearing.specs.Hearing.{Hears}
 use Rattle.desk_serving.specs.declared.serving.DeskFault.{DeskFault}
 use Rattle.desk_serving.specs.declared.serving.DeskFault.TheVariants.{Read, Write, Memory}
-use Rattle.desk_log.specs.declared.note.OfficeNote.{OfficeNote}
 use Rattle.desk_serving.specs.Serving.{IsNoted, ServesNoted}
-use Rattle.desk_listening.specs.Listening.{Connection, served, refused, lost, IsAfter, IsAfterAll, IsOf, IsRun, ReportsConnection, answers_of, is_answered, is_served, items_of, noted}
-use Rattle.desk_listening.specs.Accepting.{Takes, TakesAll}
-use Rattle.desk_listening.specs.Peers.{IsWritten, Leaves, Link, Talks, WritesBeginning}
 use Rattle.desk_listening.specs.declared.draining.Drained.{Drained}
 use Rattle.desk_listening.specs.declared.listener.Listener.{Ghosts as Listeners}
 use Rattle.desk_listening.specs.declared.patience.Patience.{Patience}
@@ -236,7 +229,7 @@ module _ {S : Type 0} (g : Ghosts S) (day : Date) where
     clean : HasCleanDisk (state g old)
     runs : Runs (state g old) (state g new) (items_of connections) (answers_of connections)
 
-  step_runs : (old mid new : State) (item : Item) (items : List Item) (answer : Answer) (answers : List Answer) → Serves old mid item answer → Runs mid new items answers → Runs old new (item ∷ items) (answer ∷ answers)
+  step_runs : (old mid new : State) (item : Item) (items : List Item) (answer : Answer) (answers : List Answer) → TakesStep old mid item answer → Runs mid new items answers → Runs old new (item ∷ items) (answer ∷ answers)
   step_runs old mid new item items answer answers one more h legal keeps =
       let first = one h legal keeps in
       let rest = more first.0 first.2.legal first.2.kept in
@@ -245,7 +238,7 @@ module _ {S : Type 0} (g : Ghosts S) (day : Date) where
   ran : (connections : List Connection) (old new : Held S) → IsAfterAll g day connections old new → HasCleanDisk (state g new) → Ran connections old new
   ran [] old new same clean = record {
     clean = subst (λ (x : Held S). HasCleanDisk (state g x)) same clean;
-    runs = λ h legal keeps. (h, refl, record { legal = legal; kept = subst (λ (x : Held S). IsKeptBy h (state g x)) (sym same) keeps });
+    runs = λ h legal keeps. (h, refl, record { legal = legal; kept = subst (λ (x : Held S). IsStoredBy h (state g x)) (sym same) keeps });
   }
   ran (served bytes item answer all_written ∷ more) old new all clean =
       let rest = ran more all.0 new all.2 clean in

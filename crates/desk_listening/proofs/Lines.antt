@@ -1,14 +1,5 @@
 -- What the log is told of one connection more, and of the end.
-use Rattle.std.proofs.Common.{◌≡◌, ◌++◌, ◌∷◌, [], ◌∙◌, List, Option, map, ap, append-nil, refl, subst, sym}
-use Rattle.std.proofs.lemmas.List.{map-append}
-use Rattle.desk_log.specs.Logging.{IsLogged, Log}
-use Rattle.desk_log.specs.Watching.{first_watch, lines_at, watch_after}
-use Rattle.desk_log.specs.declared.watch.Watch.{Watch}
-use Rattle.desk_log.specs.declared.note.OfficeNote.{OfficeNote}
-use Rattle.desk_log.proofs.LoggingLemmas.{more_lines}
-use Rattle.desk_log.proofs.WatchingLemmas.{lines_after, one_after}
-use Rattle.desk_listening.specs.Listening.{Connection, noted}
-use Rattle.desk_listening.specs.Logging.{lines_of, watch_of}
+use Rattle.desk_listening.proofs.Common.{◌≡◌, ◌++◌, ◌∷◌, [], List, Option, map, append-nil, subst, sym, map-append, IsLogged, Log, first_watch, lines_at, watch_after, Watch, OfficeNote, more_lines, lines_after, one_after, Connection, noted, lines_of, watch_of}
 
 pub watch_more : (connections : List Connection) (last : Connection) (watch next : Watch) (note : Option OfficeNote) → watch ≡ watch_of connections → note ≡ noted last → next ≡ watch_after watch note
     → next ≡ watch_of (connections ++ last ∷ [])

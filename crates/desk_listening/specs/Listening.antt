@@ -6,7 +6,7 @@ use Rattle.sqlite.specs.State.{HasCleanDisk}
 use Rattle.sqlite.specs.Store.{Ghosts}
 use Rattle.office_core.specs.declared.answer.Answer.{Answer}
 use Rattle.office_history.specs.Runs.{Item}
-use Rattle.office_engine.specs.Keeping.{Runs}
+use Rattle.office_engine.specs.Storing.{Runs}
 use Rattle.desk_routes.specs.declared.refusal.DeskRefusal.{DeskRefusal}
 use Rattle.desk_hearing.specs.Asking.{HeardValue}
 use Rattle.desk_hearing.specs.Hearing.{Hears}

@@ -15,7 +15,7 @@ use Rattle.desk_log.specs.declared.note.RequestKind.TheVariants.{Change, Reading
 abbrev pub kind_of : Request → RequestKind
 kind_of (DefineClass name years) = Change
 kind_of (DefineCollection name) = Change
-kind_of (Deposit collection class accession closed bag) = Change
+kind_of (Deposit description bag) = Change
 kind_of (HoldDeposit deposit matter) = Change
 kind_of (HoldCollection collection matter) = Change
 kind_of (HoldClass class matter) = Change

@@ -1,16 +1,12 @@
 -- A number of a path is read where it is written in decimal, with at most 7 digits.
-use Rattle.std.proofs.Common.{◌≡◌, ℕ, ◌<◌, ◌≤◌, ◌==◌, ◌&&◌, ◌^◌, List, [], ◌∷◌, length, get_or, Bool, true, false, Result, Ok, Some, None, refl, sym, ap, ◌∙◌, arith, rules, cond}
-use Rattle.std.specs.Prelude.{nat_le, decimal}
-use Rattle.std.proofs.lemmas.Bool.{and_parts}
-use Rattle.std.proofs.lemmas.Bool.Decides.{nat_tests}
-use Rattle.std.specs.List.{list_all}
+use Rattle.desk_routes.proofs.Common.{◌≡◌, ℕ, ◌<◌, ◌≤◌, ◌==◌, ◌^◌, List, [], ◌∷◌, length, get_or, Bool, true, false, Result, Ok, Some, refl, sym, ap, ◌∙◌, arith, rules, cond, leb as nat_le, decimal, and_parts, nat_tests, list_all, is_number, number_of, IsShortNumber}
 use Rattle.std.specs.Char.{is_ascii_digit}
 use Rattle.std.specs.Str.Parse.{digits_value, ParsesUnsigned}
 use Rattle.std.proofs.lemmas.Str.Parse.{IsNumeralModel, IsDigitsTest, numerals_by_value, parse_gives, digits_value_short}
 use Rattle.std.proofs.lemmas.Fmt.{decimal_digit, digits_decimal, digits_value-decimal, decimal-digits_value, decimal_nonempty, length-decimal-le, first_decimal}
-use Rattle.desk_routes.specs.PathReading.{is_number, number_of}
-use Rattle.desk_routes.specs.Places.{IsShortNumber}
 use Rattle.desk_routes.proofs.PartSpelling.{has_slash, IsPart}
+use Rattle.office_core.proofs.OptionLemmas.{by_Bool}
+use Rattle.std.proofs.lemmas.Option.{cond_some}
 
 abbrev pub AreDigits : List ℕ → Type 0
 AreDigits bs = list_all is_ascii_digit bs ≡ true
@@ -44,11 +40,9 @@ says (b ∷ c ∷ rest) e =
 tests : (bs : List ℕ) → Numeral bs → is_number bs ≡ true
 tests [] n = absurd (let s = n.some in omega arith)
 tests (b ∷ []) n = let d = n.digits in grind arith
-tests (b ∷ c ∷ rest) n = by (b == 48) refl
-  where
-    by : (v : Bool) → (b == 48) ≡ v → cond v false (nat_le (length (b ∷ c ∷ rest)) 7 && list_all is_ascii_digit (b ∷ c ∷ rest)) ≡ true
-    by true e = absurd (let same : b ≡ 48 = grind (arith, nat_tests) in let one : length (b ∷ c ∷ rest) ≡ 1 = n.plain same in omega arith)
-    by false e = let f = n.few in let few : nat_le (length (b ∷ c ∷ rest)) 7 ≡ true = grind (arith, nat_tests) in rw (few, n.digits) refl
+tests (b ∷ c ∷ rest) n =
+    by_Bool (b == 48) (λ e. absurd (let same : b ≡ 48 = grind (arith, nat_tests) in let one : length (b ∷ c ∷ rest) ≡ 1 = n.plain same in omega arith))
+    (λ e. let f = n.few in let few : nat_le (length (b ∷ c ∷ rest)) 7 ≡ true = grind (arith, nat_tests) in rw (e, few, n.digits) refl)
 
 pub number_gives : {E : Type 0} (bs : List ℕ) (r : Result ℕ E) → ParsesUnsigned 32 10 bs r → is_number bs ≡ true → r ≡ Ok (digits_value 10 bs)
 number_gives bs r h e =
@@ -61,15 +55,11 @@ number_is bs e = rw e refl
 
 -- what is read is how the number is written
 pub number-written : (bs : List ℕ) (n : ℕ) → number_of bs ≡ Some n → (bs ≡ decimal n) × IsShortNumber n
-number-written bs n e = by (is_number bs) refl e
-  where
-    by : (v : Bool) → is_number bs ≡ v → cond v (Some (digits_value 10 bs)) None ≡ Some n → (bs ≡ decimal n) × IsShortNumber n
-    by true tested q =
-        let s = says bs tested in
-        let same : digits_value 10 bs ≡ n = cc in
-        let small : digits_value 10 bs < 10 ^ 7 = digits_value_short own bs 7 s.digits s.few in
-        (sym (decimal-digits_value own bs s.digits s.some s.plain (omega arith)) ∙ ap decimal same, omega arith)
-    by false isnt q = absurd (let z = q in cc)
+number-written bs n e =
+    let (tested, same) = cond_some (is_number bs) (digits_value 10 bs) n e in
+    let s = says bs tested in
+    let small : digits_value 10 bs < 10 ^ 7 = digits_value_short own bs 7 s.digits s.few in
+    (sym (decimal-digits_value own bs s.digits s.some s.plain (omega arith)) ∙ ap decimal same, omega arith)
 
 first_is : (n : ℕ) → n < 2 ^ 64 → get_or (decimal n) 0 0 ≡ 48 → n ≡ 0
 first_is n small e = elim (n == 0) as (λ v. (n == 0) ≡ v → n ≡ 0) [ true ↦ λ z. grind (arith, nat_tests) | false ↦ λ z. absurd (let pos : 0 < n = grind (arith, nat_tests) in let f = first_decimal n pos small in omega arith) ] refl

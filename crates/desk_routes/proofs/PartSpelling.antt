@@ -1,7 +1,5 @@
 -- How a path with these parts is spelled.
-use Rattle.std.proofs.Common.{◌≡◌, ◌<◌, ℕ, ◌==◌, Bool, true, false, List, [], ◌∷◌, ◌++◌, length, codes}
-use Rattle.std.specs.Prelude.{if◌then◌else◌}
-use Rattle.desk_routes.specs.PathReading.{Parts, class, collection, deposit, holds_of_deposit, bag, audit, hold, file, deposits, holds, due}
+use Rattle.desk_routes.proofs.Common.{◌≡◌, ◌<◌, ℕ, ◌==◌, Bool, true, false, List, [], ◌∷◌, ◌++◌, length, codes, if◌then◌else◌, Parts, class, collection, deposit, holds_of_deposit, bag, audit, hold, file, deposits, holds, due}
 
 abbrev pub path_by_parts : Parts → List ℕ
 path_by_parts (class name) = codes "/classes/" ++ name
@@ -32,10 +30,8 @@ AreParts (bag number) = IsPart number
 AreParts (file number path) = IsPart number × (0 < length path)
 AreParts (holds_of_deposit number) = IsPart number
 AreParts (deposit number) = IsPart number
-AreParts deposits = Unit {0}
-AreParts due = Unit {0}
 AreParts (hold number) = IsPart number
-AreParts holds = Unit {0}
+AreParts _ = Unit {0}
 
 -- the path spells these parts
 abbrev pub SpellsParts : List ℕ → Parts → Type 0

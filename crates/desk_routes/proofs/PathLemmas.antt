@@ -1,19 +1,9 @@
 -- The router's rows give the route that the path's parts say.
-use Rattle.std.proofs.Common.{◌≡◌, ℕ, ◌-◌, List, [], ◌∷◌, ◌++◌, length, drop, ltb, ◌&&◌, length-append, Option, Some, None, Bool, true, false, cond, refl, sym, ap, ◌∙◌, subst, arith, nat_eq, ◌==◌, append-nil}
-use Rattle.std.proofs.lemmas.Bool.{and_right}
-use Rattle.std.proofs.lemmas.Bool.Decides.{nat_tests}
-use Rattle.std.specs.Option.{option_or}
-use Rattle.std.specs.List.{starts_with}
-use Rattle.std.specs.Cmp.Lexicographic.{pointwise}
-use Rattle.matchit.specs.Rows.{Rows, Seen, prepend, ends, rows_of, param_token, catch_all_token}
-use Rattle.matchit.specs.Router.{map_key}
-use Rattle.matchit.specs.Seek.{seek, first, after_param, has_slash, segment, cuts, longest_suffix, or_else as or_row}
-use Rattle.matchit.specs.Level.{IsText, AllSegment, AreSuffixes}
-use Rattle.matchit.proofs.SeekLemmas.{first-prefix, own-prepend, seek-empty}
+use Rattle.desk_routes.proofs.Common.{◌≡◌, ℕ, ◌-◌, List, [], ◌∷◌, ◌++◌, length, drop, ltb, ◌&&◌, length-append, Option, Some, None, Bool, true, false, cond, refl, sym, ap, ◌∙◌, subst, arith, nat_eq, ◌==◌, append-nil, and_right, nat_tests, option_or, starts_with, pointwise, Rows, Seen, prepend, ends, rows_of, param_token, catch_all_token, map_key, seek, first, after_param, has_slash, segment, cuts, longest_suffix, or_else as or_row, IsText, AllSegment, AreSuffixes, first-prefix, own-prepend, seek-empty, Parts, after_prefix, nothing_more, with_byte, cut, by_part, no_more, last_part, all_of}
 use Rattle.matchit.proofs.LongestLemmas.{longest-kid}
 use Rattle.matchit.proofs.ParamLemmas.{after_param-end, after_param-stop, after_param-kid, one_less}
-use Rattle.desk_routes.specs.PathReading.{Parts, after_prefix, nothing_more, with_byte, cut, by_part, no_more, last_part, all_of}
 use Rattle.desk_routes.proofs.RowLemmas.{Leaves, first-beside, first-end, first-rest, first-param, IsText-drop, IsText-after}
+use Rattle.office_core.proofs.OptionLemmas.{by_Bool}
 
 -- ---- what a cut says
 
@@ -36,11 +26,7 @@ last_is : (x : ℕ) (l : List ℕ) → drop (length (x ∷ l) - 1) (x ∷ l) ≡
 last_is x l = ap (λ n. drop n (x ∷ l)) (one_less (length l))
 
 not_slash : (x : ℕ) (a : Bool) → cond (x == 47) true a ≡ false → ((x == 47) ≡ false) × (a ≡ false)
-not_slash x a h = by (x == 47) refl
-  where
-    by : (v : Bool) → (x == 47) ≡ v → ((x == 47) ≡ false) × (a ≡ false)
-    by true e = let f = rw e at h in cc
-    by false e = let f = rw e at h in (e, f)
+not_slash x a h = by_Bool (x == 47) (λ slash. let z = rw slash at h in cc) (λ other. (other, rw other at h))
 
 no_slash : (x : ℕ) (l : List ℕ) → has_slash (x ∷ l) ≡ false → pointwise nat_eq (47 ∷ []) (drop (length l) (x ∷ l)) ≡ false
 no_slash x [] h = let f = (not_slash x false h).0 in grind (arith, nat_tests)
@@ -135,11 +121,8 @@ or-says key (Some x) b = refl
 
 pub row-after : (key : Parts → ℕ) (w : List ℕ) (t : Rows) (f : List ℕ → Option Parts) (path : List ℕ) → IsText w → IsText path
     → ((rest : List ℕ) → IsText rest → first t rest ≡ map_key key (f rest)) → first (prepend w t) path ≡ map_key key (after_prefix w f path)
-row-after key w t f path h text fs = first-prefix w t path h ∙ by (starts_with nat_eq path w)
-  where
-    by : (v : Bool) → cond v (first t (drop (length w) path)) None ≡ map_key key (cond v (f (drop (length w) path)) None)
-    by true = fs (drop (length w) path) (IsText-drop (length w) path text)
-    by false = refl
+row-after key w t f path h text fs =
+    rw (first-prefix w t path h) (by_Bool (starts_with nat_eq path w) (λ begins. rw begins (fs (drop (length w) path) (IsText-drop (length w) path text))) (λ other. rw other refl))
 
 pub rows-after : (key : Parts → ℕ) (w : List ℕ) (t r : Rows) (f : List ℕ → Option Parts) (other : Option Parts) (path : List ℕ) → IsText w → Leaves w r → IsText path
     → ((rest : List ℕ) → IsText rest → first t rest ≡ map_key key (f rest)) → first r path ≡ map_key key other

@@ -1,18 +1,14 @@
 -- A path is read as a place where it is spelled so, and only there.
-use Rattle.std.proofs.Common.{◌≡◌, ℕ, ◌<◌, ◌==◌, ◌&&◌, List, [], ◌∷◌, ◌++◌, length, Option, Some, None, Bool, true, false, cond, refl, sym, ap, ◌∙◌, subst, arith, codes}
-use Rattle.std.specs.Prelude.{decimal, option_map, option_and_then, nat_le}
-use Rattle.std.specs.List.{list_all}
-use Rattle.std.proofs.lemmas.Bool.{and_parts}
-use Rattle.std.proofs.lemmas.Bool.Decides.{nat_tests}
+use Rattle.desk_routes.proofs.Common.{◌≡◌, ℕ, ◌<◌, ◌==◌, ◌&&◌, List, [], ◌∷◌, ◌++◌, length, Option, Some, None, true, false, refl, sym, ap, ◌∙◌, subst, arith, codes, decimal, option_map, option_and_then, leb as nat_le, list_all, and_parts, nat_tests, Parts, with_byte, cut, by_part, no_more, last_part, under_deposit, under_deposits, parts_of, name_of, number_of, file_path_of, resource_by_parts, resource_named, class, collection, deposit, holds_of_deposit, bag, audit, hold, file, deposits, holds, due, Resource, path_of, IsResource, IsShortNumber, SpellsResource}
 use Rattle.office_core.specs.Bounds.{max_name}
 use Rattle.office_core.specs.Names.{is_name, is_name_byte, IsName}
-use Rattle.desk_routes.specs.PathReading.{Parts, with_byte, cut, by_part, no_more, last_part, under_deposit, under_deposits, parts_of, name_of, number_of, file_path_of, place_by_parts, place_named, class, collection, deposit, holds_of_deposit, bag, audit, hold, file, deposits, holds, due}
-use Rattle.desk_routes.specs.declared.place.Place.{Place}
-use Rattle.desk_routes.specs.declared.place.Place.TheVariants as places
-use Rattle.desk_routes.specs.Places.{path_of, IsPlace, IsShortNumber, SpellsPlace}
+use Rattle.desk_routes.specs.declared.resource.Resource.TheVariants as resources
 use Rattle.desk_routes.proofs.PartSpelling.{path_by_parts, has_slash, IsPart, AreParts, SpellsParts}
 use Rattle.desk_routes.proofs.SpellingLemmas.{spelled}
 use Rattle.desk_routes.proofs.NumberLemmas.{number-written, number-read, number-part}
+use Rattle.office_core.proofs.OptionLemmas.{by_Bool, option_map_some}
+use Rattle.std.proofs.lemmas.Bool.{false_from_ne_true}
+use Rattle.std.proofs.lemmas.Option.{cond_some, option_and_then_some}
 
 -- ---- parts are read from their spelling
 
@@ -21,11 +17,7 @@ abbrev pub Cut : Type 0
 Cut = List ℕ × Option (List ℕ)
 
 plain : (b : ℕ) (part : List ℕ) → has_slash (b ∷ part) ≡ false → ((b == 47) ≡ false) × (has_slash part ≡ false)
-plain b part h = by (b == 47) refl h
-  where
-    by : (v : Bool) → (b == 47) ≡ v → cond v true (has_slash part) ≡ false → ((b == 47) ≡ false) × (has_slash part ≡ false)
-    by true e q = absurd (let z = q in cc)
-    by false e q = (e, q)
+plain b part h = by_Bool (b == 47) (λ slash. absurd (let z = rw slash at h in cc)) (λ other. (other, rw other at h))
 
 cut-last : (part : List ℕ) → has_slash part ≡ false → ◌≡◌ {A = Cut} (cut part) (part, None)
 cut-last [] h = refl
@@ -69,11 +61,7 @@ parts-read holds h = refl
 -- ---- names
 
 name_byte : (b : ℕ) → is_name_byte b ≡ true → (b == 47) ≡ false
-name_byte b h = by (b == 47) refl
-  where
-    by : (v : Bool) → (b == 47) ≡ v → v ≡ false
-    by true e = let same : b ≡ 47 = grind (arith, nat_tests) in absurd (let z = rw same at h in cc)
-    by false e = refl
+name_byte b h = false_from_ne_true (b == 47) (λ e. let same : b ≡ 47 = grind (arith, nat_tests) in let z = rw same at h in cc)
 
 name_slash : (name : List ℕ) → list_all is_name_byte name ≡ true → has_slash name ≡ false
 name_slash [] h = refl
@@ -90,71 +78,57 @@ name-part name h =
 
 -- ---- places
 
-named : (f : List ℕ → Place) (name : List ℕ) → IsName name → option_map f (name_of name) ≡ Some (f name)
+named : (f : List ℕ → Resource) (name : List ℕ) → IsName name → option_map f (name_of name) ≡ Some (f name)
 named f name h = rw h refl
 
-numbered : (f : ℕ → Place) (number : ℕ) → IsShortNumber number → option_map f (number_of (decimal number)) ≡ Some (f number)
+numbered : (f : ℕ → Resource) (number : ℕ) → IsShortNumber number → option_map f (number_of (decimal number)) ≡ Some (f number)
 numbered f number h = rw (number-read number h) refl
 
 whole_path : (path : List ℕ) → 0 < length path → file_path_of path ≡ Some path
 whole_path path some = let is : nat_le 1 (length path) ≡ true = grind (arith, nat_tests) in rw is refl
 
-read_by : (parts : Parts) (place : Place) → AreParts parts → place_by_parts parts ≡ Some place → place_named (path_by_parts parts) ≡ Some place
-read_by parts place h e = ap (option_and_then place_by_parts) (parts-read parts h) ∙ e
+read_by : (parts : Parts) (resource : Resource) → AreParts parts → resource_by_parts parts ≡ Some resource → resource_named (path_by_parts parts) ≡ Some resource
+read_by parts resource h e = ap (option_and_then resource_by_parts) (parts-read parts h) ∙ e
 
-pub place-read : (place : Place) → IsPlace place → place_named (path_of place) ≡ Some place
-place-read (places.Class name) h = read_by (class name) (places.Class name) (name-part name h) (named places.Class name h)
-place-read (places.Collection name) h = read_by (collection name) (places.Collection name) (name-part name h) (named places.Collection name h)
-place-read places.Deposits h = refl
-place-read (places.Deposit n) h = read_by (deposit (decimal n)) (places.Deposit n) (number-part n h) (numbered places.Deposit n h)
-place-read (places.HoldsOfDeposit n) h = read_by (holds_of_deposit (decimal n)) (places.HoldsOfDeposit n) (number-part n h) (numbered places.HoldsOfDeposit n h)
-place-read (places.Bag n) h = read_by (bag (decimal n)) (places.Bag n) (number-part n h) (numbered places.Bag n h)
-place-read (places.File n path) h = read_by (file (decimal n) path) (places.File n path) (number-part n h.0, h.1) (rw (number-read n h.0, whole_path path h.1) refl)
-place-read (places.Audit n) h = read_by (audit (decimal n)) (places.Audit n) (number-part n h) (numbered places.Audit n h)
-place-read places.Holds h = refl
-place-read (places.Hold n) h = read_by (hold (decimal n)) (places.Hold n) (number-part n h) (numbered places.Hold n h)
-place-read places.Due h = refl
+pub resource-read : (resource : Resource) → IsResource resource → resource_named (path_of resource) ≡ Some resource
+resource-read (resources.Class name) h = read_by (class name) (resources.Class name) (name-part name h) (named resources.Class name h)
+resource-read (resources.Collection name) h = read_by (collection name) (resources.Collection name) (name-part name h) (named resources.Collection name h)
+resource-read (resources.Deposit n) h = read_by (deposit (decimal n)) (resources.Deposit n) (number-part n h) (numbered resources.Deposit n h)
+resource-read (resources.HoldsOfDeposit n) h = read_by (holds_of_deposit (decimal n)) (resources.HoldsOfDeposit n) (number-part n h) (numbered resources.HoldsOfDeposit n h)
+resource-read (resources.Bag n) h = read_by (bag (decimal n)) (resources.Bag n) (number-part n h) (numbered resources.Bag n h)
+resource-read (resources.File n path) h = read_by (file (decimal n) path) (resources.File n path) (number-part n h.0, h.1) (rw (number-read n h.0, whole_path path h.1) refl)
+resource-read (resources.Audit n) h = read_by (audit (decimal n)) (resources.Audit n) (number-part n h) (numbered resources.Audit n h)
+resource-read (resources.Hold n) h = read_by (hold (decimal n)) (resources.Hold n) (number-part n h) (numbered resources.Hold n h)
+resource-read _ h = refl
 
-pub spelling-read : (path : List ℕ) (place : Place) → SpellsPlace path place → place_named path ≡ Some place
-spelling-read path place h = ap place_named h.0 ∙ place-read place h.1
+pub spelling-read : (path : List ℕ) (resource : Resource) → SpellsResource path resource → resource_named path ≡ Some resource
+spelling-read path resource h = ap resource_named h.0 ∙ resource-read resource h.1
 
-by_name : (f : List ℕ → Place) (name : List ℕ) (place : Place) → option_map f (name_of name) ≡ Some place → (f name ≡ place) × IsName name
-by_name f name place e = by (is_name name) refl e
-  where
-    by : (v : Bool) → is_name name ≡ v → option_map f (cond v (Some name) None) ≡ Some place → (f name ≡ place) × IsName name
-    by true is q = (let z = q in cc, is)
-    by false is q = absurd (let z = q in cc)
+by_name : (f : List ℕ → Resource) (name : List ℕ) (resource : Resource) → option_map f (name_of name) ≡ Some resource → (f name ≡ resource) × IsName name
+by_name f name resource e = option_map_some f (name_of name) resource e (λ found is same. let named = cond_some (is_name name) name found is in (ap f named.1 ∙ same, named.0))
 
-by_number : (f : ℕ → Place) (text : List ℕ) (place : Place) → option_map f (number_of text) ≡ Some place → (n : ℕ) × (f n ≡ place) × (text ≡ decimal n) × IsShortNumber n
-by_number f text place e = by (number_of text) refl e
-  where
-    by : (o : Option ℕ) → number_of text ≡ o → option_map f o ≡ Some place → (n : ℕ) × (f n ≡ place) × (text ≡ decimal n) × IsShortNumber n
-    by None is q = absurd (let z = q in cc)
-    by (Some n) is q = let w = number-written text n is in (n, let z = q in cc, w.0, w.1)
+by_number : (f : ℕ → Resource) (text : List ℕ) (resource : Resource) → option_map f (number_of text) ≡ Some resource → (n : ℕ) × (f n ≡ resource) × (text ≡ decimal n) × IsShortNumber n
+by_number f text resource e = option_map_some f (number_of text) resource e (λ n is same. let written = number-written text n is in (n, same, written.0, written.1))
 
 -- a path whose parts are a name and numbers spells their place
-part_place : (path : List ℕ) (parts : Parts) (place : Place) → SpellsParts path parts → place_by_parts parts ≡ Some place → SpellsPlace path place
-part_place path (class name) place h e = let r = by_name places.Class name place e in subst (SpellsPlace path) r.0 (h.0, r.1)
-part_place path (collection name) place h e = let r = by_name places.Collection name place e in subst (SpellsPlace path) r.0 (h.0, r.1)
-part_place path deposits place h e = let same : places.Deposits ≡ place = cc in subst (SpellsPlace path) same (h.0, tt)
-part_place path (deposit text) place h e = let r = by_number places.Deposit text place e in subst (SpellsPlace path) r.1 (h.0 ∙ ap (λ t. codes "/deposits/" ++ t) r.2, r.3)
-part_place path (holds_of_deposit text) place h e = let r = by_number places.HoldsOfDeposit text place e in subst (SpellsPlace path) r.1 (h.0 ∙ ap (λ t. codes "/deposits/" ++ (t ++ codes "/holds")) r.2, r.3)
-part_place path (bag text) place h e = let r = by_number places.Bag text place e in subst (SpellsPlace path) r.1 (h.0 ∙ ap (λ t. codes "/deposits/" ++ (t ++ codes "/bag")) r.2, r.3)
-part_place path (file text rest) place h e =
-    let whole = subst (λ found. option_and_then (λ n. option_map (places.File n) found) (number_of text) ≡ Some place) (whole_path rest h.1.1) e in
-    let r = by_number (λ n. places.File n rest) text place whole in
-    subst (SpellsPlace path) r.1 (h.0 ∙ ap (λ t. codes "/deposits/" ++ (t ++ (codes "/files/" ++ rest))) r.2, (r.3, h.1.1))
-part_place path (audit text) place h e = let r = by_number places.Audit text place e in subst (SpellsPlace path) r.1 (h.0 ∙ ap (λ t. codes "/deposits/" ++ (t ++ codes "/audit")) r.2, r.3)
-part_place path holds place h e = let same : places.Holds ≡ place = cc in subst (SpellsPlace path) same (h.0, tt)
-part_place path (hold text) place h e = let r = by_number places.Hold text place e in subst (SpellsPlace path) r.1 (h.0 ∙ ap (λ t. codes "/holds/" ++ t) r.2, r.3)
-part_place path due place h e = let same : places.Due ≡ place = cc in subst (SpellsPlace path) same (h.0, tt)
+part_resource : (path : List ℕ) (parts : Parts) (resource : Resource) → SpellsParts path parts → resource_by_parts parts ≡ Some resource → SpellsResource path resource
+part_resource path (class name) resource h e = let r = by_name resources.Class name resource e in subst (SpellsResource path) r.0 (h.0, r.1)
+part_resource path (collection name) resource h e = let r = by_name resources.Collection name resource e in subst (SpellsResource path) r.0 (h.0, r.1)
+part_resource path deposits resource h e = let same : resources.Deposits ≡ resource = cc in subst (SpellsResource path) same (h.0, tt)
+part_resource path (deposit text) resource h e = let r = by_number resources.Deposit text resource e in subst (SpellsResource path) r.1 (h.0 ∙ ap (λ t. codes "/deposits/" ++ t) r.2, r.3)
+part_resource path (holds_of_deposit text) resource h e = let r = by_number resources.HoldsOfDeposit text resource e in subst (SpellsResource path) r.1 (h.0 ∙ ap (λ t. codes "/deposits/" ++ (t ++ codes "/holds")) r.2, r.3)
+part_resource path (bag text) resource h e = let r = by_number resources.Bag text resource e in subst (SpellsResource path) r.1 (h.0 ∙ ap (λ t. codes "/deposits/" ++ (t ++ codes "/bag")) r.2, r.3)
+part_resource path (file text rest) resource h e =
+    let whole = subst (λ found. option_and_then (λ n. option_map (resources.File n) found) (number_of text) ≡ Some resource) (whole_path rest h.1.1) e in
+    let r = by_number (λ n. resources.File n rest) text resource whole in
+    subst (SpellsResource path) r.1 (h.0 ∙ ap (λ t. codes "/deposits/" ++ (t ++ (codes "/files/" ++ rest))) r.2, (r.3, h.1.1))
+part_resource path (audit text) resource h e = let r = by_number resources.Audit text resource e in subst (SpellsResource path) r.1 (h.0 ∙ ap (λ t. codes "/deposits/" ++ (t ++ codes "/audit")) r.2, r.3)
+part_resource path holds resource h e = let same : resources.Holds ≡ resource = cc in subst (SpellsResource path) same (h.0, tt)
+part_resource path (hold text) resource h e = let r = by_number resources.Hold text resource e in subst (SpellsResource path) r.1 (h.0 ∙ ap (λ t. codes "/holds/" ++ t) r.2, r.3)
+part_resource path due resource h e = let same : resources.Due ≡ resource = cc in subst (SpellsResource path) same (h.0, tt)
 
-pub reading-spelled : (path : List ℕ) (place : Place) → place_named path ≡ Some place → SpellsPlace path place
-reading-spelled path place e = by (parts_of path) refl e
-  where
-    by : (o : Option Parts) → parts_of path ≡ o → option_and_then place_by_parts o ≡ Some place → SpellsPlace path place
-    by None is q = absurd (let z = q in cc)
-    by (Some parts) is q = part_place path parts place (spelled path parts is) q
+pub reading-spelled : (path : List ℕ) (resource : Resource) → resource_named path ≡ Some resource → SpellsResource path resource
+reading-spelled path resource e = option_and_then_some resource_by_parts (parts_of path) resource e (λ parts is named. part_resource path parts resource (spelled path parts is) named)
 
-pub one-spelled : (path : List ℕ) (a b : Place) → SpellsPlace path a → SpellsPlace path b → a ≡ b
+pub one-spelled : (path : List ℕ) (a b : Resource) → SpellsResource path a → SpellsResource path b → a ≡ b
 one-spelled path a b x y = let e : Some a ≡ Some b = sym (spelling-read path a x) ∙ spelling-read path b y in cc

@@ -1,16 +1,6 @@
 -- The router's row for a path is that of the path's parts.
-use Rattle.std.proofs.Common.{◌≡◌, ℕ, suc, zero, ◌<◌, List, [], ◌∷◌, ◌++◌, get_or, Option, Some, None, Bool, true, refl, ap, ◌∙◌, arith, codes, ltb, ◌&&◌}
-use Rattle.std.proofs.lemmas.Bool.{and_parts}
-use Rattle.std.proofs.lemmas.Bool.Decides.{nat_tests}
-use Rattle.std.specs.Prelude.{option_map}
-use Rattle.matchit.specs.Rows.{Rows, prepend, ends, param_token, catch_all_token}
-use Rattle.matchit.specs.Router.{RouteOf, map_key, rename}
-use Rattle.matchit.specs.Seek.{first}
-use Rattle.matchit.specs.Level.{IsText}
+use Rattle.desk_routes.proofs.Common.{◌≡◌, ℕ, suc, zero, ◌<◌, List, [], ◌∷◌, ◌++◌, get_or, Option, Some, None, Bool, true, refl, ap, ◌∙◌, arith, codes, ltb, ◌&&◌, and_parts, nat_tests, option_map, Rows, prepend, ends, param_token, catch_all_token, RouteOf, map_key, rename, first, IsText, Pattern, Parts, nothing_more, last_part, all_of, under_deposit, under_deposits, parts_of, class, collection, deposit, holds_of_deposit, bag, audit, hold, file, deposits, holds, due, row_of, the_rows}
 use Rattle.matchit.proofs.RenameLemmas.{first-rename}
-use Rattle.desk_routes.specs.declared.place.Pattern.{Pattern}
-use Rattle.desk_routes.specs.PathReading.{Parts, nothing_more, last_part, all_of, under_deposit, under_deposits, parts_of, class, collection, deposit, holds_of_deposit, bag, audit, hold, file, deposits, holds, due}
-use Rattle.desk_routes.specs.Rows.{row_of, the_rows}
 use Rattle.desk_routes.proofs.PathLemmas.{param-says, rows-after, row-after, end-says, all-says, last-says}
 
 -- the router's rows by number

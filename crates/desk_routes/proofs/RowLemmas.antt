@@ -1,10 +1,6 @@
 -- What a router's rows answer, a beginning at a time.
-use Rattle.std.proofs.Common.{◌≡◌, ℕ, zero, suc, ◌-◌, ◌<◌, ◌≤◌, List, [], ◌∷◌, ◌++◌, drop, Option, Some, None, Bool, true, false, refl, sym, ap, ◌∙◌, arith, ◌==◌, append-nil}
-use Rattle.std.proofs.lemmas.Bool.Decides.{nat_tests}
-use Rattle.matchit.specs.Rows.{Rows, prepend, ends, param_token, catch_all_token}
-use Rattle.matchit.specs.Seek.{own, step, or_else, seek, first, param_step, after_param}
-use Rattle.matchit.specs.Level.{IsText}
-use Rattle.matchit.proofs.SeekLemmas.{own-append, step-append, step-hit, step-miss, or_else-none, param_step-empty, seek-empty, seek-lit, prepend-nil}
+use Rattle.desk_routes.proofs.Common.{◌≡◌, ℕ, zero, suc, ◌-◌, ◌<◌, ◌≤◌, List, [], ◌∷◌, ◌++◌, drop, Option, Some, None, refl, sym, ap, ◌∙◌, arith, ◌==◌, append-nil, nat_tests, Rows, prepend, ends, param_token, catch_all_token, own, step, or_else, seek, first, param_step, after_param, IsText, own-append, step-append, step-hit, step-miss, or_else-none, param_step-empty, seek-empty, seek-lit, prepend-nil}
+use Rattle.office_core.proofs.OptionLemmas.{by_Bool}
 
 -- no row goes on after this beginning
 abbrev pub Leaves : List ℕ → Rows → Type 0
@@ -31,21 +27,20 @@ pub first-beside : (w : List ℕ) (t r : Rows) (path : List ℕ) → IsText w �
 unfolding seek
 first-beside [] t r path h l = rw (l, append-nil, seek-empty 0 path, or_else-none) refl
 first-beside (x ∷ w) t r [] h l = own-append (prepend (x ∷ w) t) r
-first-beside (x ∷ w) t r (y ∷ p) h l = by (x == y) refl (first-beside w t (step x r) p h.1 l)
-  where
-    by : (v : Bool) → (x == y) ≡ v → first (prepend w t ++ step x r) p ≡ or_else (first (prepend w t) p) (first (step x r) p)
-        → first (prepend (x ∷ w) t ++ r) (y ∷ p) ≡ or_else (first (prepend (x ∷ w) t) (y ∷ p)) (first r (y ∷ p))
-    by true e ih =
-        let xy : x ≡ y = grind (arith, nat_tests) in
-        let hit : step y (prepend (x ∷ w) t) ≡ prepend w t = rw xy (step-hit y w t) in
-        let same : first (prepend w t ++ step y r) p ≡ or_else (first (prepend w t) p) (first (step y r) p) = rw xy at ih in
-        beside-step x w t r y p h.0 ∙ ap (λ l. or_else (seek 0 (l ++ step y r) p) (others y p r)) hit ∙ ap (λ o. or_else o (others y p r)) same
-        ∙ or_else-assoc (first (prepend w t) p) (first (step y r) p) (others y p r)
-        ∙ sym (ap (λ o. or_else o (first r (y ∷ p))) (seek-lit x w t y p h.0 ∙ ap (λ l. seek 0 l p) hit))
-    by false e ih =
-        let miss : step y (prepend (x ∷ w) t) ≡ [] = step-miss y x w t (λ q. grind (arith, nat_tests)) in
-        beside-step x w t r y p h.0 ∙ ap (λ l. or_else (seek 0 (l ++ step y r) p) (others y p r)) miss
-        ∙ sym (ap (λ o. or_else o (first r (y ∷ p))) (seek-lit x w t y p h.0 ∙ ap (λ l. seek 0 l p) miss ∙ seek-empty 0 p))
+first-beside (x ∷ w) t r (y ∷ p) h l =
+    let ih = first-beside w t (step x r) p h.1 l in
+    by_Bool (x == y)
+    (λ e.
+    let xy : x ≡ y = grind (arith, nat_tests) in
+    let hit : step y (prepend (x ∷ w) t) ≡ prepend w t = rw xy (step-hit y w t) in
+    let same : first (prepend w t ++ step y r) p ≡ or_else (first (prepend w t) p) (first (step y r) p) = rw xy at ih in
+    beside-step x w t r y p h.0 ∙ ap (λ l. or_else (seek 0 (l ++ step y r) p) (others y p r)) hit ∙ ap (λ o. or_else o (others y p r)) same
+    ∙ or_else-assoc (first (prepend w t) p) (first (step y r) p) (others y p r)
+    ∙ sym (ap (λ o. or_else o (first r (y ∷ p))) (seek-lit x w t y p h.0 ∙ ap (λ l. seek 0 l p) hit)))
+    (λ e.
+    let miss : step y (prepend (x ∷ w) t) ≡ [] = step-miss y x w t (λ q. grind (arith, nat_tests)) in
+    beside-step x w t r y p h.0 ∙ ap (λ l. or_else (seek 0 (l ++ step y r) p) (others y p r)) miss
+    ∙ sym (ap (λ o. or_else o (first r (y ∷ p))) (seek-lit x w t y p h.0 ∙ ap (λ l. seek 0 l p) miss ∙ seek-empty 0 p)))
 
 -- the byte bound, of what is left
 pub IsText-drop : (n : ℕ) (path : List ℕ) → IsText path → IsText (drop n path)

@@ -1,12 +1,8 @@
 -- A path that has a route is the spelling of that route.
-use Rattle.std.proofs.Common.{◌≡◌, ℕ, List, [], ◌∷◌, ◌++◌, length, drop, take, Option, Some, None, Bool, true, false, cond, refl, sym, ap, ◌∙◌, subst, arith, nat_eq, codes}
-use Rattle.std.specs.List.{starts_with}
-use Rattle.std.specs.Option.{option_or}
-use Rattle.std.specs.Cmp.Lexicographic.{bytes_decides}
-use Rattle.std.proofs.lemmas.List.{take-append-drop}
-use Rattle.desk_routes.specs.PathReading.{Parts, after_prefix, nothing_more, cut, by_part, no_more, last_part, all_of, under_deposit, under_deposits, parts_of, class, collection, deposit, holds_of_deposit, bag, audit, hold, file, deposits, holds, due}
+use Rattle.desk_routes.proofs.Common.{◌≡◌, ℕ, List, [], ◌∷◌, ◌++◌, length, drop, take, Option, Some, None, true, false, refl, sym, ap, ◌∙◌, subst, arith, nat_eq, codes, starts_with, option_or, bytes_decides, take-append-drop, Parts, after_prefix, nothing_more, cut, by_part, no_more, last_part, all_of, under_deposit, under_deposits, parts_of, class, collection, deposit, holds_of_deposit, bag, audit, hold, file, deposits, holds, due}
 use Rattle.desk_routes.proofs.PathLemmas.{CutSays, cut-says}
 use Rattle.desk_routes.proofs.PartSpelling.{path_by_parts, has_slash, IsPart, AreParts, SpellsParts}
+use Rattle.office_core.proofs.OptionLemmas.{by_Bool}
 
 or-gives : (P : Parts → Type 0) (a b : Option Parts) (parts : Parts) → (a ≡ Some parts → P parts) → (b ≡ Some parts → P parts) → option_or a b ≡ Some parts → P parts
 or-gives P None b parts f g e = g e
@@ -16,11 +12,8 @@ starts-gives : (w path : List ℕ) → starts_with nat_eq path w ≡ true → pa
 starts-gives w path e = sym (take-append-drop (length w) path) ∙ ap (λ l. l ++ drop (length w) path) (sym ((bytes_decides w (take (length w) path)).0 e))
 
 after-gives : (P : Parts → Type 0) (w path : List ℕ) (f : List ℕ → Option Parts) (parts : Parts) → ((rest : List ℕ) → path ≡ w ++ rest → f rest ≡ Some parts → P parts) → after_prefix w f path ≡ Some parts → P parts
-after-gives P w path f parts g e = by (starts_with nat_eq path w) refl e
-  where
-    by : (v : Bool) → starts_with nat_eq path w ≡ v → cond v (f (drop (length w) path)) None ≡ Some parts → P parts
-    by true s e2 = g (drop (length w) path) (starts-gives w path s) e2
-    by false s e2 = absurd (let q = e2 in cc)
+after-gives P w path f parts g e =
+    by_Bool (starts_with nat_eq path w) (λ begins. g (drop (length w) path) (starts-gives w path begins) (rw begins at e)) (λ other. absurd (let q = rw other at e in cc))
 
 nothing-gives : (x parts : Parts) (rest : List ℕ) → nothing_more x rest ≡ Some parts → (rest ≡ []) × (x ≡ parts)
 nothing-gives x parts [] e = (refl, let q = e in cc)
@@ -68,14 +61,11 @@ file_is number path = refl
 
 -- what follows a number
 under-gives : (path number rest : List ℕ) (parts : Parts) → path ≡ codes "/deposits/" ++ number ++ 47 ∷ rest → IsPart number → under_deposit number rest ≡ Some parts → SpellsParts path parts
-under-gives path number rest parts e good said = or-gives (SpellsParts path) _ _ parts (tail (codes "audit") (nothing_more (audit number)) (ending (codes "audit") (audit number) refl good))
-    (or-gives (SpellsParts path) _ _ parts (tail (codes "bag") (nothing_more (bag number)) (ending (codes "bag") (bag number) refl good))
-    (or-gives (SpellsParts path) _ _ parts (tail (codes "files/") (all_of (file number)) files)
-    (tail (codes "holds") (nothing_more (holds_of_deposit number)) (ending (codes "holds") (holds_of_deposit number) refl good)))) said
+under-gives path number rest parts e good said = or-gives (SpellsParts path) _ _ parts (after-gives (SpellsParts path) (codes "audit") rest (nothing_more (audit number)) parts (ending (codes "audit") (audit number) refl good))
+    (or-gives (SpellsParts path) _ _ parts (after-gives (SpellsParts path) (codes "bag") rest (nothing_more (bag number)) parts (ending (codes "bag") (bag number) refl good))
+    (or-gives (SpellsParts path) _ _ parts (after-gives (SpellsParts path) (codes "files/") rest (all_of (file number)) parts files)
+    (after-gives (SpellsParts path) (codes "holds") rest (nothing_more (holds_of_deposit number)) parts (ending (codes "holds") (holds_of_deposit number) refl good)))) said
   where
-    tail : (w : List ℕ) (f : List ℕ → Option Parts) → ((after_it : List ℕ) → rest ≡ w ++ after_it → f after_it ≡ Some parts → SpellsParts path parts) → after_prefix w f rest ≡ Some parts → SpellsParts path parts
-    tail w f g s = after-gives (SpellsParts path) w rest f parts g s
-
     ending : (w : List ℕ) (x : Parts) → path_by_parts x ≡ codes "/deposits/" ++ (number ++ (47 ∷ (w ++ []))) → AreParts x → (after_it : List ℕ) → rest ≡ w ++ after_it → nothing_more x after_it ≡ Some parts → SpellsParts path parts
     ending w x spelled fine after_it r s =
         let h = nothing-gives x parts after_it s in
@@ -92,13 +82,10 @@ of-gives path rest parts e said = part-gives (SpellsParts path) (λ number. Some
 
 pub spelled : (path : List ℕ) (parts : Parts) → parts_of path ≡ Some parts → SpellsParts path parts
 spelled path parts said =
-    or-gives (SpellsParts path) _ _ parts (front (codes "/classes/") (last_part class) (last-gives (codes "/classes/") path class parts (λ p. refl) (λ p h. h)))
-    (or-gives (SpellsParts path) _ _ parts (front (codes "/collections/") (last_part collection) (last-gives (codes "/collections/") path collection parts (λ p. refl) (λ p h. h)))
-    (or-gives (SpellsParts path) _ _ parts (front (codes "/deposits/") under_deposits (λ rest e s. of-gives path rest parts e s))
-    (or-gives (SpellsParts path) _ _ parts (front (codes "/deposits") (nothing_more deposits) (end-gives (codes "/deposits") path deposits parts refl tt))
-    (or-gives (SpellsParts path) _ _ parts (front (codes "/due") (nothing_more due) (end-gives (codes "/due") path due parts refl tt))
-    (or-gives (SpellsParts path) _ _ parts (front (codes "/holds/") (last_part hold) (last-gives (codes "/holds/") path hold parts (λ p. refl) (λ p h. h)))
-    (front (codes "/holds") (nothing_more holds) (end-gives (codes "/holds") path holds parts refl tt))))))) said
-  where
-    front : (w : List ℕ) (f : List ℕ → Option Parts) → ((rest : List ℕ) → path ≡ w ++ rest → f rest ≡ Some parts → SpellsParts path parts) → after_prefix w f path ≡ Some parts → SpellsParts path parts
-    front w f g s = after-gives (SpellsParts path) w path f parts g s
+    or-gives (SpellsParts path) _ _ parts (after-gives (SpellsParts path) (codes "/classes/") path (last_part class) parts (last-gives (codes "/classes/") path class parts (λ p. refl) (λ p h. h)))
+    (or-gives (SpellsParts path) _ _ parts (after-gives (SpellsParts path) (codes "/collections/") path (last_part collection) parts (last-gives (codes "/collections/") path collection parts (λ p. refl) (λ p h. h)))
+    (or-gives (SpellsParts path) _ _ parts (after-gives (SpellsParts path) (codes "/deposits/") path under_deposits parts (λ rest e s. of-gives path rest parts e s))
+    (or-gives (SpellsParts path) _ _ parts (after-gives (SpellsParts path) (codes "/deposits") path (nothing_more deposits) parts (end-gives (codes "/deposits") path deposits parts refl tt))
+    (or-gives (SpellsParts path) _ _ parts (after-gives (SpellsParts path) (codes "/due") path (nothing_more due) parts (end-gives (codes "/due") path due parts refl tt))
+    (or-gives (SpellsParts path) _ _ parts (after-gives (SpellsParts path) (codes "/holds/") path (last_part hold) parts (last-gives (codes "/holds/") path hold parts (λ p. refl) (λ p h. h)))
+    (after-gives (SpellsParts path) (codes "/holds") path (nothing_more holds) parts (end-gives (codes "/holds") path holds parts refl tt))))))) said

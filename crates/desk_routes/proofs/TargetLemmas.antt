@@ -1,21 +1,16 @@
 -- The path and the query of a target are its two parts.
-use Rattle.std.proofs.Common.{◌≡◌, ◌≢◌, inl, inr, ℕ, suc, ◌+◌, ◌==◌, List, [], ◌∷◌, ◌++◌, Bool, true, false, cond, refl, sym, ap, ◌∙◌, arith}
-use Rattle.std.proofs.lemmas.Bool.Decides.{nat_tests}
-use Rattle.std.specs.List.{position_or_len, before_first, after_first, AllByRecursion}
+use Rattle.desk_routes.proofs.Common.{◌≡◌, ◌≢◌, inl, inr, ℕ, suc, ◌+◌, ◌==◌, List, [], ◌∷◌, ◌++◌, Bool, true, false, cond, refl, sym, ap, ◌∙◌, arith, nat_tests, position_or_len, before_first, after_first, AllByRecursion}
 use Rattle.desk_routes.specs.Targets.{Splits, path_part, query_part}
+use Rattle.office_core.proofs.OptionLemmas.{by_Bool}
 
 -- the parts of a target are what stands before its first question mark, and after it
 parts_cut : (target : List ℕ) → (before_first (λ b. b == 63) target ≡ path_part target) × (after_first (λ b. b == 63) target ≡ query_part target)
 parts_cut [] = (refl, refl)
-parts_cut (b ∷ rest) = by (b == 63) refl (parts_cut rest)
-  where
-    by : (v : Bool) → (b == 63) ≡ v → (before_first (λ c. c == 63) rest ≡ path_part rest) × (after_first (λ c. c == 63) rest ≡ query_part rest)
-        → (before_first (λ c. c == 63) (b ∷ rest) ≡ path_part (b ∷ rest)) × (after_first (λ c. c == 63) (b ∷ rest) ≡ query_part (b ∷ rest))
-    by true e ih = (rw e refl, rw e refl)
-    by false e ih =
-        let front : 1 + position_or_len (λ c. c == 63) rest ≡ suc (position_or_len (λ c. c == 63) rest) = omega arith in
-        let back : 1 + position_or_len (λ c. c == 63) rest + 1 ≡ suc (position_or_len (λ c. c == 63) rest + 1) = omega arith in
-        (rw (e, front) (ap (λ l. b ∷ l) ih.0), rw (e, back) ih.1)
+parts_cut (b ∷ rest) =
+    let ih = parts_cut rest in
+    let front : 1 + position_or_len (λ c. c == 63) rest ≡ suc (position_or_len (λ c. c == 63) rest) = omega arith in
+    let back : 1 + position_or_len (λ c. c == 63) rest + 1 ≡ suc (position_or_len (λ c. c == 63) rest + 1) = omega arith in
+    by_Bool (b == 63) (λ mark. (rw mark refl, rw mark refl)) (λ other. (rw (other, front) (ap (λ l. b ∷ l) ih.0), rw (other, back) ih.1))
 
 pub path-before : (target : List ℕ) → before_first (λ b. b == 63) target ≡ path_part target
 path-before target = (parts_cut target).0

@@ -1,12 +1,7 @@
 -- What the parameters of a route take of its path.
-use Rattle.std.proofs.Common.{◌≡◌, ℕ, ◌≤◌, ◌+◌, ◌-◌, ◌==◌, List, [], ◌∷◌, ◌++◌, length, drop, take, get_or, Bool, true, false, refl, sym, ap, ◌∙◌, arith, append-nil, ltb, leb, ◌&&◌, length-append}
-use Rattle.std.proofs.lemmas.Bool.Decides.{nat_tests}
-use Rattle.std.proofs.Math.Seq.{take-append_seam, drop-append_seam}
-use Rattle.matchit.specs.Params.{walk, wild_from, wild_stop, part_of, after_token}
-use Rattle.matchit.specs.Rows.{param_token}
-use Rattle.matchit.specs.Seek.{segment}
-use Rattle.matchit.specs.Level.{IsText}
+use Rattle.desk_routes.proofs.Common.{◌≡◌, ℕ, ◌≤◌, ◌+◌, ◌-◌, ◌==◌, List, [], ◌∷◌, ◌++◌, length, drop, take, get_or, Bool, true, false, refl, sym, ap, ◌∙◌, arith, append-nil, ltb, leb, ◌&&◌, length-append, nat_tests, take-append_seam, drop-append_seam, walk, wild_from, wild_stop, part_of, after_token, param_token, segment, IsText}
 use Rattle.desk_routes.proofs.PartSpelling.{has_slash}
+use Rattle.office_core.proofs.OptionLemmas.{by_Bool}
 
 pair : (a b c d : ℕ) → a ≡ c → b ≡ d → ◌≡◌ {A = ℕ × ℕ} (a, b) (c, d)
 pair a b c d e f = rw (e, f) refl
@@ -28,21 +23,18 @@ part_of-says a b c path start end e s f =
 
 pub segment-says : (part rest : List ℕ) → has_slash part ≡ false → segment (part ++ 47 ∷ rest) ≡ part ++ 47 ∷ []
 segment-says [] rest h = refl
-segment-says (b ∷ part) rest h = by (b == 47) refl (segment-says part rest)
-  where
-    by : (v : Bool) → (b == 47) ≡ v → (has_slash part ≡ false → segment (part ++ 47 ∷ rest) ≡ part ++ 47 ∷ []) → segment (b ∷ part ++ 47 ∷ rest) ≡ b ∷ part ++ 47 ∷ []
-    by true e ih = absurd (let f = rw e at h in cc)
-    by false e ih = rw e (ap (λ l. b ∷ l) (ih (rw e at h)))
+segment-says (b ∷ part) rest h =
+    by_Bool (b == 47) (λ slash. absurd (let z = rw slash at h in cc)) (λ other. rw other (ap (λ l. b ∷ l) (segment-says part rest (rw other at h))))
 
 -- whether more of the route follows a parameter
 abbrev pub more_follows : List ℕ → ℕ → Bool
 more_follows pattern token = ltb token (length pattern) && (get_or pattern token 0 == param_token) && ltb (token + 1) (length pattern)
 
 -- the last parameter takes all that is left
-pub takes-rest : (before w tail : List ℕ) (x token : ℕ) (pattern text path a part : List ℕ) (name : ℕ × ℕ) (at here place : ℕ) → drop token pattern ≡ w ++ x ∷ tail → IsText w → ltb x param_token ≡ false
+pub takes-rest : (before w tail : List ℕ) (x token : ℕ) (pattern text path a part : List ℕ) (name : ℕ × ℕ) (at here resource : ℕ) → drop token pattern ≡ w ++ x ∷ tail → IsText w → ltb x param_token ≡ false
     → path ≡ a ++ part → at + length w ≡ length a → token + length w ≡ here → more_follows pattern here ≡ false
     → walk pattern text path (name ∷ []) token at ≡ (part_of text name.0 name.1, part) ∷ []
-takes-rest before w tail x token pattern text path a part name at here place p t e is room here_is stops =
+takes-rest before w tail x token pattern text path a part name at here resource p t e is room here_is stops =
     let len : length path ≡ length a + length part = ap length is ∙ length-append a part in
     let from : wild_from (drop token pattern) (length path) token at ≡ (here, length a) = ap (λ l. wild_from l (length path) token at) p ∙ wild_from-says w tail x (length path) token at t e (omega arith) ∙ pair _ _ _ _ here_is room in
     rw (from, stops) (ap (λ l. (part_of text name.0 name.1, l) ∷ []) (part_of-says a part [] path (length a) (length path) (is ∙ ap (λ l. a ++ l) (sym (append-nil part))) refl len))

@@ -1,4 +1,4 @@
-pub mod Places
+pub mod Resources
 pub mod PathReading
 pub mod Rows
 pub mod Table

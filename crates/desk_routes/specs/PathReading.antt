@@ -1,4 +1,4 @@
--- How a path is read, by its beginning and its parts. The law `spelled_places` says that this reads each path as `Places` spells it; the rule is
+-- How a path is read, by its beginning and its parts. The law `spelled_resources` says that this reads each path as `Places` spells it; the rule is
 -- Depot's own, as there.
 use Rattle.std.specs.Prelude.{ℕ, ◌==◌, Bool, false, ◌&&◌, nat_le, List, [], ◌∷◌, length, drop, codes, Option, Some, None, nat_eq, option_map, option_and_then, if◌then◌else◌}
 use Rattle.std.specs.Option.{option_or}
@@ -6,8 +6,8 @@ use Rattle.std.specs.List.{starts_with, list_all}
 use Rattle.std.specs.Char.{is_ascii_digit}
 use Rattle.std.specs.Str.Parse.{digits_value}
 use Rattle.office_core.specs.Names.{is_name}
-use Rattle.desk_routes.specs.declared.place.Place.{Place}
-use Rattle.desk_routes.specs.declared.place.Place.TheVariants as places
+use Rattle.desk_routes.specs.declared.resource.Resource.{Resource}
+use Rattle.desk_routes.specs.declared.resource.Resource.TheVariants as resources
 
 -- which pattern a path has, with the texts for its name, its number and its path
 pub data Parts : Type 0 where
@@ -87,19 +87,19 @@ abbrev pub file_path_of : List ℕ → Option (List ℕ)
 file_path_of text = if nat_le 1 (length text) then Some text else None
 
 -- the place of a path with these parts, where they are a name, numbers and the path of a file
-abbrev pub place_by_parts : Parts → Option Place
-place_by_parts (class name) = option_map places.Class (name_of name)
-place_by_parts (collection name) = option_map places.Collection (name_of name)
-place_by_parts deposits = Some places.Deposits
-place_by_parts (deposit number) = option_map places.Deposit (number_of number)
-place_by_parts (holds_of_deposit number) = option_map places.HoldsOfDeposit (number_of number)
-place_by_parts (bag number) = option_map places.Bag (number_of number)
-place_by_parts (file number path) = option_and_then (λ n. option_map (places.File n) (file_path_of path)) (number_of number)
-place_by_parts (audit number) = option_map places.Audit (number_of number)
-place_by_parts holds = Some places.Holds
-place_by_parts (hold number) = option_map places.Hold (number_of number)
-place_by_parts due = Some places.Due
+abbrev pub resource_by_parts : Parts → Option Resource
+resource_by_parts (class name) = option_map resources.Class (name_of name)
+resource_by_parts (collection name) = option_map resources.Collection (name_of name)
+resource_by_parts deposits = Some resources.Deposits
+resource_by_parts (deposit number) = option_map resources.Deposit (number_of number)
+resource_by_parts (holds_of_deposit number) = option_map resources.HoldsOfDeposit (number_of number)
+resource_by_parts (bag number) = option_map resources.Bag (number_of number)
+resource_by_parts (file number path) = option_and_then (λ n. option_map (resources.File n) (file_path_of path)) (number_of number)
+resource_by_parts (audit number) = option_map resources.Audit (number_of number)
+resource_by_parts holds = Some resources.Holds
+resource_by_parts (hold number) = option_map resources.Hold (number_of number)
+resource_by_parts due = Some resources.Due
 
 -- what a path names, if anything
-abbrev pub place_named : List ℕ → Option Place
-place_named path = option_and_then place_by_parts (parts_of path)
+abbrev pub resource_named : List ℕ → Option Resource
+resource_named path = option_and_then resource_by_parts (parts_of path)

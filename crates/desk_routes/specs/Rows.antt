@@ -5,10 +5,10 @@ use Rattle.matchit.specs.Params.{walk, named}
 use Rattle.matchit.specs.Router.{RouteOf}
 use Rattle.matchit.specs.Rows.{RowsOf}
 use Rattle.matchit.specs.declared.params.Params.{Params}
-use Rattle.desk_routes.specs.declared.place.Pattern.{Pattern}
-use Rattle.desk_routes.specs.declared.place.Pattern.TheVariants as patterns
-use Rattle.desk_routes.specs.declared.place.Place.{Place}
-use Rattle.desk_routes.specs.declared.place.Place.TheVariants as places
+use Rattle.desk_routes.specs.declared.resource.Pattern.{Pattern}
+use Rattle.desk_routes.specs.declared.resource.Pattern.TheVariants as patterns
+use Rattle.desk_routes.specs.declared.resource.Resource.{Resource}
+use Rattle.desk_routes.specs.declared.resource.Resource.TheVariants as resources
 use Rattle.desk_routes.specs.PathReading.{Parts, class, collection, deposit, holds_of_deposit, bag, audit, hold, file, deposits, holds, due, name_of, number_of, file_path_of}
 
 abbrev pub route_row : List ℕ → List ℕ → List (ℕ × ℕ) → Pattern → RouteOf Pattern
@@ -57,18 +57,18 @@ abbrev pub path_in : Texts → Option (List ℕ)
 path_in texts = option_and_then file_path_of (named (codes "path") texts)
 
 -- the place of a path that has this pattern and these texts
-abbrev pub place_by_texts : Pattern → Texts → Option Place
-place_by_texts patterns.Class texts = option_map places.Class (name_in texts)
-place_by_texts patterns.Collection texts = option_map places.Collection (name_in texts)
-place_by_texts patterns.Deposits texts = Some places.Deposits
-place_by_texts patterns.Deposit texts = option_map places.Deposit (number_in texts)
-place_by_texts patterns.HoldsOfDeposit texts = option_map places.HoldsOfDeposit (number_in texts)
-place_by_texts patterns.Bag texts = option_map places.Bag (number_in texts)
-place_by_texts patterns.File texts = option_and_then (λ n. option_map (places.File n) (path_in texts)) (number_in texts)
-place_by_texts patterns.Audit texts = option_map places.Audit (number_in texts)
-place_by_texts patterns.Holds texts = Some places.Holds
-place_by_texts patterns.Hold texts = option_map places.Hold (number_in texts)
-place_by_texts patterns.Due texts = Some places.Due
+abbrev pub resource_by_texts : Pattern → Texts → Option Resource
+resource_by_texts patterns.Class texts = option_map resources.Class (name_in texts)
+resource_by_texts patterns.Collection texts = option_map resources.Collection (name_in texts)
+resource_by_texts patterns.Deposits texts = Some resources.Deposits
+resource_by_texts patterns.Deposit texts = option_map resources.Deposit (number_in texts)
+resource_by_texts patterns.HoldsOfDeposit texts = option_map resources.HoldsOfDeposit (number_in texts)
+resource_by_texts patterns.Bag texts = option_map resources.Bag (number_in texts)
+resource_by_texts patterns.File texts = option_and_then (λ n. option_map (resources.File n) (path_in texts)) (number_in texts)
+resource_by_texts patterns.Audit texts = option_map resources.Audit (number_in texts)
+resource_by_texts patterns.Holds texts = Some resources.Holds
+resource_by_texts patterns.Hold texts = option_map resources.Hold (number_in texts)
+resource_by_texts patterns.Due texts = Some resources.Due
 
 -- ---- for private clauses: the router as it is filled, each time in its own order
 

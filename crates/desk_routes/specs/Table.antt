@@ -3,16 +3,16 @@
 use Rattle.std.specs.Prelude.{◌≡◌, ◌≢◌, ℕ, List, [], ◌∷◌, Contains, codes, bytes_eq, Option, Some, None, option_and_then, Result, Err, ok_or, if◌then◌else◌}
 use Rattle.desk_routes.specs.declared.method.Method.{Method}
 use Rattle.desk_routes.specs.declared.method.Method.TheVariants.{Delete, Get, Post, Put}
-use Rattle.desk_routes.specs.declared.place.Pattern.{Pattern}
-use Rattle.desk_routes.specs.declared.place.Pattern.TheVariants as patterns
-use Rattle.desk_routes.specs.declared.place.Place.{Place}
-use Rattle.desk_routes.specs.declared.place.Place.TheVariants as places
+use Rattle.desk_routes.specs.declared.resource.Pattern.{Pattern}
+use Rattle.desk_routes.specs.declared.resource.Pattern.TheVariants as patterns
+use Rattle.desk_routes.specs.declared.resource.Resource.{Resource}
+use Rattle.desk_routes.specs.declared.resource.Resource.TheVariants as resources
 use Rattle.desk_routes.specs.declared.refusal.DeskRefusal.{DeskRefusal}
 use Rattle.desk_routes.specs.declared.refusal.DeskRefusal.TheVariants as refusals
 use Rattle.desk_routes.specs.declared.route.Route.{Route}
 use Rattle.desk_routes.specs.declared.route.Route.TheVariants as routes
-use Rattle.desk_routes.specs.Places.{SpellsPlace, pattern_of}
-use Rattle.desk_routes.specs.PathReading.{place_named}
+use Rattle.desk_routes.specs.Resources.{SpellsResource, pattern_of}
+use Rattle.desk_routes.specs.PathReading.{resource_named}
 
 abbrev pub method_text : Method → List ℕ
 method_text Delete = codes "DELETE"
@@ -21,20 +21,20 @@ method_text Post = codes "POST"
 method_text Put = codes "PUT"
 
 -- the method and the place of each route
-abbrev pub row : Route → Method × Place
-row (routes.DefineClass name) = (Put, places.Class name)
-row (routes.DefineCollection name) = (Put, places.Collection name)
-row routes.Deposit = (Post, places.Deposits)
-row routes.List = (Get, places.Deposits)
-row (routes.Record number) = (Get, places.Deposit number)
-row (routes.Dispose number) = (Delete, places.Deposit number)
-row (routes.Holds number) = (Get, places.HoldsOfDeposit number)
-row (routes.DownloadBag number) = (Get, places.Bag number)
-row (routes.DownloadFile number path) = (Get, places.File number path)
-row (routes.Audit number) = (Get, places.Audit number)
-row routes.PlaceHold = (Post, places.Holds)
-row (routes.Release number) = (Delete, places.Hold number)
-row routes.DueList = (Get, places.Due)
+abbrev pub row : Route → Method × Resource
+row (routes.DefineClass name) = (Put, resources.Class name)
+row (routes.DefineCollection name) = (Put, resources.Collection name)
+row routes.Deposit = (Post, resources.Deposits)
+row routes.List = (Get, resources.Deposits)
+row (routes.Record number) = (Get, resources.Deposit number)
+row (routes.Dispose number) = (Delete, resources.Deposit number)
+row (routes.Holds number) = (Get, resources.HoldsOfDeposit number)
+row (routes.DownloadBag number) = (Get, resources.Bag number)
+row (routes.DownloadFile number path) = (Get, resources.File number path)
+row (routes.Audit number) = (Get, resources.Audit number)
+row routes.PlaceHold = (Post, resources.Holds)
+row (routes.Release number) = (Delete, resources.Hold number)
+row routes.DueList = (Get, resources.Due)
 
 -- the methods that the paths of each pattern take, in the order of the alphabet
 abbrev pub methods_of : Pattern → List Method
@@ -52,32 +52,32 @@ methods_of patterns.Due = Get ∷ []
 
 -- this method on this path asks for this
 abbrev pub AsksFor : List ℕ → List ℕ → Route → Type 0
-AsksFor method path route = (method ≡ method_text (row route).0) × SpellsPlace path (row route).1
+AsksFor method path route = (method ≡ method_text (row route).0) × SpellsResource path (row route).1
 
 -- the path names a place of this pattern, and the method is none of those that such a place takes
 abbrev pub IsOtherMethod : List ℕ → List ℕ → Pattern → Type 0
 IsOtherMethod method path pattern =
-    (place : Place) × SpellsPlace path place × (pattern_of place ≡ pattern)
+    (resource : Resource) × SpellsResource path resource × (pattern_of resource ≡ pattern)
     × ((allowed : Method) → Contains (methods_of pattern) allowed → method ≢ method_text allowed)
 
 -- ---- the same, found from the method and the path
 
 -- what a method asks of a place, if the place takes it
-abbrev pub route_at : Method → Place → Option Route
-route_at Put (places.Class name) = Some (routes.DefineClass name)
-route_at Put (places.Collection name) = Some (routes.DefineCollection name)
-route_at Post places.Deposits = Some routes.Deposit
-route_at Get places.Deposits = Some routes.List
-route_at Get (places.Deposit number) = Some (routes.Record number)
-route_at Delete (places.Deposit number) = Some (routes.Dispose number)
-route_at Get (places.HoldsOfDeposit number) = Some (routes.Holds number)
-route_at Get (places.Bag number) = Some (routes.DownloadBag number)
-route_at Get (places.File number path) = Some (routes.DownloadFile number path)
-route_at Get (places.Audit number) = Some (routes.Audit number)
-route_at Post places.Holds = Some routes.PlaceHold
-route_at Delete (places.Hold number) = Some (routes.Release number)
-route_at Get places.Due = Some routes.DueList
-route_at method place = None
+abbrev pub route_at : Method → Resource → Option Route
+route_at Put (resources.Class name) = Some (routes.DefineClass name)
+route_at Put (resources.Collection name) = Some (routes.DefineCollection name)
+route_at Post resources.Deposits = Some routes.Deposit
+route_at Get resources.Deposits = Some routes.List
+route_at Get (resources.Deposit number) = Some (routes.Record number)
+route_at Delete (resources.Deposit number) = Some (routes.Dispose number)
+route_at Get (resources.HoldsOfDeposit number) = Some (routes.Holds number)
+route_at Get (resources.Bag number) = Some (routes.DownloadBag number)
+route_at Get (resources.File number path) = Some (routes.DownloadFile number path)
+route_at Get (resources.Audit number) = Some (routes.Audit number)
+route_at Post resources.Holds = Some routes.PlaceHold
+route_at Delete (resources.Hold number) = Some (routes.Release number)
+route_at Get resources.Due = Some routes.DueList
+route_at method resource = None
 
 -- the method that a word is, compared exactly
 abbrev pub method_of : List ℕ → Option Method
@@ -87,10 +87,10 @@ method_of text =
     else (if bytes_eq text (codes "POST") then Some Post
     else (if bytes_eq text (codes "PUT") then Some Put else None)))
 
-abbrev pub route_of_place : List ℕ → Option Place → Result Route DeskRefusal
-route_of_place method None = Err refusals.NoRoute
-route_of_place method (Some place) = ok_or (option_and_then (λ m. route_at m place) (method_of method)) (refusals.Method (pattern_of place))
+abbrev pub route_of_resource : List ℕ → Option Resource → Result Route DeskRefusal
+route_of_resource method None = Err refusals.NoRoute
+route_of_resource method (Some resource) = ok_or (option_and_then (λ m. route_at m resource) (method_of method)) (refusals.Method (pattern_of resource))
 
 -- what a method and a path ask for, or why that is refused: the path names nothing, or its place doesn't take the method
 abbrev pub route_of : List ℕ → List ℕ → Result Route DeskRefusal
-route_of method path = route_of_place method (place_named path)
+route_of method path = route_of_resource method (resource_named path)

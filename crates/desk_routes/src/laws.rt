@@ -5,39 +5,39 @@ ghost use Rattle.std.specs.Cmp.Lexicographic.{slice_cmp};
 ghost use Rattle.std.specs.List.Sorted.{IsStrictlySortedBy};
 ghost use Rattle.std.specs.Ordering.{nat_cmp};
 ghost use Rattle.desk_routes.specs.declared.method.Method.{Method as AnyMethod};
-ghost use Rattle.desk_routes.specs.declared.place.Pattern.{Pattern as AnyPattern};
-ghost use Rattle.desk_routes.specs.declared.place.Place.{Place as AnyPlace};
+ghost use Rattle.desk_routes.specs.declared.resource.Pattern.{Pattern as AnyPattern};
+ghost use Rattle.desk_routes.specs.declared.resource.Resource.{Resource as AnyResource};
 ghost use Rattle.desk_routes.specs.declared.refusal.DeskRefusal.TheVariants.{NoRoute, Method};
 ghost use Rattle.desk_routes.specs.declared.route.Route.{Route as AnyRoute};
-ghost use Rattle.desk_routes.specs.PathReading.{place_named};
-ghost use Rattle.desk_routes.specs.Places.{SpellsPlace, pattern_of};
+ghost use Rattle.desk_routes.specs.PathReading.{resource_named};
+ghost use Rattle.desk_routes.specs.Resources.{SpellsResource, pattern_of};
 ghost use Rattle.desk_routes.specs.Table.{AsksFor, IsOtherMethod, method_text, methods_of, row, route_at, route_of};
 ghost use Rattle.desk_routes.specs.Targets.{Splits, path_part, query_part};
 
 /// A path is read as a place exactly where it is the spelling of that place.
-pub fn spelled_places()
-    ensures { (path : List ℕ) (place : AnyPlace)
-        → (place_named path ≡ Some place) ↔ SpellsPlace path place }
+pub fn spelled_resources()
+    ensures { (path : List ℕ) (resource : AnyResource)
+        → (resource_named path ≡ Some resource) ↔ SpellsResource path resource }
 {}
 
 /// A path is the spelling of one place at most.
-pub fn one_place()
-    ensures { (path : List ℕ) (one other : AnyPlace)
-        → SpellsPlace path one → SpellsPlace path other → one ≡ other }
+pub fn one_resource()
+    ensures { (path : List ℕ) (one other : AnyResource)
+        → SpellsResource path one → SpellsResource path other → one ≡ other }
 {}
 
 /// A method and a place give a route exactly where they are the route's row of the table.
 pub fn rows_of_routes()
-    ensures { (method : AnyMethod) (place : AnyPlace) (route : AnyRoute)
-        → (route_at method place ≡ Some route)
-        ↔ (((row route).0 ≡ method) × ((row route).1 ≡ place)) }
+    ensures { (method : AnyMethod) (resource : AnyResource) (route : AnyRoute)
+        → (route_at method resource ≡ Some route)
+        ↔ (((row route).0 ≡ method) × ((row route).1 ≡ resource)) }
 {}
 
 /// A place takes exactly the methods that its pattern lists.
 pub fn allowed_methods()
-    ensures { (method : AnyMethod) (place : AnyPlace)
-        → Contains (methods_of (pattern_of place)) method
-        ↔ ((route : AnyRoute) × (route_at method place ≡ Some route)) }
+    ensures { (method : AnyMethod) (resource : AnyResource)
+        → Contains (methods_of (pattern_of resource)) method
+        ↔ ((route : AnyRoute) × (route_at method resource ≡ Some route)) }
 {}
 
 /// A pattern lists its methods by their words in the order of bytes, each once.
@@ -55,7 +55,7 @@ pub fn asked_routes()
         → (route_of method path ≡ Ok route) ↔ AsksFor method path route }
     ensures nothing { (method path : List ℕ)
         → (route_of method path ≡ Err NoRoute)
-        ↔ ((place : AnyPlace) → ¬ (SpellsPlace path place)) }
+        ↔ ((resource : AnyResource) → ¬ (SpellsResource path resource)) }
     ensures refused { (method path : List ℕ) (pattern : AnyPattern)
         → (route_of method path ≡ Err (Method pattern)) ↔ IsOtherMethod method path pattern }
 {}

@@ -5,16 +5,16 @@ mod file_path;
 pub mod laws;
 mod method;
 mod number;
-mod place;
 mod refusal;
+mod resource;
 mod route;
 mod routes;
 mod target;
 
 pub use file_path::FilePath;
 pub use method::Method;
-pub use place::{Pattern, Place};
 pub use refusal::DeskRefusal;
+pub use resource::{Pattern, Resource};
 pub use route::Route;
 pub use routes::Routes;
 pub use target::split_target;

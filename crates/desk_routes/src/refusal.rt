@@ -1,6 +1,6 @@
 //! What the desk refuses before the office is asked.
 
-use crate::place::Pattern;
+use crate::resource::Pattern;
 
 /// Why the desk refuses a request. The office is not asked.
 #[derive(Clone, Copy, Debug, PartialEq, Eq)]

@@ -5,7 +5,7 @@ ghost use Rattle.desk_routes.specs.Table.{route_at};
 
 use crate::file_path::FilePath;
 use crate::method::Method;
-use crate::place::Place;
+use crate::resource::Resource;
 use office_core::Name;
 
 /// What a method asks of a place. Deposits and holds are given by their numbers.
@@ -39,59 +39,59 @@ pub enum Route<'p> {
     DueList,
 }
 
-fn delete_route<'p>(place: Place<'p>) -> Option<Route<'p>>
-    ensures { result ≡ route_at Method.Delete place.entry }
+fn delete_route<'p>(resource: Resource<'p>) -> Option<Route<'p>>
+    ensures { result ≡ route_at Method.Delete resource.entry }
 {
-    match place {
-        Place::Deposit(number) => Some(Route::Dispose(number)),
-        Place::Hold(number) => Some(Route::Release(number)),
+    match resource {
+        Resource::Deposit(number) => Some(Route::Dispose(number)),
+        Resource::Hold(number) => Some(Route::Release(number)),
         _ => None,
     }
 }
 
-fn get_route<'p>(place: Place<'p>) -> Option<Route<'p>>
-    ensures { result ≡ route_at Method.Get place.entry }
+fn get_route<'p>(resource: Resource<'p>) -> Option<Route<'p>>
+    ensures { result ≡ route_at Method.Get resource.entry }
 {
-    match place {
-        Place::Deposits => Some(Route::List),
-        Place::Deposit(number) => Some(Route::Record(number)),
-        Place::HoldsOfDeposit(number) => Some(Route::Holds(number)),
-        Place::Bag(number) => Some(Route::DownloadBag(number)),
-        Place::File { deposit, path } => Some(Route::DownloadFile { deposit, path }),
-        Place::Audit(number) => Some(Route::Audit(number)),
-        Place::Due => Some(Route::DueList),
+    match resource {
+        Resource::Deposits => Some(Route::List),
+        Resource::Deposit(number) => Some(Route::Record(number)),
+        Resource::HoldsOfDeposit(number) => Some(Route::Holds(number)),
+        Resource::Bag(number) => Some(Route::DownloadBag(number)),
+        Resource::File { deposit, path } => Some(Route::DownloadFile { deposit, path }),
+        Resource::Audit(number) => Some(Route::Audit(number)),
+        Resource::Due => Some(Route::DueList),
         _ => None,
     }
 }
 
-fn post_route<'p>(place: Place<'p>) -> Option<Route<'p>>
-    ensures { result ≡ route_at Method.Post place.entry }
+fn post_route<'p>(resource: Resource<'p>) -> Option<Route<'p>>
+    ensures { result ≡ route_at Method.Post resource.entry }
 {
-    match place {
-        Place::Deposits => Some(Route::Deposit),
-        Place::Holds => Some(Route::PlaceHold),
+    match resource {
+        Resource::Deposits => Some(Route::Deposit),
+        Resource::Holds => Some(Route::PlaceHold),
         _ => None,
     }
 }
 
-fn put_route<'p>(place: Place<'p>) -> Option<Route<'p>>
-    ensures { result ≡ route_at Method.Put place.entry }
+fn put_route<'p>(resource: Resource<'p>) -> Option<Route<'p>>
+    ensures { result ≡ route_at Method.Put resource.entry }
 {
-    match place {
-        Place::Class(name) => Some(Route::DefineClass(name)),
-        Place::Collection(name) => Some(Route::DefineCollection(name)),
+    match resource {
+        Resource::Class(name) => Some(Route::DefineClass(name)),
+        Resource::Collection(name) => Some(Route::DefineCollection(name)),
         _ => None,
     }
 }
 
 /// What the method asks of the place, where the place takes it.
-pub(crate) fn route_at<'p>(method: Method, place: Place<'p>) -> Option<Route<'p>>
-    ensures { result ≡ route_at method place.entry }
+pub(crate) fn route_at<'p>(method: Method, resource: Resource<'p>) -> Option<Route<'p>>
+    ensures { result ≡ route_at method resource.entry }
 {
     match method {
-        Method::Delete => delete_route(place),
-        Method::Get => get_route(place),
-        Method::Post => post_route(place),
-        Method::Put => put_route(place),
+        Method::Delete => delete_route(resource),
+        Method::Get => get_route(resource),
+        Method::Post => post_route(resource),
+        Method::Put => put_route(resource),
     }
 }

@@ -1,13 +1,13 @@
 //! The table of the routes.
 
 ghost use Rattle.std.specs.Prelude.{◌≡◌, [], IfOk, OnOk};
-ghost use Rattle.desk_routes.specs.PathReading.{place_named};
+ghost use Rattle.desk_routes.specs.PathReading.{resource_named};
 ghost use Rattle.desk_routes.specs.Rows.{definition_rows, rows_with_deposits, rows_with_parts_of_deposit, the_rows};
 ghost use Rattle.desk_routes.specs.Table.{route_of};
 
 use crate::method::Method;
-use crate::place::{Pattern, Place, place_by_params};
 use crate::refusal::DeskRefusal;
+use crate::resource::{Pattern, Resource, resource_by_params};
 use crate::route::{Route, route_at};
 use matchit::{InsertError, Router};
 use std::alloc::{AllocError, Global};
@@ -87,7 +87,7 @@ impl Model for Routes {
     ghost use Rattle.matchit.specs.Router.{RouteOf};
     ghost use Rattle.matchit.specs.Rows.{RowsOf};
     ghost use Rattle.desk_routes.specs.Rows.{the_rows};
-    ghost use Rattle.desk_routes.specs.declared.place.Pattern.{Pattern};
+    ghost use Rattle.desk_routes.specs.declared.resource.Pattern.{Pattern};
 
     ghost Value = { RowsOf (RouteOf Pattern) };
 
@@ -108,11 +108,11 @@ impl Routes {
     }
 
     /// What a path names, if anything: the place of which the path is the spelling.
-    pub fn find<'p>(&self, path: &'p str) -> Option<Place<'p>>
-        ensures { result ≡ place_named path.now }
+    pub fn find<'p>(&self, path: &'p str) -> Option<Resource<'p>>
+        ensures { result ≡ resource_named path.now }
     {
         match self.router.at(path) {
-            Ok(found) => place_by_params(*found.value, &found.params),
+            Ok(found) => resource_by_params(*found.value, &found.params),
             Err(_) => None,
         }
     }
@@ -124,12 +124,12 @@ impl Routes {
     pub fn route<'p>(&self, method: &str, path: &'p str) -> Result<Route<'p>, DeskRefusal>
         ensures { result ≡ route_of method.now path.now }
     {
-        let Some(place) = self.find(path) else {
+        let Some(resource) = self.find(path) else {
             return Err(DeskRefusal::NoRoute);
         };
-        let pattern = place.pattern();
+        let pattern = resource.pattern();
         match Method::read(method) {
-            Some(method) => match route_at(method, place) {
+            Some(method) => match route_at(method, resource) {
                 Some(route) => Ok(route),
                 None => Err(DeskRefusal::Method(pattern)),
             },

@@ -1,3 +1,4 @@
+pub mod Common
 pub mod ServingLemmas
 pub mod RefusalLemmas
 mod NoteLemmas

@@ -1,13 +1,11 @@
 -- What is noted as a reading.
-use Rattle.std.proofs.Common.{◌≡◌, [], ℕ, List, Option, Some, None, refl}
-use Rattle.jiff.specs.Types.{Date}
+use Rattle.desk_serving.proofs.Common.{◌≡◌, [], ℕ, List, Option, Some, None, refl, Date, kind_of}
 use Rattle.office_core.specs.declared.refusal.Refusal.{Refusal}
 use Rattle.office_core.specs.declared.request.Request.{Request}
 use Rattle.office_core.specs.declared.request.Request.TheVariants as asks
 use Rattle.office_history.specs.Answers.{OnlyReads, change, changes_unless}
 use Rattle.office_history.specs.Histories.{History}
 use Rattle.office_history.specs.Refusals.{refusal}
-use Rattle.desk_log.specs.Notes.{kind_of}
 use Rattle.desk_log.specs.declared.note.RequestKind.TheVariants.{Reading}
 
 none_made : (stands : Option Refusal) → changes_unless stands [] ≡ []
@@ -15,35 +13,20 @@ none_made None = refl
 none_made (Some why) = refl
 
 pub nothing_changed : (h : History) (day : Date) (caller : List ℕ) (request : Request) → kind_of request ≡ Reading → change h day caller request ≡ []
-nothing_changed h day caller (asks.DefineClass name years) is = absurd cc
-nothing_changed h day caller (asks.DefineCollection name) is = absurd cc
-nothing_changed h day caller (asks.Deposit collection class accession closed bag) is = absurd cc
 nothing_changed h day caller (asks.List collection class) is = none_made (refusal h day caller (asks.List collection class))
 nothing_changed h day caller (asks.Record n) is = none_made (refusal h day caller (asks.Record n))
 nothing_changed h day caller (asks.Holds n) is = none_made (refusal h day caller (asks.Holds n))
 nothing_changed h day caller (asks.DownloadBag n) is = none_made (refusal h day caller (asks.DownloadBag n))
 nothing_changed h day caller (asks.DownloadFile n path) is = none_made (refusal h day caller (asks.DownloadFile n path))
 nothing_changed h day caller (asks.Audit n) is = none_made (refusal h day caller (asks.Audit n))
-nothing_changed h day caller (asks.HoldDeposit n matter) is = absurd cc
-nothing_changed h day caller (asks.HoldCollection name matter) is = absurd cc
-nothing_changed h day caller (asks.HoldClass name matter) is = absurd cc
-nothing_changed h day caller (asks.Release k) is = absurd cc
-nothing_changed h day caller (asks.Dispose n) is = absurd cc
 nothing_changed h day caller asks.DueList is = none_made (refusal h day caller asks.DueList)
+nothing_changed h day caller _ is = absurd cc
 
 pub noted_reading : (request : Request) → OnlyReads request → kind_of request ≡ Reading
-noted_reading (asks.DefineClass name years) reads = absurd reads
-noted_reading (asks.DefineCollection name) reads = absurd reads
-noted_reading (asks.Deposit collection class accession closed bag) reads = absurd reads
 noted_reading (asks.List collection class) reads = refl
 noted_reading (asks.Record n) reads = refl
 noted_reading (asks.Holds n) reads = refl
 noted_reading (asks.DownloadBag n) reads = refl
 noted_reading (asks.DownloadFile n path) reads = refl
 noted_reading (asks.Audit n) reads = refl
-noted_reading (asks.HoldDeposit n matter) reads = absurd reads
-noted_reading (asks.HoldCollection name matter) reads = absurd reads
-noted_reading (asks.HoldClass name matter) reads = absurd reads
-noted_reading (asks.Release k) reads = absurd reads
-noted_reading (asks.Dispose n) reads = absurd reads
-noted_reading asks.DueList reads = absurd reads
+noted_reading _ reads = absurd reads

@@ -1,16 +1,8 @@
 -- Bytes that the desk refuses.
-use Rattle.std.proofs.Common.{◌≡◌, ℕ, List, Bool, true, false, rules}
-use Rattle.std.specs.Prelude.{Ok, Err}
-use Rattle.jiff.specs.Types.{Date}
-use Rattle.sqlite.specs.Held.{Held}
-use Rattle.sqlite.specs.Store.{Ghosts}
+use Rattle.desk_serving.proofs.Common.{◌≡◌, ℕ, List, Bool, true, false, rules, Ok, Err, Date, Held, Ghosts, HeardValue, Hears, refusal_text, IsAnswered}
 use Rattle.desk_routes.specs.declared.refusal.DeskRefusal.{DeskRefusal}
 use Rattle.desk_routes.specs.declared.refusal.DeskRefusal.TheVariants.{Truncated}
-use Rattle.desk_hearing.specs.Asking.{HeardValue}
-use Rattle.desk_hearing.specs.Hearing.{Hears}
 use Rattle.desk_hearing.proofs.OneHearing.{one_hearing}
-use Rattle.desk_answers.specs.Answers.{refusal_text}
-use Rattle.desk_serving.specs.Serving.{IsAnswered}
 
 pub refused : {S : Type 0} (g : Ghosts S) (done : Bool) (day : Date) (bytes text : List ℕ) (refusal : DeskRefusal) (old new : Held S)
     → Hears bytes (Err refusal) → IsAnswered g (record { day = day; bytes = bytes }) (record { text = text; done = done }) old new → (new ≡ old) × (text ≡ refusal_text refusal)

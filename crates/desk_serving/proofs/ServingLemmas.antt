@@ -1,17 +1,8 @@
 -- What is answered and noted, of all the bytes that there are.
-use Rattle.std.proofs.Common.{◌≡◌, ◌<◌, ℕ, List, Bool, true, false, Option, Some, None, length, subst, sym, take}
-use Rattle.std.specs.Prelude.{Result, Ok, Err, IfOk, IfSome, OnOk}
+use Rattle.desk_serving.proofs.Common.{◌≡◌, ◌<◌, ℕ, List, Bool, true, false, Option, Some, None, length, subst, sym, take, Result, Ok, Err, IfOk, IfSome, OnOk, Date, Held, state, Ghosts, HeardValue, Hears, answer_text, note_of, IsAnswered, IsHeardServed, IsNoted, ServesBytes, ServesNoted}
 use Rattle.std.specs.Io.KnownBytes.{Appends}
-use Rattle.jiff.specs.Types.{Date}
-use Rattle.sqlite.specs.Held.{Held, state}
-use Rattle.sqlite.specs.Store.{Ghosts}
 use Rattle.office_core.specs.declared.answer.Answer.{Answer}
-use Rattle.desk_hearing.specs.Asking.{HeardValue}
-use Rattle.desk_hearing.specs.Hearing.{Hears}
-use Rattle.desk_answers.specs.Answers.{answer_text}
-use Rattle.desk_log.specs.Notes.{note_of}
 use Rattle.desk_log.specs.declared.note.OfficeNote.{OfficeNote}
-use Rattle.desk_serving.specs.Serving.{IsAnswered, IsHeardServed, IsNoted, ServesBytes, ServesNoted}
 
 -- what follows of a result
 pub if_ok : {T E : Type 0} {P Q : T → Type 0} (result : Result T E) → IfOk result P → ((x : T) → P x → Q x) → IfOk result Q
@@ -60,11 +51,6 @@ module _ {S : Type 0} (g : Ghosts S) (old new : Held S) (day : Date) (note : Opt
   )
 
   -- ---- what was noted of it aside
-
-  pub whole_response : (all : Option (List ℕ)) (text : List ℕ) (done : Bool) → IfSome all (λ input. IsNoted g (record { day = day; bytes = input }) (record { text = text; done = done }) note old new)
-      → IfSome all (λ input. IsAnswered g (record { day = day; bytes = input }) (record { text = text; done = done }) old new)
-  whole_response None text done it = tt
-  whole_response (Some input) text done it = is_answered g old new day input text done note it
 
   pub unnoted_served : (all : Option (List ℕ)) → IfSome all (λ input. (answer : Answer) × ServesNoted day input note (state g old) (state g new) answer)
       → IfSome all (λ input. (answer : Answer) × ServesBytes day input (state g old) (state g new) answer)

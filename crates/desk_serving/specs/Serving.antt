@@ -8,7 +8,7 @@ use Rattle.sqlite.specs.Store.{Ghosts}
 use Rattle.office_core.specs.declared.answer.Answer.{Answer}
 use Rattle.office_core.specs.declared.request.Request.{Request}
 use Rattle.office_history.specs.Runs.{Item}
-use Rattle.office_engine.specs.Keeping.{CommitsTo, IsTurn, after_item}
+use Rattle.office_engine.specs.Storing.{CommitsTo, IsTurn, after_item}
 use Rattle.desk_routes.specs.declared.refusal.DeskRefusal.{DeskRefusal}
 use Rattle.desk_hearing.specs.Asking.{HeardValue, ask_and_bag}
 use Rattle.desk_hearing.specs.Hearing.{Hears}

@@ -3,5 +3,6 @@
 
 pub mod laws;
 mod serving;
+mod telling;
 
 pub use serving::{DeskFault, Response, Unanswered, respond, serve_one, serve_with_routes};

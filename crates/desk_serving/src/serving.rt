@@ -10,10 +10,11 @@ ghost use Rattle.desk_hearing.specs.Hearing.{Hears};
 ghost use Rattle.desk_log.specs.Notes.{note_of};
 ghost use Rattle.desk_serving.specs.Serving.{IsAnswered, IsHeardServed, IsNoted, ServesBytes, ServesNoted};
 
-use desk_answers::{answer_bytes, refusal_bytes};
+use crate::telling::bytes_and_note;
+use desk_answers::refusal_bytes;
 use desk_devices::{Counted, write_whole};
 use desk_hearing::{Heard, HeardFault, hear_request};
-use desk_log::{OfficeNote, note_of};
+use desk_log::OfficeNote;
 use desk_routes::{DeskRefusal, Routes};
 use office_core::Day;
 use office_engine::Office;
@@ -59,23 +60,25 @@ pub enum Unanswered {
     },
 }
 
-/// Has the office serve what was heard: the bytes of its answer, and what is noted of it.
+/// Has the office serve what was heard, and lets go of that: the bytes of the answer, and what is noted of it.
 fn answer_heard<S: Alter>(
     alloc: Global,
     office: &mut Office<S>,
     day: Day,
-    heard: &Heard,
+    heard: Heard,
 ) -> (Result<Vec<u8>, AllocError>, OfficeNote)
     ensures { (answer : Answer)
-        × (it : IsHeardServed day heard.now (state S.Store office.old) (state S.Store office.new)
+        × (it : IsHeardServed day heard (state S.Store office.old) (state S.Store office.new)
         answer)
         × IfOk result.0 (λ bytes. bytes.items ≡ answer_text answer)
         × (result.1 ≡ note_of it.item.2 answer) }
 {
     let request = heard.request();
     let answer = office.step(alloc, day, heard.caller(), &request);
-    let note = note_of(&request, &answer);
-    (answer_bytes(alloc, &answer), note)
+    let told = bytes_and_note(alloc, &request, answer);
+    // A call: let go at the brace, it would be let go here part by part, for each kind of request.
+    drop(heard);
+    told
 }
 
 /// Hears a request, and has the office serve it: the bytes that answer, and what is noted of the office's
@@ -121,7 +124,7 @@ fn respond_noting<S: Alter, R: Read>(
 {
     match hear_request(alloc, routes, reader) {
         Ok(heard) => {
-            let (bytes, note) = answer_heard(alloc, office, day, &heard);
+            let (bytes, note) = answer_heard(alloc, office, day, heard);
             match bytes {
                 Ok(bytes) => (Ok(Response { bytes, done: true }), Some(note)),
                 Err(_) => (Err(Unanswered::Memory { done: true }), Some(note)),

@@ -1,6 +1,7 @@
 pub mod Common
 mod CauseLemmas
 pub mod FormLemmas
-mod RulePlaces
+mod RuleLocations
 mod TomlLines
 pub mod Lemmas
+mod Examples

@@ -1,5 +1,7 @@
 -- What is said of each fault: a sentence with the names and numbers of the fault, and its code at the end.
 use Rattle.std.specs.Prelude.{ℕ, List, [], ◌++◌, ◌==◌, Option, Some, None, codes, decimal, if◌then◌else◌}
+use Rattle.bag_text.specs.TransferForm.{max_content, max_files, max_form}
+use Rattle.bag_text.specs.Paths.{max_path}
 use Rattle.bag_text.specs.declared.declaration.DeclFault.{DeclFault}
 use Rattle.bag_text.specs.declared.declaration.DeclFault.TheVariants as declarations
 use Rattle.bag_text.specs.declared.listing.LineFault.{LineFault}
@@ -16,6 +18,8 @@ use Rattle.bag_check.specs.Faults.{Fault, NoDeclaration, Declaration, FetchNotSu
 use Rattle.bag_check.specs.FaultTexts.{printed_text}
 use Rattle.fault_words.specs.declared.folder.OddCause.{OddCause}
 use Rattle.fault_words.specs.declared.folder.OddCause.TheVariants.{NoFile, NotUtf8}
+use Rattle.fault_words.specs.Numbers.{grouped}
+use Rattle.office_core.specs.Bounds.{max_callers, max_rules}
 use Rattle.office_core.specs.declared.policy_fault.PolicyFault.{PolicyFault}
 use Rattle.office_core.specs.declared.policy_fault.PolicyFault.TheVariants as policies
 
@@ -27,23 +31,23 @@ form_words (forms.BadEntry offset) = codes "the entry at byte " ++ decimal offse
 form_words forms.Truncated = codes "the form ends too early: it stops before the end of the line END (S3)"
 form_words (forms.OutOfOrder offset) = codes "the entry at byte " ++ decimal offset ++ codes " is out of order: its path does not come after the one before it, byte for byte (S4)"
 form_words (forms.BadPath offset) = codes "the entry at byte " ++ decimal offset ++ codes " has no good path: it is not UTF-8, has a NUL, or has a segment that is empty, . or .. (S5)"
-form_words forms.TooManyFiles = codes "the form has more files than the 2,000 that a bag may have (S6)"
+form_words forms.TooManyFiles = codes "the form has more files than the " ++ grouped max_files ++ codes " that a bag may have (S6)"
 form_words forms.TrailingBytes = codes "the form goes on after its line END (S7)"
 form_words forms.PathClash = codes "a path of the form is data, or names both a file and a folder (S8)"
 form_words forms.Memory = codes "memory ran out (S9)"
 
 -- of an input that is longer than any that is judged
 abbrev pub too_long_words : List ℕ
-too_long_words = codes "the form is longer than 16,777,216 bytes, the most that is judged (SIZE)"
+too_long_words = codes "the form is longer than " ++ grouped max_form ++ codes " bytes, the most that is judged (SIZE)"
 
 -- ---- of the files of a folder that is packed
 
 -- what is said of them, or of the file at fault after its path
 abbrev pub folder_words : SetFault → List ℕ
-folder_words (forms.BadEntry place) = codes "has more than 16,777,216 bytes, the most that a file of a bag may have (S2)"
+folder_words (forms.BadEntry place) = codes "has more than " ++ grouped max_content ++ codes " bytes, the most that a file of a bag may have (S2)"
 folder_words (forms.OutOfOrder place) = codes "does not come after the path before it, byte for byte (S4)"
-folder_words (forms.BadPath place) = codes "is no good path: it is not UTF-8, has more than 1,024 bytes or a NUL, or has a segment that is empty, . or .. (S5)"
-folder_words forms.TooManyFiles = codes "the folder has more files than the 2,000 that a bag may have (S6)"
+folder_words (forms.BadPath place) = codes "is no good path: it is not UTF-8, has more than " ++ grouped max_path ++ codes " bytes or a NUL, or has a segment that is empty, . or .. (S5)"
+folder_words forms.TooManyFiles = codes "the folder has more files than the " ++ grouped max_files ++ codes " that a bag may have (S6)"
 folder_words forms.PathClash = codes "a path of the folder is data, or names both a file and a folder (S8)"
 folder_words fault = codes "the files of the folder are no bag"
 
@@ -54,7 +58,7 @@ words_of_odd_entry path NotUtf8 = codes "the entry " ++ printed_text path ++ cod
 
 -- of files whose form is longer than any that is written
 abbrev pub too_large_words : List ℕ
-too_large_words = codes "the form of the folder is longer than 16,777,216 bytes, the most that is written (SIZE)"
+too_large_words = codes "the form of the folder is longer than " ++ grouped max_form ++ codes " bytes, the most that is written (SIZE)"
 
 -- of a folder that was packed, in which no declaration of a bag is
 abbrev pub undeclared_words : List ℕ
@@ -153,7 +157,7 @@ policy_words policies.BadVersion = codes "the policy has no version, or one that
 policy_words policies.UnknownKey = codes "the policy has a key at the top other than version, callers and rule (Y3)"
 policy_words policies.BadCaller = codes "the callers of the policy are no table, or a caller or a role is no name (Y4)"
 policy_words (policies.BadRule number) = policy_rule_words number
-policy_words policies.TooMany = codes "the policy has more than 200 rules or more than 1,000 callers (Y6)"
+policy_words policies.TooMany = codes "the policy has more than " ++ grouped max_rules ++ codes " rules or more than " ++ grouped max_callers ++ codes " callers (Y6)"
 policy_words policies.Memory = codes "memory ran out (Y7)"
 
 -- ---- of a question that names no day

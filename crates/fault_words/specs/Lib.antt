@@ -1,8 +1,9 @@
+pub mod Numbers
 pub mod FaultWords
 pub mod ManifestLines
 pub mod PathNotes
 pub mod BagReasons
 pub mod Denials
 pub mod OtherFiles
-pub mod Places
+pub mod Locations
 pub mod PolicyReasons

@@ -1,8 +1,10 @@
 -- What is said of a line of a manifest by what it looks like, and by why its path isn't good.
 use Rattle.std.specs.Prelude.{ℕ, List, ◌++◌, Option, Some, None, codes, decimal, ◌||◌, if◌then◌else◌}
+use Rattle.bag_text.specs.Paths.{max_path}
 use Rattle.bag_text.specs.declared.causes.PathCause.{PathCause}
 use Rattle.bag_text.specs.declared.causes.PathCause.TheVariants as causes
 use Rattle.bag_check.specs.FaultTexts.{printed_text}
+use Rattle.fault_words.specs.Numbers.{grouped}
 use Rattle.fault_words.specs.OtherFiles.{begins}
 use Rattle.fault_words.specs.declared.manifest_line.OtherLine.{OtherLine}
 use Rattle.fault_words.specs.declared.manifest_line.OtherLine.TheVariants.{Escaped, Tagged}
@@ -29,7 +31,7 @@ likeness_words name line Tagged =
 abbrev pub cause_words : PathCause → List ℕ
 cause_words causes.Starred = codes "it begins with *, by which checksum tools mark a binary file"
 cause_words causes.NotUtf8 = codes "it is not UTF-8"
-cause_words causes.TooLong = codes "it has more than 1,024 bytes"
+cause_words causes.TooLong = codes "it has more than " ++ grouped max_path ++ codes " bytes"
 cause_words causes.EmptySegment = codes "it has an empty segment, as where / begins or ends it, or stands twice"
 cause_words causes.DotSegment = codes "it has the segment ., as in ./data"
 cause_words causes.DotDotSegment = codes "it has the segment .."

@@ -51,10 +51,10 @@ abbrev pub line_at : ℕ → List ℕ → ℕ
 line_at place bytes = suc (count_by (λ byte. byte == 10) (take place bytes))
 
 -- the line of the first byte that is no UTF-8, or a line that breaks the TOML; nothing of a file that is TOML
-pub data IsLinePlace (bytes place : List ℕ) : Type 0 where
-  no_text : is_utf8 bytes ≡ false → place ≡ line_words (line_at (utf8_valid_len bytes) bytes) → IsLinePlace bytes place
-  no_toml : (line : ℕ) → is_utf8 bytes ≡ true → is_toml bytes ≡ false → BreaksToml bytes line → place ≡ line_words line → IsLinePlace bytes place
-  toml : is_toml bytes ≡ true → place ≡ [] → IsLinePlace bytes place
+pub data IsLineLocation (bytes place : List ℕ) : Type 0 where
+  no_text : is_utf8 bytes ≡ false → place ≡ line_words (line_at (utf8_valid_len bytes) bytes) → IsLineLocation bytes place
+  no_toml : (line : ℕ) → is_utf8 bytes ≡ true → is_toml bytes ≡ false → BreaksToml bytes line → place ≡ line_words line → IsLineLocation bytes place
+  toml : is_toml bytes ≡ true → place ≡ [] → IsLineLocation bytes place
 
 -- ---- the key or the caller of a tree
 
@@ -67,9 +67,9 @@ abbrev pub bad_caller : List (List ℕ × Data) → Option (List ℕ)
 bad_caller found = option_map (λ entry. entry.0) (find (λ entry. is_none (caller_in entry)) found)
 
 -- that caller, or the key `callers` where it is no table
-abbrev pub caller_place : Option (List (List ℕ × Data)) → List ℕ
-caller_place None = key_words (codes "callers")
-caller_place (Some found) = option_map_or caller_words (bad_caller found) []
+abbrev pub caller_location : Option (List (List ℕ × Data)) → List ℕ
+caller_location None = key_words (codes "callers")
+caller_location (Some found) = option_map_or caller_words (bad_caller found) []
 
 -- the first key of a rule that a rule may not have, where rules have days or don't
 abbrev pub unknown_rule_key : Bool → Members → Option (List ℕ)
@@ -114,19 +114,19 @@ abbrev pub numbered_key : Bool → ℕ → Option (List Data) → Option (List �
 numbered_key with_days number None = None
 numbered_key with_days number (Some values) = option_and_then (value_key with_days) (value_at number values)
 
-abbrev pub place_in : PolicyFault → Members → List ℕ
-place_in UnknownKey tree = option_map_or key_words (unknown_key tree) []
-place_in BadCaller tree = caller_place (caller_entries tree)
-place_in (BadRule number) tree = option_map_or key_words (numbered_key (has_days tree) number (rule_values tree)) []
-place_in fault tree = []
+abbrev pub location_in : PolicyFault → Members → List ℕ
+location_in UnknownKey tree = option_map_or key_words (unknown_key tree) []
+location_in BadCaller tree = caller_location (caller_entries tree)
+location_in (BadRule number) tree = option_map_or key_words (numbered_key (has_days tree) number (rule_values tree)) []
+location_in fault tree = []
 
 -- ---- what is told
 
 -- where the fault is, as far as it is known
-abbrev pub IsFaultPlace : List ℕ → PolicyFault → List ℕ → Type 0
-IsFaultPlace bytes NotToml place = IsLinePlace bytes place
-IsFaultPlace bytes fault place = place ≡ option_map_or (place_in fault) (tree_in bytes) []
+abbrev pub IsFaultLocation : List ℕ → PolicyFault → List ℕ → Type 0
+IsFaultLocation bytes NotToml place = IsLineLocation bytes place
+IsFaultLocation bytes fault place = place ≡ option_map_or (location_in fault) (tree_in bytes) []
 
 -- the fault's sentence and the place, a line with its end
 abbrev pub IsPolicyReason : List ℕ → PolicyFault → List ℕ → Type 0
-IsPolicyReason bytes fault text = (place : List ℕ) × IsFaultPlace bytes fault place × (text ≡ policy_words fault ++ place ++ 10 ∷ [])
+IsPolicyReason bytes fault text = (place : List ℕ) × IsFaultLocation bytes fault place × (text ≡ policy_words fault ++ place ++ 10 ∷ [])

@@ -4,29 +4,46 @@ ghost use Rattle.std.specs.Prelude.{◌≡◌, Some};
 ghost use Rattle.fault_words.specs.FaultWords.{exists_words, folder_words, too_large_words, undeclared_words, words_of_odd_entry};
 
 use crate::escaped::Escaped;
-use bag_text::SetFault;
+use crate::number::{Grouped, write_limit};
+use bag_text::{MAX_CONTENT, MAX_FILES, MAX_FORM, MAX_PATH, SetFault};
 use std::fmt;
 
-/// What is said of the files of a folder, in the order of their paths. Where one file is at fault, its
-/// path comes in front.
-pub fn folder_words(fault: SetFault) -> &'static str
-    ensures { result.now ≡ folder_words fault }
-{
-    match fault {
-        SetFault::BadEntry(_) => {
-            "has more than 16,777,216 bytes, the most that a file of a bag may have (S2)"
+/// The fault of the files of a folder, in the order of their paths, to be printed as a sentence.
+/// Where one file is at fault, its path is printed in front.
+#[derive(Clone, Copy)]
+pub struct FolderWords(pub SetFault);
+
+impl fmt::Display for FolderWords {
+    ghost output = { λ words. Some (folder_words words.0) };
+
+    fn fmt<W: fmt::Write>(&self, f: &mut fmt::Formatter<W>) -> fmt::Result {
+        match self.0 {
+            SetFault::BadEntry(_) => write_limit(
+                f,
+                "has more than ",
+                MAX_CONTENT,
+                " bytes, the most that a file of a bag may have (S2)",
+            ),
+            SetFault::OutOfOrder(_) => {
+                f.write_str("does not come after the path before it, byte for byte (S4)")
+            }
+            SetFault::BadPath(_) => write_limit(
+                f,
+                "is no good path: it is not UTF-8, has more than ",
+                MAX_PATH,
+                " bytes or a NUL, or has a segment that is empty, . or .. (S5)",
+            ),
+            SetFault::TooManyFiles => write_limit(
+                f,
+                "the folder has more files than the ",
+                MAX_FILES,
+                " that a bag may have (S6)",
+            ),
+            SetFault::PathClash => {
+                f.write_str("a path of the folder is data, or names both a file and a folder (S8)")
+            }
+            _ => f.write_str("the files of the folder are no bag"),
         }
-        SetFault::OutOfOrder(_) => "does not come after the path before it, byte for byte (S4)",
-        SetFault::BadPath(_) => {
-            "is no good path: it is not UTF-8, has more than 1,024 bytes or a NUL, or has a segment that is empty, . or .. (S5)"
-        }
-        SetFault::TooManyFiles => {
-            "the folder has more files than the 2,000 that a bag may have (S6)"
-        }
-        SetFault::PathClash => {
-            "a path of the folder is data, or names both a file and a folder (S8)"
-        }
-        _ => "the files of the folder are no bag",
     }
 }
 
@@ -65,11 +82,20 @@ impl<'a> fmt::Display for OddEntry<'a> {
     }
 }
 
-/// What is said of files whose form is longer than any that is written.
-pub fn too_large_words() -> &'static str
-    ensures { result.now ≡ too_large_words }
-{
-    "the form of the folder is longer than 16,777,216 bytes, the most that is written (SIZE)"
+/// That the form of a folder is longer than any that is written, to be printed as a sentence.
+#[derive(Clone, Copy)]
+pub struct TooLarge;
+
+impl fmt::Display for TooLarge {
+    ghost output = { λ _words. Some too_large_words };
+
+    fn fmt<W: fmt::Write>(&self, f: &mut fmt::Formatter<W>) -> fmt::Result {
+        let bytes = Grouped(MAX_FORM as usize);
+        write!(
+            f,
+            "the form of the folder is longer than {bytes} bytes, the most that is written (SIZE)"
+        )
+    }
 }
 
 /// What is said of a folder that was packed without the declaration of a bag.

@@ -1,21 +1,40 @@
 //! Why a text is no transfer form, in words.
 
-ghost use Rattle.std.specs.Prelude.{◌≡◌, IfOk, Some, string_bytes};
+ghost use Rattle.std.specs.Prelude.{◌≡◌, ◌++◌, IfOk, Some, codes, decimal, string_bytes};
+ghost use Rattle.std.specs.Fmt.{DisplaysOnOk};
 ghost use Rattle.fault_words.specs.FaultWords.{form_words, too_long_words};
 ghost use Rattle.fault_words.specs.OtherFiles.{form_lines, hint_for};
 
 use crate::in_words::InWords;
+use crate::number::{Grouped, write_limit};
 use crate::other_file::OtherFile;
-use bag_text::SetFault;
+use bag_text::{MAX_FILES, MAX_FORM, SetFault};
 use std::alloc::{AllocError, Global};
 use std::fmt;
 use std::fmt::Write;
 
-/// What is said of an input that is longer than any that is judged.
-pub fn too_long_words() -> &'static str
-    ensures { result.now ≡ too_long_words }
+/// That an input is longer than any that is judged, to be printed as a sentence.
+#[derive(Clone, Copy)]
+pub struct TooLong;
+
+impl fmt::Display for TooLong {
+    ghost output = { λ _words. Some too_long_words };
+
+    fn fmt<W: fmt::Write>(&self, f: &mut fmt::Formatter<W>) -> fmt::Result {
+        let bytes = Grouped(MAX_FORM as usize);
+        write!(
+            f,
+            "the form is longer than {bytes} bytes, the most that is judged (SIZE)"
+        )
+    }
+}
+
+/// Says this of the entry at a byte.
+fn write_entry<W: fmt::Write>(f: &mut fmt::Formatter<W>, offset: usize, what: &str) -> fmt::Result
+    ensures { DisplaysOnOk W.write_str_gives f.old result
+        (Some (codes "the entry at byte " ++ decimal offset ++ what.now)) f.new }
 {
-    "the form is longer than 16,777,216 bytes, the most that is judged (SIZE)"
+    write!(f, "the entry at byte {offset}{what}")
 }
 
 impl<'a> fmt::Display for InWords<'a, SetFault> {
@@ -26,23 +45,29 @@ impl<'a> fmt::Display for InWords<'a, SetFault> {
             SetFault::BadOpening => f.write_str(
                 "this is no transfer form: it does not begin with the line BAGSET 1 (S1)",
             ),
-            SetFault::BadEntry(offset) => write!(
+            SetFault::BadEntry(offset) => write_entry(
                 f,
-                "the entry at byte {offset} is neither the line END nor a file with the lengths that its header gives (S2)"
+                *offset,
+                " is neither the line END nor a file with the lengths that its header gives (S2)",
             ),
             SetFault::Truncated => f.write_str(
                 "the form ends too early: it stops before the end of the line END (S3)",
             ),
-            SetFault::OutOfOrder(offset) => write!(
+            SetFault::OutOfOrder(offset) => write_entry(
                 f,
-                "the entry at byte {offset} is out of order: its path does not come after the one before it, byte for byte (S4)"
+                *offset,
+                " is out of order: its path does not come after the one before it, byte for byte (S4)",
             ),
-            SetFault::BadPath(offset) => write!(
+            SetFault::BadPath(offset) => write_entry(
                 f,
-                "the entry at byte {offset} has no good path: it is not UTF-8, has a NUL, or has a segment that is empty, . or .. (S5)"
+                *offset,
+                " has no good path: it is not UTF-8, has a NUL, or has a segment that is empty, . or .. (S5)",
             ),
-            SetFault::TooManyFiles => f.write_str(
-                "the form has more files than the 2,000 that a bag may have (S6)",
+            SetFault::TooManyFiles => write_limit(
+                f,
+                "the form has more files than the ",
+                MAX_FILES,
+                " that a bag may have (S6)",
             ),
             SetFault::TrailingBytes => f.write_str("the form goes on after its line END (S7)"),
             SetFault::PathClash => f.write_str(

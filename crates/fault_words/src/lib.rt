@@ -10,23 +10,22 @@ mod folder;
 mod form;
 mod in_words;
 pub mod laws;
+mod location;
 mod manifest_line;
+mod number;
 mod other_file;
 mod path_note;
-mod place;
 mod policy;
 mod reason;
-mod rule_place;
+mod rule_location;
 mod tag_files;
 mod toml_line;
 
 pub use bag_reason::bag_lines;
 pub use denial::{DenyingRule, undecided_words};
 pub use escaped::Escaped;
-pub use folder::{
-    OddCause, OddEntry, exists_words, folder_words, too_large_words, undeclared_words,
-};
-pub use form::{form_lines, hint_for, too_long_words};
+pub use folder::{FolderWords, OddCause, OddEntry, TooLarge, exists_words, undeclared_words};
+pub use form::{TooLong, form_lines, hint_for};
 pub use in_words::InWords;
 pub use other_file::OtherFile;
 pub use policy::{Unlisted, missing_day_words};

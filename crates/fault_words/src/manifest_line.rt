@@ -4,7 +4,9 @@ ghost use Rattle.std.specs.Prelude.{◌≡◌, Some};
 ghost use Rattle.fault_words.specs.ManifestLines.{cause_words, likeness, likeness_words, words_of_bad_path};
 
 use crate::escaped::Escaped;
-use bag_text::PathCause;
+use crate::number::write_limit;
+use crate::tag_files::write_line;
+use bag_text::{MAX_PATH, PathCause};
 use std::fmt;
 
 /// What another program writes for the line of a manifest.
@@ -47,31 +49,43 @@ impl<'a> fmt::Display for UnlikeLine<'a> {
         let line = self.line;
         let manifest = Escaped(self.manifest);
         match self.other {
-            OtherLine::Escaped => write!(
+            OtherLine::Escaped => write_line(
                 f,
-                "line {line} of {manifest} begins with a backslash, by which sha256sum marks an escaped name; a manifest has no such mark: it has a backslash once, LF as %0A, CR as %0D, and in version 1.0 % as %25 (B6 L3)"
+                manifest,
+                line,
+                " begins with a backslash, by which sha256sum marks an escaped name; a manifest has no such mark: it has a backslash once, LF as %0A, CR as %0D, and in version 1.0 % as %25 (B6 L3)",
             ),
-            OtherLine::Tagged => write!(
+            OtherLine::Tagged => write_line(
                 f,
-                "line {line} of {manifest} is as sha256sum or sha512sum writes it with --tag; a manifest has the checksum first, then blanks and the path (B6 L3)"
+                manifest,
+                line,
+                " is as sha256sum or sha512sum writes it with --tag; a manifest has the checksum first, then blanks and the path (B6 L3)",
             ),
         }
     }
 }
 
-/// What is said of a path that isn't good for this cause.
-pub fn cause_words(cause: PathCause) -> &'static str
-    ensures { result.now ≡ cause_words cause }
-{
-    match cause {
-        PathCause::Starred => "it begins with *, by which checksum tools mark a binary file",
-        PathCause::NotUtf8 => "it is not UTF-8",
-        PathCause::TooLong => "it has more than 1,024 bytes",
-        PathCause::EmptySegment =>
-            "it has an empty segment, as where / begins or ends it, or stands twice",
-        PathCause::DotSegment => "it has the segment ., as in ./data",
-        PathCause::DotDotSegment => "it has the segment ..",
-        PathCause::Nul => "it has a NUL",
+/// Why a path isn't good, to be printed in the sentence on its line.
+#[derive(Clone, Copy)]
+struct CauseWords(PathCause);
+
+impl fmt::Display for CauseWords {
+    ghost output = { λ words. Some (cause_words words.0) };
+
+    fn fmt<W: fmt::Write>(&self, f: &mut fmt::Formatter<W>) -> fmt::Result {
+        match self.0 {
+            PathCause::Starred => {
+                f.write_str("it begins with *, by which checksum tools mark a binary file")
+            }
+            PathCause::NotUtf8 => f.write_str("it is not UTF-8"),
+            PathCause::TooLong => write_limit(f, "it has more than ", MAX_PATH, " bytes"),
+            PathCause::EmptySegment => f.write_str(
+                "it has an empty segment, as where / begins or ends it, or stands twice",
+            ),
+            PathCause::DotSegment => f.write_str("it has the segment ., as in ./data"),
+            PathCause::DotDotSegment => f.write_str("it has the segment .."),
+            PathCause::Nul => f.write_str("it has a NUL"),
+        }
     }
 }
 
@@ -89,7 +103,7 @@ impl<'a> fmt::Display for BadPathLine<'a> {
     fn fmt<W: fmt::Write>(&self, f: &mut fmt::Formatter<W>) -> fmt::Result {
         let line = self.line;
         let manifest = Escaped(self.manifest);
-        let cause = cause_words(self.cause);
+        let cause = CauseWords(self.cause);
         write!(
             f,
             "line {line} of {manifest} has no good path: {cause} (B6 L5)"

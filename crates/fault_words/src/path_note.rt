@@ -89,7 +89,7 @@ fn has_line_end(path: &[u8]) -> bool
 fn has_percent(path: &[u8]) -> bool
     ensures { result ≡ has_percent path.now }
 {
-    path.iter().any(|b| *b == b'%')
+    path.contains(&b'%')
 }
 
 /// Which of these a path has.

@@ -1,12 +1,27 @@
 //! Why a file is no policy, and what a question leaves out or a policy says nothing of, in words.
 
 ghost use Rattle.std.specs.Prelude.{◌≡◌, Some};
+ghost use Rattle.std.specs.Fmt.{DisplaysOnOk};
+ghost use Rattle.office_core.specs.declared.policy_fault.PolicyFault.TheVariants.{TooMany};
 ghost use Rattle.fault_words.specs.FaultWords.{missing_day_words, policy_words, unlisted_words};
 
 use crate::escaped::Escaped;
 use crate::in_words::InWords;
-use office_core::PolicyFault;
+use crate::number::Grouped;
+use office_core::{MAX_CALLERS, MAX_RULES, PolicyFault};
 use std::fmt;
+
+/// Says that there are more rules or callers than a policy may have.
+fn write_too_many<W: fmt::Write>(f: &mut fmt::Formatter<W>) -> fmt::Result
+    ensures { DisplaysOnOk W.write_str_gives f.old result (Some (policy_words TooMany)) f.new }
+{
+    let rules = Grouped(MAX_RULES);
+    let callers = Grouped(MAX_CALLERS);
+    write!(
+        f,
+        "the policy has more than {rules} rules or more than {callers} callers (Y6)"
+    )
+}
 
 impl<'a> fmt::Display for InWords<'a, PolicyFault> {
     ghost output = { λ words. Some (policy_words words.0.now) };
@@ -30,9 +45,7 @@ impl<'a> fmt::Display for InWords<'a, PolicyFault> {
                 f,
                 "rule {number} of the policy is not well formed: it is effect, role, action, collection and class, each with a value that it may have, and under version 2 it may have first and last, days of which first is not after last (Y5)"
             ),
-            PolicyFault::TooMany => f.write_str(
-                "the policy has more than 200 rules or more than 1,000 callers (Y6)",
-            ),
+            PolicyFault::TooMany => write_too_many(f),
             PolicyFault::Memory => f.write_str("memory ran out (Y7)"),
         }
     }

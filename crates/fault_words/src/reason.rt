@@ -6,13 +6,13 @@ ghost use Rattle.toml.specs.View.{table_view, view};
 ghost use Rattle.office_core.specs.Policies.{caller_in, entries, is_one_of, top_keys};
 ghost use Rattle.office_core.specs.declared.policy_fault.PolicyFault.TheVariants.{UnknownKey, BadCaller};
 ghost use Rattle.fault_words.specs.FaultWords.{policy_words};
-ghost use Rattle.fault_words.specs.Places.{place_words};
-ghost use Rattle.fault_words.specs.PolicyReasons.{IsPolicyReason, bad_caller, caller_place, place_in, tree_in, unknown_key};
+ghost use Rattle.fault_words.specs.Locations.{location_words};
+ghost use Rattle.fault_words.specs.PolicyReasons.{IsPolicyReason, bad_caller, caller_location, location_in, tree_in, unknown_key};
 
 use crate::in_words::InWords;
-use crate::place::Place;
-use crate::rule_place::rule_place;
-use crate::toml_line::{line_place, tree_in};
+use crate::location::Location;
+use crate::rule_location::rule_location;
+use crate::toml_line::{line_location, tree_in};
 use office_core::tree::value_at;
 use office_core::{Name, PolicyFault};
 use std::alloc::{AllocError, Global};
@@ -57,52 +57,52 @@ fn bad_caller(callers: &Table) -> Option<&str>
     None
 }
 
-fn unknown_key_place(tree: &Table) -> Place<'_>
-    ensures { place_words result ≡ place_in UnknownKey (table_view tree.now) }
+fn unknown_key_location(tree: &Table) -> Location<'_>
+    ensures { location_words result ≡ location_in UnknownKey (table_view tree.now) }
 {
     match unknown_key(tree) {
-        Some(key) => Place::Key(key),
-        None => Place::Nowhere,
+        Some(key) => Location::Key(key),
+        None => Location::Nowhere,
     }
 }
 
-fn bad_caller_place(callers: &Table) -> Place<'_>
-    ensures { place_words result ≡ caller_place (Some (entries (table_view callers.now))) }
+fn bad_caller_location(callers: &Table) -> Location<'_>
+    ensures { location_words result ≡ caller_location (Some (entries (table_view callers.now))) }
 {
     match bad_caller(callers) {
-        Some(name) => Place::Caller(name),
-        None => Place::Nowhere,
+        Some(name) => Location::Caller(name),
+        None => Location::Nowhere,
     }
 }
 
-fn caller_place(tree: &Table) -> Place<'_>
-    ensures { place_words result ≡ place_in BadCaller (table_view tree.now) }
+fn caller_location(tree: &Table) -> Location<'_>
+    ensures { location_words result ≡ location_in BadCaller (table_view tree.now) }
 {
     match value_at(tree, "callers") {
         Some(value) => match value.as_table() {
-            Some(callers) => bad_caller_place(callers),
-            None => Place::Key("callers"),
+            Some(callers) => bad_caller_location(callers),
+            None => Location::Key("callers"),
         },
-        None => Place::Nowhere,
+        None => Location::Nowhere,
     }
 }
 
 /// Where in the tree the fault is.
-fn place_in(tree: &Table, fault: PolicyFault) -> Place<'_>
-    ensures { place_words result ≡ place_in fault (table_view tree.now) }
+fn location_in(tree: &Table, fault: PolicyFault) -> Location<'_>
+    ensures { location_words result ≡ location_in fault (table_view tree.now) }
 {
     match fault {
-        PolicyFault::UnknownKey => unknown_key_place(tree),
-        PolicyFault::BadCaller => caller_place(tree),
-        PolicyFault::BadRule(number) => rule_place(tree, number),
-        _ => Place::Nowhere,
+        PolicyFault::UnknownKey => unknown_key_location(tree),
+        PolicyFault::BadCaller => caller_location(tree),
+        PolicyFault::BadRule(number) => rule_location(tree, number),
+        _ => Location::Nowhere,
     }
 }
 
 /// The fault's sentence and the place.
-fn sentence_at(alloc: Global, fault: PolicyFault, place: Place<'_>) -> Result<String, AllocError>
+fn sentence_at(alloc: Global, fault: PolicyFault, place: Location<'_>) -> Result<String, AllocError>
     ensures { IfOk result (λ text.
-        string_bytes text ≡ policy_words fault ++ place_words place.entry ++ 10 ∷ []) }
+        string_bytes text ≡ policy_words fault ++ location_words place.entry ++ 10 ∷ []) }
 {
     let words = InWords(&fault);
     let mut text = format!(in alloc; "{words}")?;
@@ -113,11 +113,11 @@ fn sentence_at(alloc: Global, fault: PolicyFault, place: Place<'_>) -> Result<St
 /// What is told of a fault of the tree that the bytes spell.
 fn tree_reason(alloc: Global, bytes: &[u8], fault: PolicyFault) -> Result<String, AllocError>
     ensures { IfOk result (λ text. string_bytes text ≡
-        policy_words fault ++ option_map_or (place_in fault) (tree_in bytes.now) [] ++ 10 ∷ []) }
+        policy_words fault ++ option_map_or (location_in fault) (tree_in bytes.now) [] ++ 10 ∷ []) }
 {
     match tree_in(alloc, bytes)? {
-        Some(tree) => sentence_at(alloc, fault, place_in(&tree, fault)),
-        None => sentence_at(alloc, fault, Place::Nowhere),
+        Some(tree) => sentence_at(alloc, fault, location_in(&tree, fault)),
+        None => sentence_at(alloc, fault, Location::Nowhere),
     }
 }
 
@@ -127,7 +127,7 @@ pub fn policy_reason(alloc: Global, bytes: &[u8], fault: PolicyFault) -> Result<
     ensures { IfOk result (λ text. IsPolicyReason bytes.now fault (string_bytes text)) }
 {
     match fault {
-        PolicyFault::NotToml => sentence_at(alloc, fault, line_place(alloc, bytes)?),
+        PolicyFault::NotToml => sentence_at(alloc, fault, line_location(alloc, bytes)?),
         _ => tree_reason(alloc, bytes, fault),
     }
 }

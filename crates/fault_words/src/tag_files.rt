@@ -1,7 +1,8 @@
 //! Why a tag file is refused, in words.
 
-ghost use Rattle.std.specs.Prelude.{◌≡◌, Some};
+ghost use Rattle.std.specs.Prelude.{◌≡◌, ◌++◌, Some, codes, decimal};
 ghost use Rattle.std.specs.Fmt.{DisplaysOnOk};
+ghost use Rattle.bag_check.specs.FaultTexts.{printed_text};
 ghost use Rattle.fault_words.specs.FaultWords.{declaration_words, manifest_words, info_words};
 
 use crate::escaped::Escaped;
@@ -31,6 +32,32 @@ pub fn declaration_words(fault: &DeclFault) -> &'static str
     }
 }
 
+/// Says this of a manifest.
+fn write_text<W: fmt::Write>(
+    f: &mut fmt::Formatter<W>,
+    manifest: Escaped<'_>,
+    what: &str,
+) -> fmt::Result
+    ensures { DisplaysOnOk W.write_str_gives f.old result
+        (Some (printed_text manifest.entry.0.now ++ what.now)) f.new }
+{
+    write!(f, "{manifest}{what}")
+}
+
+/// Says this of a line of a manifest.
+pub fn write_line<W: fmt::Write>(
+    f: &mut fmt::Formatter<W>,
+    manifest: Escaped<'_>,
+    line: usize,
+    what: &str,
+) -> fmt::Result
+    ensures { DisplaysOnOk W.write_str_gives f.old result
+        (Some (codes "line " ++ decimal line ++ codes " of "
+        ++ printed_text manifest.entry.0.now ++ what.now)) f.new }
+{
+    write!(f, "line {line} of {manifest}{what}")
+}
+
 /// Says why this manifest is refused.
 pub fn write_manifest<W: fmt::Write>(
     f: &mut fmt::Formatter<W>,
@@ -41,23 +68,30 @@ pub fn write_manifest<W: fmt::Write>(
         (Some (manifest_words manifest.entry.0.now fault.now)) f.new }
 {
     match fault {
-        LineFault::NotUtf8 => write!(f, "{manifest} is not UTF-8 text (B6 L1)"),
-        LineFault::ByteOrderMark => write!(
+        LineFault::NotUtf8 => write_text(f, manifest, " is not UTF-8 text (B6 L1)"),
+        LineFault::ByteOrderMark => write_text(
             f,
-            "{manifest} begins with a byte order mark, and must not (B6 L2)"
+            manifest,
+            " begins with a byte order mark, and must not (B6 L2)",
         ),
-        LineFault::BadChecksum(line) => write!(
+        LineFault::BadChecksum(line) => write_line(
             f,
-            "line {line} of {manifest} does not begin with a checksum of the right number of hex digits (B6 L3)"
+            manifest,
+            *line,
+            " does not begin with a checksum of the right number of hex digits (B6 L3)",
         ),
-        LineFault::NoPath(line) => write!(
+        LineFault::NoPath(line) => write_line(
             f,
-            "line {line} of {manifest} has no path after its checksum (B6 L4)"
+            manifest,
+            *line,
+            " has no path after its checksum (B6 L4)",
         ),
-        LineFault::BadPath(line) => write!(f, "line {line} of {manifest} has no good path (B6 L5)"),
-        LineFault::ListedTwice(line) => write!(
+        LineFault::BadPath(line) => write_line(f, manifest, *line, " has no good path (B6 L5)"),
+        LineFault::ListedTwice(line) => write_line(
             f,
-            "line {line} of {manifest} lists a path that an earlier line lists (B6 L6)"
+            manifest,
+            *line,
+            " lists a path that an earlier line lists (B6 L6)",
         ),
         LineFault::Memory => f.write_str("memory ran out (B6 L7)"),
     }
@@ -78,6 +112,14 @@ impl<'a> fmt::Display for ManifestWords<'a> {
     }
 }
 
+/// Says this of the line with this number.
+fn write_numbered<W: fmt::Write>(f: &mut fmt::Formatter<W>, line: usize, what: &str) -> fmt::Result
+    ensures { DisplaysOnOk W.write_str_gives f.old result
+        (Some (codes "line " ++ decimal line ++ what.now)) f.new }
+{
+    write!(f, "line {line}{what}")
+}
+
 /// Says why `bag-info.txt` is refused.
 pub fn write_info<W: fmt::Write>(f: &mut fmt::Formatter<W>, fault: &InfoFault) -> fmt::Result
     ensures { DisplaysOnOk W.write_str_gives f.old result (Some (info_words fault.now)) f.new }
@@ -87,14 +129,18 @@ pub fn write_info<W: fmt::Write>(f: &mut fmt::Formatter<W>, fault: &InfoFault) -
         InfoFault::ByteOrderMark => f.write_str(
             "bag-info.txt begins with a byte order mark, and must not (B13 I2)",
         ),
-        InfoFault::NoColon(line) => write!(f, "line {line} of bag-info.txt has no colon (B13 I3)"),
-        InfoFault::EmptyLabel(line) => write!(
+        InfoFault::NoColon(line) => {
+            write_numbered(f, *line, " of bag-info.txt has no colon (B13 I3)")
+        }
+        InfoFault::EmptyLabel(line) => write_numbered(
             f,
-            "line {line} of bag-info.txt has no label before its colon (B13 I4)"
+            *line,
+            " of bag-info.txt has no label before its colon (B13 I4)",
         ),
-        InfoFault::StrayContinuation(line) => write!(
+        InfoFault::StrayContinuation(line) => write_numbered(
             f,
-            "line {line} of bag-info.txt continues a value, but no label stands before it (B13 I5)"
+            *line,
+            " of bag-info.txt continues a value, but no label stands before it (B13 I5)",
         ),
         InfoFault::Memory => f.write_str("memory ran out (B13 I6)"),
     }

@@ -2,10 +2,10 @@
 
 ghost use Rattle.std.specs.Prelude.{◌≡◌, ◌<◌, ◌≤◌, ◌+◌, IfOk, true, false, length, option_map};
 ghost use Rattle.toml.specs.View.{table_view};
-ghost use Rattle.fault_words.specs.Places.{place_words};
-ghost use Rattle.fault_words.specs.PolicyReasons.{BreaksToml, IsLinePlace, first_lines, is_toml, line_at, tree_in};
+ghost use Rattle.fault_words.specs.Locations.{location_words};
+ghost use Rattle.fault_words.specs.PolicyReasons.{BreaksToml, IsLineLocation, first_lines, is_toml, line_at, tree_in};
 
-use crate::place::Place;
+use crate::location::Location;
 use std::alloc::{AllocError, Global};
 use toml::Table;
 
@@ -92,20 +92,20 @@ fn breaking_line(alloc: Global, bytes: &[u8], named: usize) -> Result<usize, All
 
 /// The line of a file that is no TOML: that of the first byte that is no UTF-8, or one that breaks the
 /// TOML.
-pub fn line_place(alloc: Global, bytes: &[u8]) -> Result<Place<'static>, AllocError>
-    ensures { IfOk result (λ place. IsLinePlace bytes.now (place_words place)) }
+pub fn line_location(alloc: Global, bytes: &[u8]) -> Result<Location<'static>, AllocError>
+    ensures { IfOk result (λ place. IsLineLocation bytes.now (location_words place)) }
 {
     let text = match str::from_utf8(bytes) {
         Ok(text) => text,
-        Err(error) => return Ok(Place::Line(line_at(bytes, error.valid_up_to()))),
+        Err(error) => return Ok(Location::Line(line_at(bytes, error.valid_up_to()))),
     };
     let Err(error) = toml::table_from_str(alloc, text) else {
-        return Ok(Place::Nowhere);
+        return Ok(Location::Nowhere);
     };
     match error.span() {
         Some(span) => {
             let named = line_at(bytes, span.start);
-            Ok(Place::Line(breaking_line(alloc, bytes, named)?))
+            Ok(Location::Line(breaking_line(alloc, bytes, named)?))
         }
         None => Err(AllocError),
     }

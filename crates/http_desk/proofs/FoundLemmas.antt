@@ -1,20 +1,12 @@
 -- What a record's line and the bytes after it say of all the bytes.
-use Rattle.std.proofs.Common.{◌≡◌, ◌≢◌, ℕ, zero, suc, ◌+◌, ◌-◌, ◌<◌, ◌≤◌, ◌==◌, Bool, true, false, List, [], ◌∷◌, ◌++◌, length, take, drop, get_or, position, Option, Some, None, refl, sym, ap, ◌∙◌, subst, arith, min, add-one, drop-cons, length-append, length-drop, append_assoc, append-nil, inl, inr, not, cond, take_all, replicate}
-use Rattle.std.specs.Prelude.{nat_lt, slice_index}
-use Rattle.std.specs.List.{prefix_len}
-use Rattle.std.proofs.lemmas.Bool.Decides.{nat_tests}
-use Rattle.std.proofs.lemmas.Bool.{cases_lt}
-use Rattle.std.proofs.lemmas.List.{length-take, take-append-drop, get_or-take, length-replicate}
+use Rattle.http_desk.proofs.Common.{◌≡◌, ◌≢◌, ℕ, zero, suc, ◌+◌, ◌-◌, ◌<◌, ◌≤◌, ◌==◌, Bool, true, false, List, [], ◌∷◌, ◌++◌, length, take, drop, get_or, position, Option, Some, None, refl, sym, ap, ◌∙◌, subst, arith, min, add-one, drop-cons, length-append, length-drop, append_assoc, append-nil, inl, inr, not, cond, take_all, replicate, nat_lt, slice_index, prefix_len, nat_tests, cases_lt, length-take, take-append-drop, get_or-take, length-replicate, Date, line_text, record_text, IsLine, IsRecord, HasNoLineFeed, HasLine, WantsMore, BeginsWithNone, CanNotBegin, LineSays, Whole, More, Bad}
 use Rattle.std.proofs.lemmas.List.Quantifiers.{position-Some}
 use Rattle.std.proofs.Math.ListN.{get_or-append}
 use Rattle.std.proofs.Math.Seq.{take-append_seam, drop-append-add, get_or-append_seam}
-use Rattle.jiff.specs.Types.{Date}
-use Rattle.http_desk.specs.Records.{line_text, record_text, IsLine, IsRecord, HasNoLineFeed, HasLine, WantsMore, BeginsWithNone, CanNotBegin}
-use Rattle.http_desk.specs.RecordReading.{LineSays}
 use Rattle.http_desk.specs.Finds.{FoundIn, whole_of}
 use Rattle.http_desk.specs.declared.record.Found.{Found}
-use Rattle.http_desk.specs.declared.record.Found.TheVariants.{Whole, More, Bad}
 use Rattle.http_desk.proofs.LineLemmas.{line_text-free, line_text-injective, line_length, first_feed}
+use Rattle.office_core.proofs.OptionLemmas.{by_Bool}
 
 -- ---- the first line
 
@@ -31,11 +23,8 @@ past_free (x ∷ a) h k l = by (x == 10) refl h (past_free a) k l
     by false e h ih (suc k) l = ih (omega arith) k (omega arith)
 
 place_none : (a : List ℕ) → position (λ c. c == 10) a ≡ None → HasNoLineFeed a
-place_none a e = past_free a (by (nat_lt (prefix_len (λ c. not (c == 10)) a) (length a)) refl e)
-  where
-    by : (v : Bool) → nat_lt (prefix_len (λ c. not (c == 10)) a) (length a) ≡ v → cond v (Some (prefix_len (λ c. not (c == 10)) a)) None ≡ None → length a ≤ prefix_len (λ c. not (c == 10)) a
-    by true f e = absurd (let z = e in cc)
-    by false f e = grind (arith, nat_tests)
+place_none a e =
+    past_free a (by_Bool (nat_lt (prefix_len (λ c. not (c == 10)) a) (length a)) (λ within. absurd (let z = rw within at e in cc)) (λ past. grind (arith, nat_tests, past)))
 
 take_min : (b : List ℕ) (n m : ℕ) → m ≡ min (length b) n → take m b ≡ take n b
 take_min b n m e = elim (cases_lt (length b) n) [

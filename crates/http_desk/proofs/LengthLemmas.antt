@@ -1,14 +1,8 @@
 -- The text of a length is the number's, and each text of a number is read.
-use Rattle.std.proofs.Common.{◌≡◌, ℕ, zero, suc, ◌<◌, ◌≤◌, ◌^◌, ◌==◌, ◌&&◌, Bool, true, false, cond, List, [], ◌∷◌, length, get_or, decimal, Some, None, refl, sym, ap, ◌∙◌, arith, rules}
-use Rattle.std.specs.Prelude.{nat_le}
-use Rattle.std.specs.List.{list_all}
-use Rattle.std.specs.Char.{is_ascii_digit}
-use Rattle.std.specs.Str.Parse.{digits_value}
-use Rattle.std.proofs.lemmas.Bool.{and_parts}
-use Rattle.std.proofs.lemmas.Bool.Decides.{nat_tests}
+use Rattle.http_desk.proofs.Common.{◌≡◌, ℕ, zero, suc, ◌<◌, ◌≤◌, ◌^◌, ◌==◌, ◌&&◌, Bool, true, false, cond, List, [], ◌∷◌, length, get_or, decimal, Some, None, refl, sym, ap, ◌∙◌, arith, rules, nat_le, list_all, is_ascii_digit, digits_value, and_parts, nat_tests, decimal-digits_value, digits_decimal, digits_value-decimal, length-decimal-le, first_decimal, decimal_digit, decimal_nonempty, has_length_form, length_of}
 use Rattle.std.proofs.lemmas.Str.Parse.{IsNumeralModel, IsDigitsTest, numerals_by_value}
-use Rattle.std.proofs.lemmas.Fmt.{decimal-digits_value, digits_decimal, digits_value-decimal, length-decimal-le, first_decimal, decimal_digit, decimal_nonempty}
-use Rattle.http_desk.specs.RecordReading.{has_length_form, length_of}
+use Rattle.office_core.proofs.OptionLemmas.{by_Bool, some_if}
+use Rattle.std.proofs.lemmas.Option.{cond_some}
 
 tells : IsDigitsTest (λ ds. list_all is_ascii_digit ds ≡ true)
 tells = search rules
@@ -20,29 +14,20 @@ own = numerals_by_value (λ ds. list_all is_ascii_digit ds ≡ true) tells
 
 form_of : (ds : List ℕ) → list_all is_ascii_digit ds ≡ true → 0 < length ds → length ds ≤ 8 → (get_or ds 0 0 ≡ 48 → length ds ≡ 1) → has_length_form ds ≡ true
 form_of [] all some few alone = absurd (omega arith)
-form_of (b ∷ []) all some few alone = by (is_ascii_digit b) all
-  where
-    by : (v : Bool) → (v && true) ≡ true → v ≡ true
-    by true e = refl
-    by false e = cc
-form_of (b ∷ c ∷ rest) all some few alone = by (b == 48) refl
-  where
-    by : (v : Bool) → (b == 48) ≡ v → cond v false (nat_le (length (b ∷ c ∷ rest)) 8 && list_all is_ascii_digit (b ∷ c ∷ rest)) ≡ true
-    by true e = absurd (let z : b ≡ 48 = grind (arith, nat_tests) in let o = alone z in omega arith)
-    by false e = let k : nat_le (length (b ∷ c ∷ rest)) 8 ≡ true = grind (arith, nat_tests) in rw (k, all) refl
+form_of (b ∷ []) all some few alone = (and_parts (is_ascii_digit b) true all).0
+form_of (b ∷ c ∷ rest) all some few alone =
+    by_Bool (b == 48) (λ e. absurd (let z : b ≡ 48 = grind (arith, nat_tests) in let o = alone z in omega arith))
+    (λ e. let k : nat_le (length (b ∷ c ∷ rest)) 8 ≡ true = grind (arith, nat_tests) in rw (e, k, all) refl)
 
 form_says : (ds : List ℕ) → has_length_form ds ≡ true → (list_all is_ascii_digit ds ≡ true) × (0 < length ds) × (length ds ≤ 8) × (get_or ds 0 0 ≡ 48 → length ds ≡ 1)
 form_says [] e = cc
 form_says (b ∷ []) e = (rw e refl, omega arith, omega arith, λ z. refl)
-form_says (b ∷ c ∷ rest) e = by (b == 48) refl e
-  where
-    by : (v : Bool) → (b == 48) ≡ v → cond v false (nat_le (length (b ∷ c ∷ rest)) 8 && list_all is_ascii_digit (b ∷ c ∷ rest)) ≡ true
-        → (list_all is_ascii_digit (b ∷ c ∷ rest) ≡ true) × (0 < length (b ∷ c ∷ rest)) × (length (b ∷ c ∷ rest) ≤ 8) × (get_or (b ∷ c ∷ rest) 0 0 ≡ 48 → length (b ∷ c ∷ rest) ≡ 1)
-    by true f e = cc
-    by false f e =
-        let g = and_parts (nat_le (length (b ∷ c ∷ rest)) 8) (list_all is_ascii_digit (b ∷ c ∷ rest)) e in
-        let k : nat_le (length (b ∷ c ∷ rest)) 8 ≡ true = g.0 in
-        (g.1, omega arith, grind (arith, nat_tests), λ (z : b ≡ 48). absurd (let o : (b == 48) ≡ true = grind (arith, nat_tests) in let p : true ≡ false = sym o ∙ f in cc))
+form_says (b ∷ c ∷ rest) e =
+    by_Bool (b == 48) (λ f. absurd (let z = rw f at e in cc))
+    (λ f.
+    let g = and_parts (nat_le (length (b ∷ c ∷ rest)) 8) (list_all is_ascii_digit (b ∷ c ∷ rest)) (rw f at e) in
+    let k : nat_le (length (b ∷ c ∷ rest)) 8 ≡ true = g.0 in
+    (g.1, omega arith, grind (arith, nat_tests), λ (z : b ≡ 48). absurd (let o : (b == 48) ≡ true = grind (arith, nat_tests) in let p : true ≡ false = sym o ∙ f in cc)))
 
 lone_zero : (n : ℕ) → n < 2 ^ 64 → get_or (decimal n) 0 0 ≡ 48 → length (decimal n) ≡ 1
 lone_zero zero h e = ap length (decimal_digit 0 (omega arith))
@@ -57,16 +42,10 @@ length_of-decimal n few =
     rw (form, v, k) refl
 
 pub length_of-says : (ds : List ℕ) (n : ℕ) → length_of ds ≡ Some n → (ds ≡ decimal n) × (n ≤ 16800000)
-length_of-says ds n e = by (has_length_form ds) refl e
-  where
-    in_range : (v : Bool) → nat_le (digits_value 10 ds) 16800000 ≡ v → cond v (Some (digits_value 10 ds)) None ≡ Some n → (digits_value 10 ds ≡ n) × (digits_value 10 ds ≤ 16800000)
-    in_range true f e = (cc, grind (arith, nat_tests))
-    in_range false f e = absurd (let z = e in cc)
-
-    by : (v : Bool) → has_length_form ds ≡ v → cond v (cond (nat_le (digits_value 10 ds) 16800000) (Some (digits_value 10 ds)) None) None ≡ Some n → (ds ≡ decimal n) × (n ≤ 16800000)
-    by false f e = absurd (let z = e in cc)
-    by true f e =
-        let s = form_says ds f in
-        let r = in_range (nat_le (digits_value 10 ds) 16800000) refl e in
-        let low : digits_value 10 ds < 2 ^ 64 = let h = r.1 in omega arith in
-        (sym (decimal-digits_value own ds s.0 s.1 s.3 low) ∙ ap decimal r.0, let h = r.1 in let g = r.0 in omega arith)
+length_of-says ds n e =
+    let (form, in_form) = some_if (has_length_form ds) _ n e in
+    let (fits, same) = cond_some (nat_le (digits_value 10 ds) 16800000) (digits_value 10 ds) n in_form in
+    let s = form_says ds form in
+    let few : digits_value 10 ds ≤ 16800000 = grind (arith, nat_tests, fits) in
+    let low : digits_value 10 ds < 2 ^ 64 = omega arith in
+    (sym (decimal-digits_value own ds s.0 s.1 s.3 low) ∙ ap decimal same, omega arith)

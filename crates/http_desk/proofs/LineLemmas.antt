@@ -1,23 +1,13 @@
 -- The lines of records.
-use Rattle.std.proofs.Common.{◌≡◌, ◌≢◌, ℕ, zero, suc, ◌+◌, ◌/◌, ◌%◌, ◌<◌, ◌≤◌, ◌^◌, ◌==◌, ◌&&◌, Bool, true, false, List, [], ◌∷◌, ◌++◌, length, take, drop, get_or, codes, decimal, Some, refl, sym, ap, ◌∙◌, arith, not, drop-cons, unsigned_abs}
-use Rattle.std.specs.Prelude.{nat_lt, bytes_eq, slice_index}
-use Rattle.std.specs.List.{list_all}
-use Rattle.std.specs.Char.{is_ascii_digit}
-use Rattle.std.specs.Str.{IsAscii, IsUtf8}
+use Rattle.http_desk.proofs.Common.{◌≡◌, ◌≢◌, ℕ, zero, suc, ◌+◌, ◌/◌, ◌%◌, ◌<◌, ◌≤◌, ◌^◌, ◌==◌, ◌&&◌, Bool, true, false, List, [], ◌∷◌, ◌++◌, length, take, drop, get_or, codes, decimal, Some, refl, sym, ap, ◌∙◌, arith, not, drop-cons, unsigned_abs, nat_lt, bytes_eq, slice_index, list_all, is_ascii_digit, IsAscii, IsUtf8, and_parts, nat_tests, take-append-drop, digits_decimal, length-decimal-le, decimal_injective, decimal_nonempty, Date, line_text, IsLine, HasNoLineFeed, has_marks, length_of}
 use Rattle.std.specs.Cmp.Lexicographic.{bytes_decides}
 use Rattle.std.proofs.lemmas.Str.{IsUtf8-from_ascii}
-use Rattle.std.proofs.lemmas.Bool.{and_parts}
-use Rattle.std.proofs.lemmas.Bool.Decides.{nat_tests}
-use Rattle.std.proofs.lemmas.List.{take-append-drop}
 use Rattle.std.proofs.lemmas.List.Folds.{list_all-append, list_all_at}
-use Rattle.std.proofs.lemmas.Fmt.{digits_decimal, length-decimal-le, decimal_injective, decimal_nonempty}
 use Rattle.jiff_core.proofs.CalendarLemmas.{days_in_month_bounds}
-use Rattle.jiff.specs.Types.{Date}
 use Rattle.office_core.specs.Days.{IsDay, day_text}
 use Rattle.office_core.proofs.DayLemmas.{day_text-injective, four_digits}
-use Rattle.http_desk.specs.Records.{line_text, IsLine, HasNoLineFeed}
-use Rattle.http_desk.specs.RecordReading.{has_marks, length_of}
 use Rattle.http_desk.proofs.LengthLemmas.{own, length_of-decimal, length_of-says}
+use Rattle.office_core.proofs.OptionLemmas.{by_Bool}
 
 -- ---- days
 
@@ -74,11 +64,9 @@ line_free day n few =
     list_all-append not_feed (day_text day) (32 ∷ decimal n) ∙ ap (λ v. v && list_all not_feed (32 ∷ decimal n)) (day_free day) ∙ b
 
 no_feed_at : (w : List ℕ) (k : ℕ) → k < length w → list_all not_feed w ≡ true → slice_index w k ≢ 10
-no_feed_at w k h all ten = by (not_feed (get_or w k 0)) refl
-  where
-    by : (v : Bool) → not_feed (get_or w k 0) ≡ v → ⊥
-    by true e = let f : not (get_or w k 0 == 10) ≡ true = e in let t : get_or w k 0 ≡ 10 = ten in grind (arith, nat_tests)
-    by false e = let no = list_all_at not_feed w k 0 h e in let f : true ≡ false = sym all ∙ no in cc
+no_feed_at w k h all ten =
+    by_Bool (not_feed (get_or w k 0)) (λ e. let f : not (get_or w k 0 == 10) ≡ true = e in let t : get_or w k 0 ≡ 10 = ten in grind (arith, nat_tests))
+    (λ e. let no = list_all_at not_feed w k 0 h e in let f : true ≡ false = sym all ∙ no in cc)
 
 pub line_text-free : (day : Date) (n : ℕ) → n ≤ 16800000 → HasNoLineFeed (line_text day n)
 line_text-free day n few k h = no_feed_at (line_text day n) k h (line_free day n few)
@@ -112,17 +100,12 @@ line_text-injective a b m n la lb e = (
 )
 
 cut_line : (line : List ℕ) → 15 < length line → line ≡ take 4 line ++ (take 10 (drop 4 line) ++ (get_or line 14 0 ∷ drop 15 line))
-cut_line [] h = absurd (omega arith)
-cut_line (a ∷ []) h = absurd (omega arith)
-cut_line (a ∷ b ∷ []) h = absurd (omega arith)
-cut_line (a ∷ b ∷ c ∷ []) h = absurd (omega arith)
 cut_line (a ∷ b ∷ c ∷ d ∷ rest) h = ap (λ l. a ∷ b ∷ c ∷ d ∷ l) (sym (take-append-drop 10 rest) ∙ ap (λ l. take 10 rest ++ l) (drop-cons rest 10 0 (omega arith)))
+cut_line _ h = absurd (omega arith)
 
 three : (a b c : Bool) → (a && b && c) ≡ true → (a ≡ true) × (b ≡ true) × (c ≡ true)
 three true true true e = (refl, refl, refl)
-three true true false e = cc
-three true false c e = cc
-three false b c e = cc
+three _ _ _ e = cc
 
 -- what is read of a line is what it says
 pub marked_line : (line : List ℕ) (day : Date) (n : ℕ) → has_marks line ≡ true → take 10 (drop 4 line) ≡ day_text day → length_of (drop 15 line) ≡ Some n → (line ≡ line_text day n) × (n ≤ 16800000)

@@ -1,9 +1,5 @@
 -- Lists of records.
-use Rattle.std.proofs.Common.{◌≡◌, ℕ, zero, suc, ◌+◌, ◌<◌, ◌≤◌, List, [], ◌∷◌, ◌++◌, length, refl, sym, ap, ◌∙◌, arith, append_assoc, length-append}
-use Rattle.jiff.specs.Types.{Date}
-use Rattle.http_desk.specs.Records.{line_text, record_text}
-use Rattle.http_desk.specs.RecordLists.{IsSplit, AreRecords, request_texts}
-use Rattle.desk_serving.specs.Serving.{DeskRequest}
+use Rattle.http_desk.proofs.Common.{◌≡◌, ℕ, zero, suc, ◌+◌, ◌<◌, ◌≤◌, List, [], ◌∷◌, ◌++◌, length, refl, sym, ap, ◌∙◌, arith, append_assoc, length-append, Date, line_text, record_text, IsSplit, AreRecords, request_texts, DeskRequest}
 use Rattle.http_desk.proofs.FoundLemmas.{one_record, spelled_out}
 
 same_item : (x y : DeskRequest) → x.day ≡ y.day → x.bytes ≡ y.bytes → x ≡ y
@@ -39,11 +35,6 @@ one_split (suc most) input rest rest' (x ∷ xs) (y ∷ ys) s t =
 pub texts_more : (items : List DeskRequest) (item : DeskRequest) (rest : List ℕ) → request_texts (items ++ item ∷ []) ++ rest ≡ request_texts items ++ (record_text item.day item.bytes ++ rest)
 texts_more [] item rest = append_assoc (record_text item.day item.bytes) [] rest
 texts_more (first ∷ items) item rest = append_assoc (record_text first.day first.bytes) (request_texts (items ++ item ∷ [])) rest ∙ ap (λ l. record_text first.day first.bytes ++ l) (texts_more items item rest) ∙ sym (append_assoc (record_text first.day first.bytes) (request_texts items) (record_text item.day item.bytes ++ rest))
-
--- records and more records
-pub texts_all : (a b : List DeskRequest) (rest : List ℕ) → request_texts (a ++ b) ++ rest ≡ request_texts a ++ (request_texts b ++ rest)
-texts_all [] b rest = refl
-texts_all (first ∷ a) b rest = append_assoc (record_text first.day first.bytes) (request_texts (a ++ b)) rest ∙ ap (λ l. record_text first.day first.bytes ++ l) (texts_all a b rest) ∙ sym (append_assoc (record_text first.day first.bytes) (request_texts a) (request_texts b ++ rest))
 
 pub are_all : (a b : List DeskRequest) → AreRecords a → AreRecords b → AreRecords (a ++ b)
 are_all [] b x y = y

@@ -1,17 +1,7 @@
 -- One record more, and what a replay comes to.
-use Rattle.std.proofs.Common.{◌≡◌, ◌≢◌, Bool, ℕ, ◌+◌, ◌<◌, ◌≤◌, ◌⊎◌, List, [], ◌∷◌, ◌++◌, true, false, Option, inl, inr, length, take, refl, sym, ap, ◌∙◌, subst, arith, length-append, append_assoc, append-nil, take_all}
-use Rattle.std.specs.Prelude.{Ok, Err}
-use Rattle.std.specs.Io.KnownBytes.{Appends, Consumes, IsAtEnd}
-use Rattle.std.proofs.KnownBytes.{Appends-nil, Appends-trans, Consumes-nil, Consumes-trans}
-use Rattle.sqlite.specs.Held.{Held, state}
-use Rattle.sqlite.specs.Store.{Ghosts}
-use Rattle.jiff.specs.Types.{Date}
-use Rattle.http_desk.specs.Records.{IsRecord, record_text, answer_record, BeginsWithNone, CanNotBegin, WantsMore}
-use Rattle.http_desk.specs.RecordLists.{AreRecords, request_texts, answer_texts, max_records}
+use Rattle.http_desk.proofs.Common.{◌≡◌, ◌≢◌, Bool, ℕ, ◌+◌, ◌<◌, ◌≤◌, ◌⊎◌, List, [], ◌∷◌, ◌++◌, true, false, Option, inl, inr, length, take, refl, sym, ap, ◌∙◌, subst, arith, length-append, append_assoc, append-nil, take_all, Ok, Err, Appends, Consumes, IsAtEnd, Appends-nil, Appends-trans, Consumes-nil, Consumes-trans, Held, state, Ghosts, Date, IsRecord, record_text, answer_record, BeginsWithNone, CanNotBegin, WantsMore, AreRecords, request_texts, answer_texts, max_records, AnswersRecord, AnswersEach, HasAnswered, HasDone, HasWritten, Moment, Replayed, AnswersNext, ReadsMore, fault_behind, DeskRequest, IsAnswered, ServesBytes}
 use Rattle.http_desk.proofs.FoundLemmas.{wanted_none}
 use Rattle.http_desk.proofs.ListLemmas.{texts_more, are_all, rest_shorter}
-use Rattle.http_desk.specs.Replaying.{AnswersRecord, AnswersEach, HasAnswered, HasDone, HasWritten, Moment, Replayed}
-use Rattle.http_desk.specs.ReplaySteps.{AnswersNext, ReadsMore, fault_behind}
 use Rattle.http_desk.specs.declared.answering.Unwritten.{Unwritten}
 use Rattle.http_desk.specs.declared.answering.Unwritten.TheVariants as unwritten
 use Rattle.http_desk.specs.declared.replaying.ReplayStop.{ReplayStop}
@@ -19,22 +9,19 @@ use Rattle.http_desk.specs.declared.replaying.ReplayStop.TheVariants as stops
 use Rattle.http_desk.specs.declared.replaying.ReplayFault.{ReplayFault}
 use Rattle.office_core.specs.declared.answer.Answer.{Answer}
 use Rattle.desk_answers.specs.Answers.{answer_text}
-use Rattle.desk_serving.specs.Serving.{DeskRequest, IsAnswered, ServesBytes}
 
 -- ---- lists
 
 answers_more : {S : Type 0} (g : Ghosts S) (old now new : Held S) (items : List DeskRequest) (item : DeskRequest) (texts : List (List ℕ)) (text : List ℕ)
     → AnswersEach g old items texts now → AnswersRecord g item now new text → AnswersEach g old (items ++ item ∷ []) (texts ++ text ∷ []) new
 answers_more g old now new [] item [] text each a = (new, subst (λ o. AnswersRecord g item o new text) each a, refl)
-answers_more g old now new [] item (first ∷ texts) text each a = absurd each
-answers_more g old now new (i ∷ items) item [] text each a = absurd each
 answers_more g old now new (i ∷ items) item (first ∷ texts) text each a = (each.0, each.1, answers_more g each.0 now new items item texts text each.2 a)
+answers_more g old now new _ item _ text each a = absurd each
 
 same_count : {S : Type 0} (g : Ghosts S) (old new : Held S) (items : List DeskRequest) (texts : List (List ℕ)) → AnswersEach g old items texts new → length texts ≡ length items
 same_count g old new [] [] each = refl
-same_count g old new [] (first ∷ texts) each = absurd each
-same_count g old new (i ∷ items) [] each = absurd each
 same_count g old new (i ∷ items) (first ∷ texts) each = let h = same_count g each.0 new items texts each.2 in omega arith
+same_count g old new _ _ each = absurd each
 
 -- one answer more
 texts_one : (texts : List (List ℕ)) (text : List ℕ) → answer_texts (texts ++ text ∷ []) ≡ answer_texts texts ++ answer_record text

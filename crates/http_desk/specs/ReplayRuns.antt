@@ -6,7 +6,7 @@ use Rattle.sqlite.specs.Store.{Ghosts}
 use Rattle.office_core.specs.declared.answer.Answer.{Answer}
 use Rattle.office_history.specs.Histories.{History}
 use Rattle.office_history.specs.Runs.{IsLegal, Item, Run}
-use Rattle.office_engine.specs.Keeping.{IsKeptBy, IsLegalAndKept}
+use Rattle.office_engine.specs.Storing.{IsStoredBy, IsLegalAndStored}
 use Rattle.desk_routes.specs.declared.refusal.DeskRefusal.{DeskRefusal}
 use Rattle.desk_hearing.specs.Asking.{HeardValue}
 use Rattle.desk_hearing.specs.Hearing.{Hears}
@@ -26,5 +26,5 @@ pub data IsRunOf : List DeskRequest → List (List ℕ) → List Item → List A
 -- leads to is kept
 abbrev pub RunsEach : {S : Type 0} → Ghosts S → Held S → Held S → List DeskRequest → List (List ℕ) → Type 0
 RunsEach g old new items texts =
-    HasCleanDisk (state g new) → (h : History) → IsLegal h → IsKeptBy h (state g old)
-    → (run : List Item) × (answers : List Answer) × (next : History) × IsRunOf items texts run answers × Run h run answers next × IsLegalAndKept next (state g new)
+    HasCleanDisk (state g new) → (h : History) → IsLegal h → IsStoredBy h (state g old)
+    → (run : List Item) × (answers : List Answer) × (next : History) × IsRunOf items texts run answers × Run h run answers next × IsLegalAndStored next (state g new)

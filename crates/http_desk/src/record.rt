@@ -67,9 +67,9 @@ fn read_line(line: &[u8]) -> Option<(Day, usize)>
     Some((day, count))
 }
 
-/// The place of the first line feed.
+/// The offset of the first line feed.
 fn line_feed_in(text: &[u8]) -> Option<usize>
-    ensures place { result ≡ position (λ b. b == 10) text.now }
+    ensures offset { result ≡ position (λ b. b == 10) text.now }
     ensures within { IfSome result (λ at. at < length text.now) }
 {
     text.iter().position(|b| *b == b'\n')

@@ -1,20 +1,13 @@
 -- What rows are found to say is what they come to.
-use Rattle.std.proofs.Common.{◌≡◌, ℕ, ℤ, pos, int_le, ◌≤◌, ◌≤ℤ◌, Bool, true, false, List, ◌∷◌, Option, Some, None, option_map, refl, sym, ap, ◌∙◌, rules, if◌then◌else◌}
-use Rattle.std.specs.Ordering.{int_eq}
-use Rattle.std.proofs.lemmas.Bool.Decides.{Decides-int_eq}
-use Rattle.std.proofs.lemmas.Option.{same_Some}
-use Rattle.jiff.specs.Types.{Date}
+use Rattle.office_by_rows.proofs.Common.{◌≡◌, ℕ, ℤ, pos, int_le, ◌≤◌, ◌≤ℤ◌, Bool, true, false, List, ◌∷◌, Option, Some, None, option_map, refl, sym, ap, ◌∙◌, rules, if◌then◌else◌, int_eq, Decides-int_eq, Date, ◌>>=◌, answer_if, Due, DepositRow, DueRow, HoldRow, Limits, RuleRow, Tables, due_numbered, hold_numbered, limits_of, live_holds, count_of, day_numbered, due_of_number, effect_of, if_any, is_between, Days, are_released_on_days, counted_hold_in, days_of, decision_by, decision_for, first_hold, hold_by, is_rule, least_hold_in, scope_of, told_hold}
 use Rattle.office_core.specs.Bounds.{max_rules}
-use Rattle.office_core.specs.FirstOf.{◌>>=◌, answer_if}
 use Rattle.office_core.specs.Names.{is_matter}
 use Rattle.office_core.specs.declared.action.Action.TheVariants as acts
 use Rattle.office_core.specs.declared.answer.LiveHold.{LiveHold}
 use Rattle.office_core.specs.declared.rule.Decision.{Decision}
-use Rattle.office_core.specs.declared.retention.Due.{Due}
-use Rattle.office_rows.specs.Rows.{DepositRow, DueRow, HoldRow, Limits, RuleRow, Tables, due_numbered, hold_numbered, limits_of, live_holds}
-use Rattle.office_by_rows.specs.Values.{count_of, day_numbered, due_of_number, effect_of, if_any, is_between}
 use Rattle.office_by_rows.specs.Refusals.{disposal_facts}
-use Rattle.office_by_rows.specs.Asking.{Days, are_released_on_days, counted_hold_in, days_of, decision_by, decision_for, first_hold, hold_by, is_rule, least_hold_in, scope_of, told_hold}
+use Rattle.office_core.proofs.OptionLemmas.{some_and_then, option_map_some}
+use Rattle.std.proofs.lemmas.Bool.{false_from_ne_true}
 
 -- ---- the rules
 
@@ -59,33 +52,19 @@ hold_told row told number on placed matter kind =
 module _ (n : ℕ) (collection class : List ℕ) where
   -- the first, where its row tells of a hold
   first_read : (t : Tables) (k : ℕ) (others : List ℤ) (told : LiveHold) → told_hold t (pos k) ≡ Some told → first_hold t (pos k ∷ others) ≡ Some k
-  first_read t k others told is = by (hold_numbered (pos k) t.holds) is
-    where
-      by : (o : Option HoldRow) → (o >>= λ row. hold_by row) ≡ Some told → (o >>= λ row. hold_by row >>= λ told. Some k) ≡ Some k
-      by None e = absurd cc
-      by (Some row) e = ap (λ o. o >>= λ told. Some k) e
+  first_read t k others told is = let (row, there, read) = some_and_then (hold_numbered (pos k) t.holds) hold_by told is in rw (there, read) refl
 
   pub least_read : (t : Tables) (k : ℕ) (others : List ℤ) (told : LiveHold) → are_released_on_days n collection class t ≡ true → live_holds (pos n) collection class t ≡ pos k ∷ others → told_hold t (pos k) ≡ Some told → least_hold_in t n collection class ≡ Some k
   least_read t k others told released live is = ap (λ b. if b then first_hold t (live_holds (pos n) collection class t) else None) released ∙ ap (first_hold t) live ∙ first_read t k others told is
 
   not_0 : (count : ℤ) → (count ≡ pos 0 → ⊥) → int_eq count (pos 0) ≡ false
-  not_0 count some = by (int_eq count (pos 0)) refl
-    where
-      by : (b : Bool) → int_eq count (pos 0) ≡ b → int_eq count (pos 0) ≡ false
-      by true e = absurd (some ((Decides-int_eq count (pos 0)).0 e))
-      by false e = e
+  not_0 count some = false_from_ne_true (int_eq count (pos 0)) (λ e. some ((Decides-int_eq count (pos 0)).0 e))
 
   -- the least, where the count is one that an office keeps
   pub counted_read : (t : Tables) (count : ℤ) (k : ℕ) → (count ≡ pos 0 → ⊥) → option_map (λ (limits : Limits). is_between (pos 1) limits.max_holds count) (limits_of t) ≡ Some true → least_hold_in t n collection class ≡ Some k
       → counted_hold_in t count n collection class ≡ Some (Some k)
   counted_read t count k some kept least =
-      ap (λ b. if b then Some None else (limits_of t >>= λ limits. (if is_between (pos 1) limits.max_holds count then least_hold_in t n collection class else None) >>= λ hold. Some (Some hold))) (not_0 count some)
-      ∙ by (limits_of t) kept
-    where
-      by : (o : Option Limits) → option_map (λ (limits : Limits). is_between (pos 1) limits.max_holds count) o ≡ Some true
-          → (o >>= λ (limits : Limits). (if is_between (pos 1) limits.max_holds count then least_hold_in t n collection class else None) >>= λ hold. Some (Some hold)) ≡ Some (Some k)
-      by None e = absurd cc
-      by (Some limits) e = λ i. (if same_Some _ _ e i then least i else None) >>= λ hold. Some (Some hold)
+      rw (not_0 count some) (option_map_some (λ (limits : Limits). is_between (pos 1) limits.max_holds count) (limits_of t) true kept (λ limits there same. rw (there, same, least) refl))
 
 -- ---- a disposal
 

@@ -1,47 +1,26 @@
 -- The date of a number is the one that has it.
-use Rattle.std.proofs.Common.{◌≡◌, ℕ, zero, suc, ◌+◌, ◌<◌, ◌≤◌, ℤ, pos, negsuc, ◌≤ℤ◌, Bool, true, false, List, [], ◌∷◌, Option, Some, None, find, refl, sym, ap, subst, ◌∙◌, inl, inr, ◌⊎◌, arith, rules, if◌then◌else◌, option_map, IfSome}
+use Rattle.office_by_rows.proofs.Common.{◌≡◌, ℕ, ◌+◌, ◌<◌, ◌≤◌, ℤ, pos, negsuc, ◌≤ℤ◌, Bool, true, List, [], ◌∷◌, Option, Some, None, find, refl, sym, ap, subst, ◌∙◌, inl, inr, arith, if◌then◌else◌, option_map, IfSome, int_eq, Decides-int_eq, same_Some, Date, epoch_day, days_in_month, first_number, Due, dates_from, date_numbered, day_numbered, due_of_number, if_any, is_between}
 use Rattle.std.specs.List.{filter_map, flat_map, cons_option, range_with_len}
-use Rattle.std.specs.Ordering.{int_eq}
-use Rattle.std.proofs.lemmas.Bool.{true≢false}
 use Rattle.std.proofs.lemmas.Int.{by_lt_z}
-use Rattle.std.proofs.lemmas.Bool.Decides.{Decides-int_eq}
-use Rattle.std.proofs.lemmas.Option.{same_Some}
 use Rattle.bag_text.proofs.ElementLemmas.{Has}
-use Rattle.jiff.specs.Types.{Date}
-use Rattle.jiff.specs.Words.{epoch_day, days_in_month}
 use Rattle.jiff_core.proofs.SignedLemmas.{signed_arith}
 use Rattle.jiff_core.proofs.CalendarLemmas.{days_in_month_bounds}
 use Rattle.jiff_core.proofs.DateLemmas.{epoch_day-lt}
-use Rattle.office_core.proofs.DayLemmas.{first_number}
 use Rattle.office_core.proofs.DueLemmas.{date_of_parts}
-use Rattle.office_core.proofs.OptionLemmas.{find_some, some_if}
+use Rattle.office_core.proofs.OptionLemmas.{find_some, some_if, by_Bool, by_Option, option_map_some}
 use Rattle.office_core.specs.Days.{IsDayNumber, first_day, first_day_number, first_year, last_day_number}
 use Rattle.office_core.specs.DayReading.{date_of}
 use Rattle.office_core.specs.Retention.{IsDueNumber, due_number, last_due_number}
-use Rattle.office_core.specs.declared.retention.Due.{Due}
 use Rattle.office_core.specs.declared.retention.Due.TheVariants.{On, Never}
-use Rattle.office_history.proofs.MemberLemmas.{at_or_above, has_gathered}
+use Rattle.office_history.proofs.MemberLemmas.{has_gathered, range_has}
 use Rattle.office_history.proofs.Pictured.{same_day}
-use Rattle.office_by_rows.specs.Values.{dates_from, date_numbered, day_numbered, due_of_number, if_any, is_between}
+use Rattle.office_by_rows.proofs.ComesTo.{between}
 
 -- what is told of one of these is among what is told of them
 has_told : {A B : Type 0} (tell : A → Option B) (xs : List A) (x : A) (y : B) → Has xs x → tell x ≡ Some y → Has (filter_map tell xs) y
 has_told tell [] x y has is = absurd has
 has_told tell (z ∷ xs) x y (inl same) is = subst (λ o. Has (cons_option o (filter_map tell xs)) y) (sym (ap tell same ∙ is)) (inl refl)
-has_told {B = B} tell (z ∷ xs) x y (inr rest) is = by (tell z) (has_told tell xs x y rest is)
-  where
-    by : (o : Option B) → Has (filter_map tell xs) y → Has (cons_option o (filter_map tell xs)) y
-    by None has = has
-    by (Some w) has = inr has
-
--- the numbers of a row of numbers
-range_has : (start len n : ℕ) → start ≤ n → n < start + len → Has (range_with_len start len) n
-range_has start zero n low high = absurd (omega arith)
-range_has start (suc len) n low high =
-    elim (at_or_above start n low) [
-      | inl same ↦ inl same
-      | inr above ↦ inr (range_has (start + 1) len n above (omega arith))
-    ]
+has_told tell (z ∷ xs) x y (inr rest) is = by_Option (tell z) (λ none. rw none (has_told tell xs x y rest is)) (λ w told. rw told (inr (has_told tell xs x y rest is)))
 
 -- a date of these years is one of theirs
 date_has : (first count : ℕ) (date : Date) (year : ℕ) → date.year ≡ pos year → first ≤ year → year < first + count → Has (dates_from first count) date
@@ -59,12 +38,8 @@ date_has first count date year is low high =
 -- the one that passes is found
 found_only : {A : Type 0} (p : A → Bool) (xs : List A) (x : A) → Has xs x → p x ≡ true → ((y : A) → p y ≡ true → y ≡ x) → find p xs ≡ Some x
 found_only p [] x has passes only = absurd has
-found_only p (y ∷ xs) x has passes only = by (p y) refl has (λ rest. found_only p xs x rest passes only)
-  where
-    by : (b : Bool) → p y ≡ b → (y ≡ x) ⊎ Has xs x → (Has xs x → find p xs ≡ Some x) → (if b then Some y else find p xs) ≡ Some x
-    by true e has behind = ap Some (only y e)
-    by false e (inl same) behind = absurd (true≢false (sym passes ∙ ap p (sym same) ∙ e))
-    by false e (inr rest) behind = behind rest
+found_only p (y ∷ xs) x (inl same) passes only = rw (ap p same ∙ passes) (ap Some same)
+found_only p (y ∷ xs) x (inr rest) passes only = by_Bool (p y) (λ hit. rw hit (ap Some (only y hit))) (λ miss. rw miss (found_only p xs x rest passes only))
 
 -- a date from 1900 on is that of its number
 pub date_back : (number : ℤ) (date : Date) → epoch_day date ≡ number → first_year ≤ℤ date.year → date_numbered number ≡ Some date
@@ -90,9 +65,6 @@ from_first d low =
 
 -- ---- days of the office
 
-between : (least most number : ℤ) → least ≤ℤ number → number ≤ℤ most → is_between least most number ≡ true
-between least most number low high = search (rules, low, high)
-
 pub day_back : (number : ℤ) (day : Date) → epoch_day day ≡ number → IsDayNumber number → day_numbered number ≡ Some day
 day_back number day is ranged =
     ap (λ b. if b then date_numbered number else None) (between first_day_number last_day_number number ranged.0 ranged.1)
@@ -103,34 +75,25 @@ day_is number day e = date_is number day (some_if (is_between first_day_number l
 
 pub days_back : (number : Option ℤ) (day : Option Date) → option_map epoch_day day ≡ number → IfSome number IsDayNumber → if_any day_numbered number ≡ Some day
 days_back None None is ranged = refl
-days_back None (Some day) is ranged = absurd cc
-days_back (Some number) None is ranged = absurd cc
 days_back (Some number) (Some day) is ranged = ap (option_map Some) (day_back number day (same_Some _ _ is) ranged)
+days_back _ _ is ranged = absurd cc
 
 pub days_are : (number : Option ℤ) (day : Option Date) → if_any day_numbered number ≡ Some day → option_map epoch_day day ≡ number
 days_are None day e = ap (option_map epoch_day) (sym (same_Some _ _ e))
-days_are (Some number) day e = by (day_numbered number) refl e
-  where
-    by : (o : Option Date) → day_numbered number ≡ o → option_map Some o ≡ Some day → option_map epoch_day day ≡ Some number
-    by None is e = absurd cc
-    by (Some date) is e = ap (option_map epoch_day) (sym (same_Some _ _ e)) ∙ ap Some (day_is number date is)
+days_are (Some number) day e = option_map_some Some (day_numbered number) day e (λ date is same. ap (option_map epoch_day) (sym same) ∙ ap Some (day_is number date is))
 
 -- ---- due days
 
 pub due_back : (number : Option ℤ) (due : Due) → due_number due ≡ number → IfSome number IsDueNumber → due_of_number number ≡ Some due
 due_back None Never is ranged = refl
-due_back None (On day) is ranged = absurd cc
-due_back (Some number) Never is ranged = absurd cc
 due_back (Some number) (On day) is ranged =
     let same = same_Some _ _ is in
     ap (λ b. if b then option_map On (date_numbered number) else None) (between first_day_number last_due_number number ranged.0 ranged.1)
     ∙ ap (option_map On) (date_back number day same (from_first day (subst (λ n. first_day_number ≤ℤ n) (sym same) ranged.0)))
+due_back _ _ is ranged = absurd cc
 
 pub due_is : (number : Option ℤ) (due : Due) → due_of_number number ≡ Some due → due_number due ≡ number
 due_is None due e = ap due_number (sym (same_Some _ _ e))
 due_is (Some number) due e =
-    by (date_numbered number) refl (some_if (is_between first_day_number last_due_number number) (option_map On (date_numbered number)) due e).1
-  where
-    by : (o : Option Date) → date_numbered number ≡ o → option_map On o ≡ Some due → due_number due ≡ Some number
-    by None is e = absurd cc
-    by (Some date) is e = ap due_number (sym (same_Some _ _ e)) ∙ ap Some (date_is number date is)
+    option_map_some On (date_numbered number) due (some_if (is_between first_day_number last_due_number number) (option_map On (date_numbered number)) due e).1
+    (λ date is same. ap due_number (sym same) ∙ ap Some (date_is number date is))

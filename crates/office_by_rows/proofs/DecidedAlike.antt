@@ -1,21 +1,13 @@
 -- Pairs of a kind are decided alike.
-use Rattle.std.proofs.Common.{◌≡◌, ℕ, ℤ, Bool, true, false, cond, ◌&&◌, ◌||◌, List, [], ◌∷◌, codes, bytes_eq, Some, None, is_none, refl, sym, ap, ◌∙◌, if◌then◌else◌}
-use Rattle.std.proofs.lemmas.Bool.{false_from_ne_true, true≢false}
-use Rattle.std.proofs.lemmas.Option.{same_Some}
+use Rattle.office_by_rows.proofs.Common.{◌≡◌, ℕ, ℤ, Bool, true, false, cond, ◌&&◌, ◌||◌, List, [], ◌∷◌, codes, bytes_eq, Some, None, is_none, refl, sym, ap, ◌∙◌, if◌then◌else◌, false_from_ne_true, true≢false, same_Some, Date, epoch_day, ◌>>=◌, RuleRow, Tables, decision_by, decision_for, if_any}
 use Rattle.std.proofs.lemmas.Slice.Eq.{bytes_eq-Decides}
-use Rattle.jiff.specs.Types.{Date}
-use Rattle.jiff.specs.Words.{epoch_day}
 use Rattle.office_core.specs.Actions.{action_text}
-use Rattle.office_core.specs.FirstOf.{◌>>=◌}
 use Rattle.office_core.specs.Verdicts.{denial_verdict}
 use Rattle.office_core.specs.declared.action.Action.{Action}
 use Rattle.office_history.specs.Refusals.{refusal_in}
 use Rattle.office_rows.specs.Matching.{Attempt, counts_on, fits_attempt, fits_name, matching_rule}
-use Rattle.office_rows.specs.Rows.{RuleRow, Tables}
 use Rattle.office_by_rows.specs.Answers.{is_allowed_for}
-use Rattle.office_by_rows.specs.Asking.{decision_by, decision_for}
 use Rattle.office_by_rows.specs.Kinds.{AreSpelled, if_spelled, kind_of}
-use Rattle.office_by_rows.specs.Values.{if_any}
 
 module _ (spelled : List ℕ → Bool) (text : List ℕ) (is : spelled text ≡ true) where
   -- a text that is spelled is no name that isn't
@@ -28,9 +20,8 @@ module _ (spelled : List ℕ → Bool) (text : List ℕ) (is : spelled text ≡ 
     where
       by : (this that : Bool) → spelled name ≡ this → spelled other ≡ that → (if this then Some name else None) ≡ (if that then Some other else None) → fits_name text name ≡ fits_name text other
       by true true _ _ e = ap (fits_name text) (same_Some name other e)
-      by true false _ _ e = absurd cc
-      by false true _ _ e = absurd cc
       by false false none neither e = ap (λ b. bytes_eq text (codes "*") || b) (unlike name none ∙ sym (unlike other neither))
+      by _ _ _ _ e = absurd cc
 
 module _ (collections classes : List ℕ → Bool) (collection class other another : List ℕ) (same : kind_of collections classes collection class ≡ kind_of collections classes other another) where
   module _ (role action : List ℕ) (day : ℤ) where

@@ -1,3 +1,4 @@
+pub mod Common
 pub mod Days
 pub mod ComesTo
 pub mod DecidedAlike

@@ -23,9 +23,10 @@ use Rattle.office_core.specs.declared.answer.DepositRecord.{DepositRecord}
 use Rattle.office_core.specs.declared.request.Request.{Request}
 use Rattle.office_core.specs.declared.request.Request.TheVariants.{DefineClass, DefineCollection, Deposit, List as ListDeposits, Record, Holds, DownloadBag, DownloadFile, Audit, HoldDeposit, HoldCollection, HoldClass, Release, Dispose, DueList}
 use Rattle.office_rows.specs.Rows.{DepositRow, DueRow, FileRow, Tables, beside, deposit_numbered, due_numbered, file_at, files_of}
-use Rattle.office_rows.specs.Told.{PlaceRow, due_places}
-use Rattle.office_history.specs.Answers.{Wanted, audit_report, file_answer, is_asked}
+use Rattle.office_rows.specs.Told.{DisposableRow, disposable_rows}
+use Rattle.office_history.specs.Answers.{Wanted, audit_report, file_answer, is_selected}
 use Rattle.office_history.specs.Bags.{report_on}
+use Rattle.office_history.specs.Pictures.{description_of}
 use Rattle.office_by_rows.specs.Values.{count_of, count_up_to, day_numbered, due_of_number, things_told}
 use Rattle.office_by_rows.specs.Asking.{Visit, days_of, denial_for, role_in, told_holds}
 use Rattle.office_by_rows.specs.Refusals.{highest_deposit, highest_hold, number_after}
@@ -44,7 +45,7 @@ record_by row kept = do
   files ← count_up_to max_files row.files
   bytes ← count_up_to (max_files * max_content) row.bytes
   due ← due_of_number kept.due
-  if has_names row then Some (record { number = number; accession = row.accession; collection = row.collection; class = row.class; closed = days.closed; deposited = days.deposited; files = files; bytes = bytes; due = due }) else None
+  if has_names row then Some (record { number = number; description = description_of row days.closed; deposited = days.deposited; files = files; bytes = bytes; due = due }) else None
 
 abbrev pub record_in : Tables → DepositRow → Option Answer
 record_in t row = do
@@ -101,7 +102,7 @@ is_allowed_for t role day action collection class = do
 
 -- the deposit of the row is of the collection and the class that are asked for
 abbrev pub is_wanted : Wanted → DepositRow → Bool
-is_wanted wanted row = is_asked wanted.collection row.collection && is_asked wanted.class row.class
+is_wanted wanted row = is_selected wanted.collection row.collection && is_selected wanted.class row.class
 
 -- a deposit that was destroyed is not listed, and the day of that is one; where there is no such day, the rules are asked
 abbrev pub is_shown_unless : Option ℤ → Tables → List ℕ → Date → DepositRow → Option Bool
@@ -131,8 +132,8 @@ listed_records t visit wanted = do
   things_told (listed_record t role visit.day wanted) (beside t.deposits t.dues)
 
 -- the number of the deposit that is there, where the rules allow that it is destroyed; what is kept of its due day is one, allowed or not
-abbrev pub place_told : Tables → List ℕ → Date → PlaceRow → Option (Option ℕ)
-place_told t role day place = do
+abbrev pub disposable_told : Tables → List ℕ → Date → DisposableRow → Option (Option ℕ)
+disposable_told t role day place = do
   due ← due_of_number place.due
   allowed ← is_allowed_for t role day acts.Dispose place.collection place.class
   told_if allowed (count_of place.number)
@@ -141,14 +142,14 @@ place_told t role day place = do
 abbrev pub due_list : Tables → Visit → Option (List ℕ)
 due_list t visit = do
   role ← role_in t visit.caller
-  things_told (place_told t role visit.day) (due_places (epoch_day visit.day) t)
+  things_told (disposable_told t role visit.day) (disposable_rows (epoch_day visit.day) t)
 
 -- ---- the answer to a request that isn't refused
 
 abbrev pub allowed_answer : Tables → Visit → Request → Option Answer
 allowed_answer t visit (DefineClass name years) = Some (answers.Class name years)
 allowed_answer t visit (DefineCollection name) = Some (answers.Collection name)
-allowed_answer t visit (Deposit collection class accession closed bag) = option_map answers.Deposited (number_after (highest_deposit t))
+allowed_answer t visit (Deposit description bag) = option_map answers.Deposited (number_after (highest_deposit t))
 allowed_answer t visit (ListDeposits collection class) = option_map answers.List (listed_records t visit (record { collection = collection; class = class }))
 allowed_answer t visit (Record n) = deposit_numbered (pos n) t.deposits >>= record_in t
 allowed_answer t visit (Holds n) = deposit_numbered (pos n) t.deposits >>= holds_in t n

@@ -3,7 +3,7 @@ use Rattle.std.specs.Prelude.{ℕ, ℤ, pos, negsuc, ◌+ℤ◌, ◌&&◌, List,
 use Rattle.jiff.specs.Types.{Date}
 use Rattle.jiff.specs.Words.{epoch_day}
 use Rattle.bag_text.specs.TransferForm.{File}
-use Rattle.bag_check.specs.Validity.{payload_bytes, payload_files}
+use Rattle.office_core.specs.Descriptions.{Description}
 use Rattle.office_core.specs.FirstOf.{◌>>=◌}
 use Rattle.office_core.specs.Policies.{PolicyValue}
 use Rattle.office_core.specs.Retention.{due_number}
@@ -11,11 +11,11 @@ use Rattle.office_core.specs.RetentionReading.{due_of}
 use Rattle.office_core.specs.declared.request.Request.{Request}
 use Rattle.office_core.specs.declared.request.Request.TheVariants.{DefineClass, DefineCollection, Deposit, HoldDeposit, HoldCollection, HoldClass, Release, Dispose}
 use Rattle.office_core.specs.declared.retention.Due.{Due}
-use Rattle.office_rows.specs.Rows.{DepositRow, HoldRow, Tables, class_named, due_numbered, hold_numbered, limits_of, live_holds, with_class, with_collection, with_due, with_file, with_gone, with_hold, with_holds, with_kept, with_more_holds, with_more_holds_class, with_policy, with_released, without_files}
+use Rattle.office_rows.specs.Rows.{DepositRow, HoldRow, Tables, class_named, due_numbered, hold_numbered, limits_of, live_holds, with_class, with_collection, with_due, with_file, with_gone, with_hold, with_holds, with_deposit_and_due, with_more_holds, with_more_holds_class, with_policy, with_released, without_files}
 use Rattle.office_rows.specs.Told.{ClosingRow, class_closings}
 use Rattle.office_history.specs.Bags.{bag_of}
 use Rattle.office_history.specs.Histories.{Target, OnDeposit, OnCollection, OnClass}
-use Rattle.office_history.specs.Pictures.{caller_row, held_class, held_collection, held_deposit, rule_rows, years_number}
+use Rattle.office_history.specs.Pictures.{caller_row, held_class, held_collection, held_deposit, row_by_gone, rule_rows, years_number}
 use Rattle.office_by_rows.specs.Values.{day_numbered, is_between, years_of_number}
 use Rattle.office_by_rows.specs.Asking.{Visit, are_released_on_days, target_of}
 use Rattle.office_by_rows.specs.Refusals.{highest_deposit, highest_hold, number_after}
@@ -42,18 +42,8 @@ with_years name years t = with_due_days years (class_closings name t) (with_clas
 -- ---- a deposit
 
 -- its row, which names the files of the payload and their bytes
-abbrev pub new_deposit : ℕ → List ℕ → List ℕ → List ℕ → Date → Date → List File → DepositRow
-new_deposit n collection class accession closed day bag = record {
-  number = pos n;
-  accession = accession;
-  collection = collection;
-  class = class;
-  closed = epoch_day closed;
-  deposited = epoch_day day;
-  files = pos (payload_files bag);
-  bytes = pos (payload_bytes bag);
-  gone = None;
-}
+abbrev pub new_deposit : ℕ → Description → Date → List File → DepositRow
+new_deposit n description day bag = row_by_gone n None (day, record { description = description; bag = bag })
 
 -- the day from which a deposit of the class may be destroyed that was closed on that day
 abbrev pub due_in : Tables → List ℕ → Date → Option Due
@@ -72,11 +62,11 @@ with_files n [] t = t
 with_files n (f ∷ fs) t = with_files n fs (with_file (record { deposit = n; path = f.path; content = f.content }) t)
 
 -- the bag is kept as the deposit with that row
-abbrev pub kept_as : ℕ → DepositRow → Date → List File → Tables → Option Tables
-kept_as n row closed bag t = do
+abbrev pub stored_as : ℕ → DepositRow → Date → List File → Tables → Option Tables
+stored_as n row closed bag t = do
   due ← due_in t row.class closed
   holds ← count_in t n row.collection row.class
-  Some (with_files (pos n) bag (with_kept row (due_number due) (pos holds) t))
+  Some (with_files (pos n) bag (with_deposit_and_due row (due_number due) (pos holds) t))
 
 abbrev pub if_bag : Result (List File) (List ℕ) → (List File → Option Tables) → Option Tables
 if_bag (Ok bag) next = next bag
@@ -125,9 +115,9 @@ destroyed n day t = without_files (pos n) (with_gone (pos n) (epoch_day day) t)
 abbrev pub allowed_rows : Tables → Visit → Request → Option Tables
 allowed_rows t visit (DefineClass name years) = with_years name years t
 allowed_rows t visit (DefineCollection name) = Some (with_collection name t)
-allowed_rows t visit (Deposit collection class accession closed bag) = do
+allowed_rows t visit (Deposit description bag) = do
   n ← number_after (highest_deposit t)
-  if_bag (bag_of bag.now) (λ files. kept_as n (new_deposit n collection class accession closed visit.day files) closed files t)
+  if_bag (bag_of bag.now) (λ files. stored_as n (new_deposit n description visit.day files) description.closed files t)
 allowed_rows t visit (HoldDeposit n matter) = placed visit.day (OnDeposit n) matter t
 allowed_rows t visit (HoldCollection name matter) = placed visit.day (OnCollection name) matter t
 allowed_rows t visit (HoldClass name matter) = placed visit.day (OnClass name) matter t

@@ -2,6 +2,7 @@
 -- rows tell it. The first that applies is answered. A disposal reads all that it may need before it judges.
 use Rattle.std.specs.Prelude.{ℕ, ◌+◌, ℤ, pos, not, nat_le, ◌++◌, List, [], ◌∷◌, Option, Some, None, is_none, is_some, option_map, unwrap_or, if◌then◌else◌}
 use Rattle.jiff.specs.Types.{Date}
+use Rattle.office_core.specs.Descriptions.{Description}
 use Rattle.office_core.specs.FirstOf.{◌>>=◌, answer_if}
 use Rattle.office_core.specs.Verdicts.{verdict_of}
 use Rattle.office_core.specs.declared.action.Action.{Action}
@@ -156,17 +157,17 @@ hold_refusals t visit target = hold_denials t visit target ++ full_of_holds t �
 -- ---- a deposit
 
 -- where a bag is deposited: E1 and E2
-abbrev pub place_refusals : Tables → Visit → List ℕ → List ℕ → List (Option (Option Refusal))
-place_refusals t visit collection class =
-    Some (no_such_collection t collection)
-    ∷ Some (no_such_class t class)
-    ∷ denial_in t visit acts.Deposit (Some collection) (Some class)
+abbrev pub filing_refusals : Tables → Visit → Description → List (Option (Option Refusal))
+filing_refusals t visit description =
+    Some (no_such_collection t description.collection)
+    ∷ Some (no_such_class t description.class)
+    ∷ denial_in t visit acts.Deposit (Some description.collection) (Some description.class)
     ∷ []
 
 -- and E4 and E5: what is asked before the bag is looked at
-abbrev pub refusals_before_the_bag : Tables → Visit → List ℕ → List ℕ → List ℕ → Date → List (Option (Option Refusal))
-refusals_before_the_bag t visit collection class accession closed =
-    place_refusals t visit collection class ++ taken_refusal t accession ∷ Some (closed_ahead_refusal visit.day closed) ∷ []
+abbrev pub refusals_before_the_bag : Tables → Visit → Description → List (Option (Option Refusal))
+refusals_before_the_bag t visit description =
+    filing_refusals t visit description ++ taken_refusal t description.accession ∷ Some (closed_ahead_refusal visit.day description.closed) ∷ []
 
 -- E6 and E10
 abbrev pub refusals_of_the_bag : Tables → List ℕ → List (Option (Option Refusal))
@@ -178,8 +179,7 @@ refusals_of_the_bag t bag = Some (bad_bag bag) ∷ full_of_deposits t ∷ []
 abbrev pub refusals : Tables → Visit → Request → List (Option (Option Refusal))
 refusals t visit (DefineClass name years) = denial_in t visit acts.Class None (Some name) ∷ []
 refusals t visit (DefineCollection name) = denial_in t visit acts.Collection (Some name) None ∷ []
-refusals t visit (Deposit collection class accession closed bag) =
-    refusals_before_the_bag t visit collection class accession closed ++ refusals_of_the_bag t bag.now
+refusals t visit (Deposit description bag) = refusals_before_the_bag t visit description ++ refusals_of_the_bag t bag.now
 refusals t visit (ListDeposits collection class) = []
 refusals t visit (Record n) = of_deposit (deposit_numbered (pos n) t.deposits) (kept_refusals t visit acts.Record)
 refusals t visit (Holds n) = of_deposit (deposit_numbered (pos n) t.deposits) (kept_refusals t visit acts.Holds)

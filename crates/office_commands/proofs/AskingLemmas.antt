@@ -1,24 +1,11 @@
 -- An ask answers all that the input has; one that fails has done nothing, or has answered and written a beginning of the answer.
-use Rattle.std.proofs.Common.{◌≡◌, ◌<◌, ℕ, List, [], Bool, true, false, Option, Some, None, Result, Ok, Err, IfErr, IfSome, ◌∷◌, inl, inr, length, take, refl, sym, ap, subst}
-use Rattle.std.proofs.KnownBytes.{Appends-kept}
+use Rattle.office_commands.proofs.Common.{◌≡◌, ◌<◌, ℕ, List, [], Bool, true, false, Option, Some, None, Result, Ok, Err, IfErr, IfSome, ◌∷◌, inl, inr, length, take, refl, sym, ap, subst, Appends-kept, Appends, Consumes, Keeps, Date, Held, state, Ghosts, Answer, IsAnswered, ServesBytes, AreDone, Deed, answers, ComesOfAsk, all_input, desk_failure, Output, CommandFault, Failed}
 use Rattle.std.proofs.Math.Seq.{take-length}
-use Rattle.std.specs.Io.KnownBytes.{Appends, Consumes, Keeps}
-use Rattle.jiff.specs.Types.{Date}
-use Rattle.sqlite.specs.Held.{Held, state}
-use Rattle.sqlite.specs.Store.{Ghosts}
-use Rattle.office_core.specs.declared.answer.Answer.{Answer}
 use Rattle.desk_routes.specs.declared.refusal.DeskRefusal.TheVariants.{Truncated}
 use Rattle.desk_hearing.specs.Hearing.{Hears}
 use Rattle.desk_answers.specs.Answers.{answer_text}
-use Rattle.desk_serving.specs.Serving.{IsAnswered, ServesBytes}
 use Rattle.desk_serving.specs.declared.serving.DeskFault.{DeskFault}
 use Rattle.desk_serving.specs.declared.serving.DeskFault.TheVariants.{Read, Write, Memory}
-use Rattle.office_commands.specs.Deeds.{AreDone, Deed, answers}
-use Rattle.office_commands.specs.Tasks.{ComesOfAsk, all_input}
-use Rattle.office_commands.specs.Texts.{desk_failure}
-use Rattle.office_commands.specs.declared.fault.Cause.TheVariants.{Output}
-use Rattle.office_commands.specs.declared.fault.CommandFault.{CommandFault}
-use Rattle.office_commands.specs.declared.fault.CommandFault.TheVariants.{Failed}
 use Rattle.office_commands.specs.declared.fault.StoreFault.TheVariants.{Device}
 use Rattle.office_commands.proofs.PrintingLemmas.{appends_nothing}
 

@@ -1,22 +1,9 @@
 -- What is done with an office over a store is done to the history that the store keeps.
-use Rattle.std.proofs.Common.{◌≡◌, ◌∙◌, ℕ, List, [], ◌∷◌, Bool, true, false, refl, sym, subst, arith, length}
-use Rattle.jiff.specs.Types.{Date}
+use Rattle.office_commands.proofs.Common.{◌≡◌, ◌∙◌, ℕ, List, [], ◌∷◌, Bool, true, false, refl, sym, subst, arith, length, Date, Held, state, State, HasCleanDisk, Survives, Ghosts, History, Answer, IsLegal, Item, Run, Pictures, IsStoredBy, IsLegalAndStored, HasSameTables, after_policy, Connection, IsAfterAll, lost, refused, served, DeskRequest, IsAnswered, AnswersEach, AreDone, Deed, IsAnsweredFrom, IsDone, LeadOn, Leads, answers, by_desk, by_office, deeds_of_connections, deeds_of_records, fails, installs, records_of_connections, texts_of_connections}
 use Rattle.sqlite.specs.Tree.{Trees}
-use Rattle.sqlite.specs.Held.{Held, state}
-use Rattle.sqlite.specs.State.{State, HasCleanDisk, Survives}
-use Rattle.sqlite.specs.Store.{Ghosts}
-use Rattle.office_history.specs.Histories.{History}
-use Rattle.office_core.specs.declared.answer.Answer.{Answer}
-use Rattle.office_history.specs.Runs.{IsLegal, Item, Run}
-use Rattle.office_asking.specs.Pictures.{Pictures}
-use Rattle.office_engine.specs.Keeping.{IsKeptBy, IsLegalAndKept, KeepsTables, after_policy}
-use Rattle.desk_listening.specs.Listening.{Connection, IsAfterAll, lost, refused, served}
-use Rattle.desk_serving.specs.Serving.{DeskRequest, IsAnswered}
-use Rattle.http_desk.specs.Replaying.{AnswersEach}
 use Rattle.http_desk.specs.ReplayRuns as runs
 use Rattle.http_desk.specs.ReplayRuns.{IsRunOf}
 use Rattle.http_desk.proofs.RunLemmas.{was_clean}
-use Rattle.office_commands.specs.Deeds.{AreDone, Deed, IsAnsweredFrom, IsDone, LeadOn, Leads, answers, by_desk, by_office, deeds_of_connections, deeds_of_records, fails, installs, records_of_connections, texts_of_connections}
 
 -- ---- an honest disk
 
@@ -35,31 +22,31 @@ deeds_clean g (deed ∷ deeds) old new are clean = deed_cleans g deed old are.0 
 
 -- ---- the history
 
-unchanged : (h : History) (old new : State) → IsLegal h → KeepsTables old new → IsKeptBy h old → IsLegalAndKept h new
+unchanged : (h : History) (old new : State) → IsLegal h → HasSameTables old new → IsStoredBy h old → IsLegalAndStored h new
 unchanged h old new legal same kept = record {
   legal = legal;
   kept = λ is_open. let it = same is_open in let keeps = kept it.0 in (subst (Pictures h) (sym it.1) keeps.0, it.2 ∙ sym it.1);
 }
 
 pub answered_from : {S : Type 0} (g : Ghosts S) (done : Bool) (day : Date) (bytes text : List ℕ) (old new : Held S) → IsAnswered g (record { day = day; bytes = bytes }) (record { text = text; done = done }) old new
-    → HasCleanDisk (state g new) → (h : History) → IsLegal h → IsKeptBy h (state g old) → (next : History) × IsAnsweredFrom h day bytes text next × IsLegalAndKept next (state g new)
+    → HasCleanDisk (state g new) → (h : History) → IsLegal h → IsStoredBy h (state g old) → (next : History) × IsAnsweredFrom h day bytes text next × IsLegalAndStored next (state g new)
 answered_from g true day bytes text old new is clean h legal kept =
     let it = is.1.2 in
     let s = (it.turn clean).served h legal kept in
     (s.0, by_office is.1.0 it.item is.0 is.1.1 it.asks s.1 is.2, s.2)
 answered_from g false day bytes text old new is clean h legal kept =
-    (h, by_desk is.0 is.1 refl is.3, record { legal = legal; kept = subst (λ (s : Held _). IsKeptBy h (state g s)) (sym is.2) kept })
+    (h, by_desk is.0 is.1 refl is.3, record { legal = legal; kept = subst (λ (s : Held _). IsStoredBy h (state g s)) (sym is.2) kept })
 
-deed_leads : {S : Type 0} (g : Ghosts S) (deed : Deed) (old new : Held S) → IsDone g deed old new → HasCleanDisk (state g new) → (h : History) → IsLegal h → IsKeptBy h (state g old)
-    → (next : History) × Leads deed h next × IsLegalAndKept next (state g new)
+deed_leads : {S : Type 0} (g : Ghosts S) (deed : Deed) (old new : Held S) → IsDone g deed old new → HasCleanDisk (state g new) → (h : History) → IsLegal h → IsStoredBy h (state g old)
+    → (next : History) × Leads deed h next × IsLegalAndStored next (state g new)
 deed_leads g (installs policy) old new is clean h legal kept = (after_policy policy h, refl, is.1 clean h legal kept)
 deed_leads g (fails policy) old new is clean h legal kept = (h, refl, unchanged h (state g old) (state g new) legal (is.1 clean) kept)
 deed_leads g (answers day bytes text) old new is clean h legal kept = answered_from g is.0 day bytes text old new is.1 clean h legal kept
 
 -- whichever legal history was kept, the deeds lead from it to one that is kept
-pub deeds_lead : {S : Type 0} (g : Ghosts S) (deeds : List Deed) (old new : Held S) → AreDone g deeds old new → HasCleanDisk (state g new) → (h : History) → IsLegal h → IsKeptBy h (state g old)
-    → (next : History) × LeadOn deeds h next × IsLegalAndKept next (state g new)
-deeds_lead g [] old new are clean h legal kept = (h, refl, record { legal = legal; kept = subst (λ (s : Held _). IsKeptBy h (state g s)) (sym are) kept })
+pub deeds_lead : {S : Type 0} (g : Ghosts S) (deeds : List Deed) (old new : Held S) → AreDone g deeds old new → HasCleanDisk (state g new) → (h : History) → IsLegal h → IsStoredBy h (state g old)
+    → (next : History) × LeadOn deeds h next × IsLegalAndStored next (state g new)
+deeds_lead g [] old new are clean h legal kept = (h, refl, record { legal = legal; kept = subst (λ (s : Held _). IsStoredBy h (state g s)) (sym are) kept })
 deeds_lead g (deed ∷ deeds) old new are clean h legal kept =
     let first = deed_leads g deed old are.0 are.1 (deeds_clean g deeds are.0 new are.2 clean) h legal kept in
     let rest = deeds_lead g deeds are.0 new are.2 clean first.0 first.2.legal first.2.kept in

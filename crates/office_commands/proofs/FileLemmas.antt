@@ -1,29 +1,16 @@
 -- An office that is found in files, and copied into them.
-use Rattle.std.proofs.Common.{◌≡◌, ◌≢◌, ◌∙◌, List, [], ◌∷◌, Bool, Result, Ok, Err, IfOk, IsErr, IsTrue, true, false, inl, inr, refl, sym, ap, subst}
+use Rattle.office_commands.proofs.Common.{◌≡◌, ◌≢◌, ◌∙◌, List, [], ◌∷◌, Bool, Result, Ok, Err, IfOk, IsErr, IsTrue, true, false, inl, inr, refl, sym, ap, subst, Image, State, HasCleanDisk, Opens, IsLive, FindsIn, AreFoundIn, HoldsDatabase, file_state, Held, state, Ghosts, FileStore, TableVersion, History, HoldsWhere, PicturesAt, IsStoredBy, IsLeftAt, IsLeftOf, IsLegalAndStored, GoesOnFrom, IsOfficeOver, IsOpenedFrom, made_office}
 use Rattle.std.proofs.Math.Logic.{∥∥₁_map}
-use Rattle.sqlite.specs.Recovery.{Image}
 use Rattle.sqlite.specs.Schema.{Schema}
 use Rattle.sqlite.specs.Table.{Table}
 use Rattle.sqlite.specs.Effect.{Database, IsDatabase}
-use Rattle.sqlite.specs.State.{State, HasCleanDisk, Opens, IsLive}
-use Rattle.sqlite.specs.Start.{FindsIn}
 use Rattle.sqlite_disk.specs.declared.Disk.{Ghosts as Disks}
-use Rattle.sqlite.specs.Files.{AreFoundIn, HoldsDatabase, file_state}
-use Rattle.sqlite.specs.Held.{Held, state}
-use Rattle.sqlite.specs.Store.{Ghosts}
-use Rattle.sqlite.specs.declared.FileStore.{FileStore}
 use Rattle.office_tables.specs.Opening.{has_office}
-use Rattle.office_tables.specs.Schema.{no_schema}
-use Rattle.office_tables.specs.Versions.{schema_at}
-use Rattle.office_tables.specs.declared.version.TableVersion.{TableVersion}
-use Rattle.office_tables.specs.declared.version.TableVersion.TheVariants.{Third, Fourth, Fifth}
-use Rattle.office_history.specs.Histories.{History}
-use Rattle.office_tables.specs.Found.{HoldsWhere}
+use Rattle.office_contents.specs.Schema.{no_schema}
+use Rattle.office_contents.specs.Versions.{schema_at}
+use Rattle.office_contents.specs.declared.version.TableVersion.TheVariants.{Third}
 use Rattle.office_tables.proofs.FoundAgain.{found_again}
 use Rattle.office_tables.proofs.Settled.{office_from, rows_from, once_from}
-use Rattle.office_asking.specs.Pictures.{PicturesAt}
-use Rattle.office_engine.specs.Keeping.{IsKeptBy, IsLeftAt, IsLeftOf, IsLegalAndKept}
-use Rattle.office_commands.specs.Stores.{GoesOnFrom, IsOfficeOver, IsOpenedFrom, made_office}
 
 -- what is left of a history comes out of a truncation, where a database is found
 left_from : (version : TableVersion) (h : History) (db : Database) → IsDatabase db → ∥ IsLeftAt version h db.trees ∥₁ → IsLeftAt version h db.trees
@@ -50,8 +37,7 @@ some_tables x xs same = cc
 
 no_office : (version : TableVersion) → schema_at version ≢ no_schema
 no_office Third same = some_tables _ _ (ap (λ (s : Schema). s.tables) same)
-no_office Fourth same = some_tables _ _ (ap (λ (s : Schema). s.tables) same)
-no_office Fifth same = some_tables _ _ (ap (λ (s : Schema). s.tables) same)
+no_office _ same = some_tables _ _ (ap (λ (s : Schema). s.tables) same)
 
 -- what shows an office isn't empty
 pub shows_more : (s : State) → IsLive s → IsTrue s.is_open → (version : TableVersion) (h : History) → IsLeftAt version h s.now.trees → s.now.schema ≢ no_schema
@@ -59,7 +45,7 @@ shows_more s live is_open version h left same =
     let it = found_again (PicturesAt version h) left.0 s.now left.1.office.whole.listed (live is_open).0 left.2 left.1 in no_office version (sym it.office.whole.schema_is ∙ same)
 
 -- what the files hold that a connection was copied into
-pub held_of : (image : Image) (s : State) → IsTrue s.is_open → ∥ HoldsDatabase image s.committed.trees ∥₁ → (next : History) → IsLegalAndKept next s → HoldsWhere (IsLeftOf next) image
+pub held_of : (image : Image) (s : State) → IsTrue s.is_open → ∥ HoldsDatabase image s.committed.trees ∥₁ → (next : History) → IsLegalAndStored next s → HoldsWhere (IsLeftOf next) image
 held_of image s is_open holds next reached =
     let kept = reached.kept is_open in
     ∥∥₁_map holds (λ d. (s.committed.trees, (s.now, kept.0, ap (λ (x : Database). x.trees) kept.1), d))
@@ -88,7 +74,7 @@ taken_as_held (Ok o) shown image s cleans goes_on opened found = λ clean versio
 
 -- an office that is made, where one may be made
 pub opened_as_made : {D E : Type 0} (g : Disks D) (r : Result (Held (FileStore D g)) E) (image : Image) (s : State) (makes : Bool) → makes ≡ true
-    → IfOk r (λ o. HasCleanDisk (file_state o) → HasCleanDisk s) → IfOk r (λ o. HasCleanDisk (file_state o) → IsKeptBy made_office (file_state o)) → (s.now.schema ≢ no_schema → IsErr r)
+    → IfOk r (λ o. HasCleanDisk (file_state o) → HasCleanDisk s) → IfOk r (λ o. HasCleanDisk (file_state o) → IsStoredBy made_office (file_state o)) → (s.now.schema ≢ no_schema → IsErr r)
     → (HasCleanDisk s → Opens s × IsLive s) → (HasCleanDisk s → FindsIn image s) → IfOk r (IsOpenedFrom g image makes)
 opened_as_made g (Err e) image s makes may cleans made empty opened found = tt
 opened_as_made {E = E} g (Ok o) image s makes may cleans made empty opened found = record {
@@ -113,7 +99,7 @@ opened_as_taken {E = E} g (Ok o) image s makes cleans goes_on there opened found
 -- ---- an office of a connection
 
 pub made_is_office : {S E : Type 0} (g : Ghosts S) (conn : Held S) (is_new : Bool) (r : Result (Held S) E) → is_new ≡ true → IfOk r (λ o. HasCleanDisk (state g o) → HasCleanDisk (state g conn))
-    → IfOk r (λ o. HasCleanDisk (state g o) → IsKeptBy made_office (state g o)) → ((state g conn).now.schema ≢ no_schema → IsErr r) → IfOk r (IsOfficeOver g conn is_new)
+    → IfOk r (λ o. HasCleanDisk (state g o) → IsStoredBy made_office (state g o)) → ((state g conn).now.schema ≢ no_schema → IsErr r) → IfOk r (IsOfficeOver g conn is_new)
 made_is_office g conn is_new (Err e) new clean made empty = tt
 made_is_office g conn is_new (Ok o) new clean made empty = record {
   clean = clean;

@@ -1,3 +1,4 @@
+pub mod Common
 pub mod AskingLemmas
 pub mod DeedLemmas
 pub mod FileLemmas

@@ -1,19 +1,8 @@
 -- What comes of connections, and of a port that can't be had.
-use Rattle.std.proofs.Common.{◌≡◌, ◌+◌, ◌<◌, ◌∙◌, ℕ, List, [], ◌∷◌, Option, Err, inl, length, ◌≤◌, refl, sym, subst}
-use Rattle.jiff.specs.Types.{Date}
+use Rattle.office_commands.proofs.Common.{◌≡◌, ◌+◌, ◌<◌, ◌∙◌, ℕ, List, [], ◌∷◌, Err, inl, length, ◌≤◌, refl, sym, subst, Date, Held, Ghosts, Connection, IsAfterAll, IsItemOf, Served, AreDone, Deed, deeds_of_connections, IsPortFor, IsServedItsOwn, Listens, IsUnheard, Said, CommandFault}
 use Rattle.std.specs.List.{AllByRecursion}
-use Rattle.sqlite.specs.Held.{Held}
-use Rattle.sqlite.specs.Store.{Ghosts}
 use Rattle.desk_listening.specs.Accepting.{CountsAs}
 use Rattle.desk_listening.specs.Listening as listening
-use Rattle.desk_listening.specs.Listening.{Connection, IsAfterAll}
-use Rattle.desk_serving.specs.Serving.{IsItemOf}
-use Rattle.desk_listening.specs.declared.accepting.Served.{Served}
-use Rattle.office_commands.specs.Deeds.{AreDone, Deed, deeds_of_connections}
-use Rattle.office_commands.specs.Tasks.{IsPortFor, IsServedItsOwn, Listens}
-use Rattle.office_commands.specs.Texts.{IsUnheard}
-use Rattle.office_commands.specs.Traffic.{Said}
-use Rattle.office_commands.specs.declared.fault.CommandFault.{CommandFault}
 use Rattle.office_commands.proofs.DeedLemmas.{connections_are_done}
 
 module _ {S : Type 0} (g : Ghosts S) (day : Date) (old new : Held S) where

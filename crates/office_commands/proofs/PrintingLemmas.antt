@@ -1,7 +1,5 @@
 -- What a writer holds to which nothing was given.
-use Rattle.std.proofs.Common.{◌≡◌, ℕ, List, [], Option, sym, subst}
-use Rattle.std.proofs.KnownBytes.{Appends-nil}
-use Rattle.std.specs.Io.KnownBytes.{Appends}
+use Rattle.office_commands.proofs.Common.{◌≡◌, ℕ, List, [], Option, sym, subst, Appends-nil, Appends}
 
 -- what stays holds nothing more
 pub appends_nothing : (old new : Option (List ℕ)) → new ≡ old → Appends old new []

@@ -1,24 +1,11 @@
 -- What a replay reads, has answered and prints, however it ends.
-use Rattle.std.proofs.Common.{◌≡◌, ◌⊎◌, ◌∙◌, ◌+◌, ℕ, List, [], Option, None, Some, Result, Ok, Err, IfErr, inl, inr, length, take, refl, sym, subst}
-use Rattle.std.proofs.KnownBytes.{Appends-kept}
+use Rattle.office_commands.proofs.Common.{◌≡◌, ◌⊎◌, ◌∙◌, ◌+◌, ℕ, List, [], Option, None, Some, Result, Ok, Err, IfErr, inl, inr, length, take, refl, sym, subst, Appends-kept, Appends, Consumes, IsAtEnd, Keeps, Held, Ghosts, DeskRequest, HasAnswered, HasDone, Moment, Stopped, AreDone, Deed, deeds_of_records, AreAnsweredBy, ComesOfReplay, ReplaysInPart, replay_failure, Traffic, Output, CommandFault, Failed}
 use Rattle.std.proofs.lemmas.List.{append-nil}
-use Rattle.std.specs.Io.KnownBytes.{Appends, Consumes, IsAtEnd, Keeps}
-use Rattle.sqlite.specs.Held.{Held}
-use Rattle.sqlite.specs.Store.{Ghosts}
-use Rattle.desk_serving.specs.Serving.{DeskRequest}
 use Rattle.http_desk.specs.RecordLists.{answer_texts}
-use Rattle.http_desk.specs.Replaying.{HasAnswered, HasDone, Moment, Stopped}
 use Rattle.http_desk.specs.declared.replaying.ReplayFault.{ReplayFault}
 use Rattle.http_desk.specs.declared.replaying.ReplayStop.{ReplayStop}
 use Rattle.http_desk.specs.declared.replaying.ReplayStop.TheVariants as stops
-use Rattle.office_commands.specs.Deeds.{AreDone, Deed, deeds_of_records}
-use Rattle.office_commands.specs.Tasks.{AreAsked, ComesOfReplay, ReplaysInPart}
-use Rattle.office_commands.specs.Texts.{replay_failure}
-use Rattle.office_commands.specs.Traffic.{Traffic}
 use Rattle.office_commands.specs.declared.fault.Cause.{Cause}
-use Rattle.office_commands.specs.declared.fault.Cause.TheVariants.{Output}
-use Rattle.office_commands.specs.declared.fault.CommandFault.{CommandFault}
-use Rattle.office_commands.specs.declared.fault.CommandFault.TheVariants.{Failed}
 use Rattle.office_commands.specs.declared.fault.StoreFault.{StoreFault}
 use Rattle.office_commands.specs.declared.fault.StoreFault.TheVariants.{Device, Memory}
 use Rattle.office_commands.proofs.DeedLemmas.{as_many, records_are_done}
@@ -47,7 +34,7 @@ module _ {S : Type 0} (g : Ghosts S) (first last : Held S) (was_left left held h
   abbrev pub after : Option (List ℕ) → Moment S
   after output = record { office = last; input = left; output = output }
 
-  answered : (items : List DeskRequest) (rest : List ℕ) (has : HasAnswered g before (after holds) items rest) → AreAsked items has.texts rest was now
+  answered : (items : List DeskRequest) (rest : List ℕ) (has : HasAnswered g before (after holds) items rest) → AreAnsweredBy items has.texts rest was now
   answered items rest has = record {
     gives = subst (Consumes was_left left) has.records.text has.reads;
     each = has.records.each;

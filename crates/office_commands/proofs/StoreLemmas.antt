@@ -1,32 +1,14 @@
 -- What is done with an office over a store is done on the store: in memory, or in a file.
-use Rattle.std.proofs.Common.{◌≡◌, ℕ, List, Bool, true, Result, Ok, Err, IfErr, IfOk, inl, inr, subst, sym, ap₂, refl}
+use Rattle.office_commands.proofs.Common.{◌≡◌, ℕ, List, Bool, true, Result, Ok, Err, IfErr, IfOk, inl, inr, subst, sym, ap₂, refl, Image, IsOpened, file_state, image_of, over_files, Held, state, FindsIn, HasCleanDisk, FileStore, History, IsLegal, new, new_history, HoldsWhere, IsStoredBy, IsLeftAt, IsLegalAndStored, TableVersion, Deed, LeadOn, InFile, InMemory, IsOfficeOver, IsOpenedFrom, LeadsInto, RunsAndCloses, RunsInFile, RunsInMemory, RunsOver, SomeOffice, made_office, DoesTask, Task, makes_office, IsUnclosable, LoggedTraffic, Upshot, Done, CommandFault}
 use Rattle.std.proofs.lemmas.Bool.{cases_Bool}
 use Rattle.sqlite_disk.specs.declared.Disk.{Ghosts as Disks}
 use Rattle.sqlite_disk.specs.declared.Files.{Files}
 use Rattle.sqlite_wal.specs.Reads.{AreClean}
-use Rattle.sqlite.specs.Recovery.{Image}
 use Rattle.sqlite.specs.Closing.{IsCopied}
-use Rattle.sqlite.specs.Files.{IsOpened, file_state, image_of, over_files}
-use Rattle.sqlite.specs.Held.{Held, state}
-use Rattle.sqlite.specs.Start.{FindsIn}
-use Rattle.sqlite.specs.State.{HasCleanDisk}
 use Rattle.sqlite.specs.Steps.{over_memory}
-use Rattle.sqlite.specs.declared.FileStore.{FileStore}
 use Rattle.sqlite.specs.declared.MemStore.{MemStore}
 use Rattle.sqlite.proofs.Callers.{memory_is_clean}
 use Rattle.office_rows.specs.Rows.{max_limit}
-use Rattle.office_history.specs.Histories.{History}
-use Rattle.office_history.specs.Runs.{IsLegal, new, new_history}
-use Rattle.office_tables.specs.Found.{HoldsWhere}
-use Rattle.office_engine.specs.Keeping.{IsKeptBy, IsLeftAt, IsLegalAndKept}
-use Rattle.office_tables.specs.declared.version.TableVersion.{TableVersion}
-use Rattle.office_commands.specs.Deeds.{Deed, LeadOn}
-use Rattle.office_commands.specs.Stores.{InFile, InMemory, IsOfficeOver, IsOpenedFrom, LeadsInto, RunsAndCloses, RunsInFile, RunsInMemory, RunsOver, SomeOffice, made_office}
-use Rattle.office_commands.specs.Tasks.{DoesTask, Task, makes_office}
-use Rattle.office_commands.specs.Texts.{IsUnclosable}
-use Rattle.office_commands.specs.Traffic.{LoggedTraffic, Upshot}
-use Rattle.office_commands.specs.declared.done.Done.{Done}
-use Rattle.office_commands.specs.declared.fault.CommandFault.{CommandFault}
 use Rattle.office_commands.proofs.DeedLemmas.{deeds_clean, deeds_lead}
 use Rattle.office_commands.proofs.FileLemmas.{held_of, opened_as_made, opened_as_taken}
 
@@ -39,14 +21,14 @@ made_is_legal = new max_limit max_limit refl refl
 
 -- with an office that was just made in memory, whose disk is always clean
 pub runs_in_memory : {T : Type 0} (r : Result T CommandFault) (task : Task) (a b : ℕ) (first last : Held MemStore) (was now : LoggedTraffic) → (a ≡ max_limit) × (b ≡ max_limit)
-    → (HasCleanDisk (state over_memory first) → IsKeptBy (new_history a b) (state over_memory first))
+    → (HasCleanDisk (state over_memory first) → IsStoredBy (new_history a b) (state over_memory first))
     → DoesTask over_memory task (upshot r was now) first last → RunsInMemory task (upshot r was now)
 runs_in_memory r task a b first last was now limits made it =
-    let kept : IsKeptBy made_office (state over_memory first) = subst (λ (h : History). IsKeptBy h (state over_memory first)) (ap₂ new_history limits.0 limits.1) (made (memory_is_clean first)) in
+    let kept : IsStoredBy made_office (state over_memory first) = subst (λ (h : History). IsStoredBy h (state over_memory first)) (ap₂ new_history limits.0 limits.1) (made (memory_is_clean first)) in
     inr (it.0, it.1, record { old = first; new = last; made = kept; done = it.2 })
 
 -- what it comes to
-pub memory_leads : (deeds : List Deed) (office : InMemory deeds) → (next : History) × LeadOn deeds made_office next × IsLegalAndKept next (state over_memory office.new)
+pub memory_leads : (deeds : List Deed) (office : InMemory deeds) → (next : History) × LeadOn deeds made_office next × IsLegalAndStored next (state over_memory office.new)
 memory_leads deeds office = deeds_lead over_memory deeds office.old office.new office.done (memory_is_clean office.new) made_office made_is_legal office.made
 
 -- with an open office, which is closed into these files

@@ -1,29 +1,17 @@
 -- What a command on a store comes to.
-use Rattle.std.proofs.Common.{◌≡◌, ◌⊎◌, ℕ, List, [], ◌∷◌, Option, None, Some, IfSome, Result, Ok, Err, IfErr, IfOk, OnOk, Bor, inl, inr, refl, sym, subst}
+use Rattle.office_commands.proofs.Common.{◌≡◌, ◌⊎◌, ℕ, List, [], ◌∷◌, Option, None, Some, IfSome, Result, Ok, Err, IfErr, IfOk, OnOk, Bor, inl, inr, refl, sym, subst, Appends, Date, Held, Image, Ghosts, AreDone, Deed, fails, installs, ComesOfAsk, DoesTask, IsPortFor, Listens, ComesOfReplay, ReplaysAfter, Task, install_of, IsUninstalled, IsUnsaid, LoggedTraffic, Traffic, said_in, Done, CommandFault, Ask, Policy, Replay, Serve}
 use Rattle.std.specs.Prelude.{option_map, string_bytes}
-use Rattle.std.specs.Io.KnownBytes.{Appends}
-use Rattle.jiff.specs.Types.{Date}
 use Rattle.sqlite_disk.specs.declared.Disk.{Ghosts as Disks}
-use Rattle.sqlite.specs.Held.{Held}
-use Rattle.sqlite.specs.Recovery.{Image}
-use Rattle.sqlite.specs.Store.{Ghosts}
 use Rattle.office_core.specs.Policies.{PolicyValue}
 use Rattle.commands.specs.Explaining.{bad_policy_text}
 use Rattle.streams.specs.Writing.{IsCutShort}
 use Rattle.commands.specs.declared.ending.Ending.TheVariants.{Refused}
-use Rattle.office_commands.specs.Deeds.{AreDone, Deed, fails, installs}
 use Rattle.commands.specs.PolicyFiles.{IsAllOf, IsRead}
 use Rattle.office_commands.specs.Policies.{installed_text}
-use Rattle.office_commands.specs.Tasks.{ComesOfAsk, DoesTask, IsPortFor, Listens, ComesOfReplay, ReplaysAfter, Task, install_of}
-use Rattle.office_commands.specs.Texts.{IsUninstalled, IsUnsaid}
-use Rattle.office_commands.specs.Traffic.{LoggedTraffic, Traffic, said_in}
 use Rattle.office_commands.specs.Works.{ComesOfWork, ComesOfBytes, ComesOfFile, IsQuiet, SaysInstalled, SaysRefused, read_policy, refused_policy}
-use Rattle.office_commands.specs.declared.done.Done.{Done}
-use Rattle.office_commands.specs.declared.fault.CommandFault.{CommandFault}
 use Rattle.commands.specs.declared.policy_file.RefusedPolicy.{RefusedPolicy}
 use Rattle.commands.specs.declared.trouble.Trouble.{Trouble}
 use Rattle.office_commands.specs.declared.work.Work.{Work}
-use Rattle.office_commands.specs.declared.work.Work.TheVariants.{Ask, Policy, Replay, Serve}
 
 -- ---- a policy that comes first
 

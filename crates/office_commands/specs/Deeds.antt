@@ -9,7 +9,7 @@ use Rattle.office_core.specs.Policies.{PolicyValue}
 use Rattle.office_core.specs.declared.answer.Answer.{Answer}
 use Rattle.office_history.specs.Histories.{History}
 use Rattle.office_history.specs.Runs.{Item, Step}
-use Rattle.office_engine.specs.Keeping.{CommitsTo, Installs, KeepsTables, after_policy}
+use Rattle.office_engine.specs.Storing.{CommitsTo, Installs, HasSameTables, after_policy}
 use Rattle.desk_routes.specs.declared.refusal.DeskRefusal.{DeskRefusal}
 use Rattle.desk_hearing.specs.Asking.{HeardValue}
 use Rattle.desk_hearing.specs.Hearing.{Hears}
@@ -35,7 +35,7 @@ IsDone g (installs policy) old new =
     × (HasCleanDisk (state g new) → Installs (state g old) (state g new) policy)
 IsDone g (fails policy) old new =
     Survives (state g old) (state g new) (CommitsTo (state g old) (after_policy policy))
-    × (HasCleanDisk (state g new) → KeepsTables (state g old) (state g new))
+    × (HasCleanDisk (state g new) → HasSameTables (state g old) (state g new))
 IsDone g (answers day bytes text) old new = (done : Bool) × IsAnswered g (record { day = day; bytes = bytes }) (record { text = text; done = done }) old new
 
 abbrev pub AreDone : {S : Type 0} → Ghosts S → List Deed → Held S → Held S → Type 0

@@ -16,12 +16,12 @@ use Rattle.sqlite.specs.declared.FileStore.{FileStore}
 use Rattle.sqlite.specs.declared.MemStore.{MemStore}
 use Rattle.office_rows.specs.Rows.{max_limit}
 use Rattle.office_tables.specs.Opening.{has_office}
-use Rattle.office_tables.specs.Schema.{no_schema}
+use Rattle.office_contents.specs.Schema.{no_schema}
 use Rattle.office_history.specs.Histories.{History}
 use Rattle.office_history.specs.Runs.{IsLegal, new_history}
 use Rattle.office_tables.specs.Found.{HoldsWhere}
-use Rattle.office_tables.specs.declared.version.TableVersion.{TableVersion}
-use Rattle.office_engine.specs.Keeping.{IsKeptBy, IsLeftAt, IsLeftOf}
+use Rattle.office_contents.specs.declared.version.TableVersion.{TableVersion}
+use Rattle.office_engine.specs.Storing.{IsStoredBy, IsLeftAt, IsLeftOf}
 use Rattle.office_commands.specs.Deeds.{AreDone, Deed, LeadOn}
 use Rattle.office_commands.specs.Tasks.{ComesOfTask, Task, makes_office}
 use Rattle.office_commands.specs.Texts.{IsUnclosable, IsUnopenable, found_nothing, is_sought}
@@ -34,14 +34,14 @@ made_office = new_history max_limit max_limit
 
 -- whichever history was left so, by tables of any known version, is kept
 abbrev pub GoesOnFrom : (TableVersion → History → Type 0) → State → Type 0
-GoesOnFrom Left s = (version : TableVersion) (h : History) → Left version h → IsKeptBy h s
+GoesOnFrom Left s = (version : TableVersion) (h : History) → Left version h → IsStoredBy h s
 
 -- An office is had over a connection: it is made there, where `is_new`, and then the database was empty; or it was there. On an honest disk it keeps then
 -- the new history, or whichever was left there.
 pub record IsOfficeOver {S : Type 0} (g : Ghosts S) (conn : Held S) (is_new : Bool) (office : Held S) : Type 0 where
   pub clean : HasCleanDisk (state g office) → HasCleanDisk (state g conn)
   pub empty : is_new ≡ true → (state g conn).now.schema ≢ no_schema → ⊥
-  pub made : is_new ≡ true → HasCleanDisk (state g office) → IsKeptBy made_office (state g office)
+  pub made : is_new ≡ true → HasCleanDisk (state g office) → IsStoredBy made_office (state g office)
   pub was_there : is_new ≡ false → HasCleanDisk (state g office) → IsTrue (has_office (state g conn).now.schema)
   pub goes_on : is_new ≡ false → HasCleanDisk (state g office) → GoesOnFrom (λ version h. IsLeftAt version h (state g conn).now.trees) (state g office)
 
@@ -55,7 +55,7 @@ SomeOffice {S} Is Then = (office : Held S) × Is office × Then office
 pub record InMemory (deeds : List Deed) : Type 0 where
   pub old : Held MemStore
   pub new : Held MemStore
-  pub made : IsKeptBy made_office (state over_memory old)
+  pub made : IsStoredBy made_office (state over_memory old)
   pub done : AreDone over_memory deeds old new
 
 -- ---- in a file
@@ -70,7 +70,7 @@ pub record Show (image : Image) (shown : Database) : Type 0 where
 pub record IsOpenedFrom {D : Type 0} (g : disk.Ghosts D) (first : Image) (makes : Bool) (office : Held (FileStore D g)) : Type 0 where
   pub found : HasCleanDisk (file_state office) → GoesOnFrom (λ version h. HoldsWhere (IsLeftAt version h) first) (file_state office)
   pub origin : HasCleanDisk (file_state office)
-      → ((shown : Database) × Show first shown × IsTrue (has_office shown.schema)) ⊎ ((makes ≡ true) × IsKeptBy made_office (file_state office))
+      → ((shown : Database) × Show first shown × IsTrue (has_office shown.schema)) ⊎ ((makes ≡ true) × IsStoredBy made_office (file_state office))
 
 -- the deeds are done with an open office, and it is closed into these files: on an honest disk all of it is copied
 pub record AreDoneAndClosed {D : Type 0} (g : disk.Ghosts D) (deeds : List Deed) (old : Held (FileStore D g)) (files : Files D) : Type 0 where

@@ -75,27 +75,27 @@ all_input None given = given
 all_input (Some input) given = input
 
 -- the bytes that the input gives, and no fewer than it had, are answered with this text
-abbrev pub IsAsked : Date → List ℕ → List Deed → Traffic → Traffic → Type 0
-IsAsked day text deeds was now = (given : List ℕ) × InputGives given was now × (deeds ≡ answers day (all_input was.input given) text ∷ [])
+abbrev pub IsAnsweredBy : Date → List ℕ → List Deed → Traffic → Traffic → Type 0
+IsAnsweredBy day text deeds was now = (given : List ℕ) × InputGives given was now × (deeds ≡ answers day (all_input was.input given) text ∷ [])
 
 -- Where the input fails, it gave no whole request, and nothing is done or written. Where the output fails, the request is answered and a beginning
 -- of the text is written. Where memory runs out, nothing is written.
 abbrev pub AsksInPart : Date → CommandFault → List Deed → Traffic → Traffic → Type 0
 AsksInPart day (Failed Device (Some Input)) deeds was now =
     ((given : List ℕ) × InputGives given was now × Hears given (Err Truncated)) × (deeds ≡ []) × WritesText [] was now
-AsksInPart day (Failed Device (Some Output)) deeds was now = (text : List ℕ) × IsAsked day text deeds was now × Begins text was now
-AsksInPart day (Failed Memory None) deeds was now = ((deeds ≡ []) ⊎ ((text : List ℕ) × IsAsked day text deeds was now)) × WritesText [] was now
+AsksInPart day (Failed Device (Some Output)) deeds was now = (text : List ℕ) × IsAnsweredBy day text deeds was now × Begins text was now
+AsksInPart day (Failed Memory None) deeds was now = ((deeds ≡ []) ⊎ ((text : List ℕ) × IsAnsweredBy day text deeds was now)) × WritesText [] was now
 AsksInPart day fault deeds was now = ⊥
 
 -- the text is written, or a device or memory fails
 abbrev pub ComesOfAsk : {T : Type 0} → Date → Result T CommandFault → List Deed → Traffic → Traffic → Type 0
-ComesOfAsk day (Ok _) deeds was now = (text : List ℕ) × IsAsked day text deeds was now × WritesText text was now
+ComesOfAsk day (Ok _) deeds was now = (text : List ℕ) × IsAnsweredBy day text deeds was now × WritesText text was now
 ComesOfAsk day (Err fault) deeds was now = AsksInPart day fault deeds was now
 
 -- ---- records of requests
 
 -- What the input gives begins with these records, and `rest` follows them; to each there is a text that answers it.
-pub record AreAsked (items : List DeskRequest) (texts : List (List ℕ)) (rest : List ℕ) (was now : Traffic) : Type 0 where
+pub record AreAnsweredBy (items : List DeskRequest) (texts : List (List ℕ)) (rest : List ℕ) (was now : Traffic) : Type 0 where
   pub gives : InputGives (request_texts items ++ rest) was now
   pub each : AreRecords items
   pub few : length items ≤ max_records
@@ -124,14 +124,14 @@ ReplaysInPart fault texts rest was now = ⊥
 -- are written. Where a device or memory fails, that was so up to some record.
 abbrev pub ComesOfReplay : {T : Type 0} → Result T CommandFault → List Deed → Traffic → Traffic → Type 0
 ComesOfReplay (Ok _) deeds was now =
-    (items : List DeskRequest) × (texts : List (List ℕ)) × AreAsked items texts [] was now × (deeds ≡ deeds_of_records items texts)
+    (items : List DeskRequest) × (texts : List (List ℕ)) × AreAnsweredBy items texts [] was now × (deeds ≡ deeds_of_records items texts)
     × IsAtEnd now.input × WritesText (answer_texts texts) was now
 ComesOfReplay (Err (BadRecord index)) deeds was now =
-    (items : List DeskRequest) × (texts : List (List ℕ)) × (rest : List ℕ) × AreAsked items texts rest was now × (deeds ≡ deeds_of_records items texts)
+    (items : List DeskRequest) × (texts : List (List ℕ)) × (rest : List ℕ) × AreAnsweredBy items texts rest was now × (deeds ≡ deeds_of_records items texts)
     × IsNoRecord now.input (length items) rest × (length items < max_records → BeginsWithNone rest)
     × (index ≡ length items + 1) × WritesText (answer_texts texts) was now
 ComesOfReplay (Err (Failed fault cause)) deeds was now =
-    (items : List DeskRequest) × (texts : List (List ℕ)) × (rest : List ℕ) × AreAsked items texts rest was now × (deeds ≡ deeds_of_records items texts)
+    (items : List DeskRequest) × (texts : List (List ℕ)) × (rest : List ℕ) × AreAnsweredBy items texts rest was now × (deeds ≡ deeds_of_records items texts)
     × ReplaysInPart (Failed fault cause) texts rest was now
 ComesOfReplay (Err (faults.Policy refused)) deeds was now = ⊥
 

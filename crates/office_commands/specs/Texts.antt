@@ -11,9 +11,9 @@ use Rattle.std.specs.declared.io.ErrorKind.TheVariants.{OutOfMemory}
 use Rattle.sqlite.specs.declared.error.Error.{Error}
 use Rattle.sqlite.specs.declared.error.Error.TheVariants.{SqliteFailure}
 use Rattle.sqlite.specs.declared.error.ErrorCode.TheVariants as codes_of
-use Rattle.office_tables.specs.Faults as tables_of
-use Rattle.office_tables.specs.declared.fault.TableFault.{TableFault}
-use Rattle.office_tables.specs.declared.fault.TableFault.TheVariants as tables
+use Rattle.office_contents.specs.Faults as tables_of
+use Rattle.office_contents.specs.declared.fault.TableFault.{TableFault}
+use Rattle.office_contents.specs.declared.fault.TableFault.TheVariants as tables
 use Rattle.desk_serving.specs.declared.serving.DeskFault.{DeskFault}
 use Rattle.desk_serving.specs.declared.serving.DeskFault.TheVariants as desk
 use Rattle.http_desk.specs.declared.replaying.ReplayStop.{ReplayStop}

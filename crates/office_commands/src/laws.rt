@@ -12,8 +12,8 @@ ghost use Rattle.office_core.specs.declared.answer.Answer.{Answer};
 ghost use Rattle.office_history.specs.Histories.{History};
 ghost use Rattle.office_history.specs.Runs.{IsLegal, Item, Run};
 ghost use Rattle.office_tables.specs.Found.{HoldsWhere};
-ghost use Rattle.office_engine.specs.Keeping.{IsKeptBy, IsLeftAt, IsLegalAndKept};
-ghost use Rattle.office_tables.specs.declared.version.TableVersion.{TableVersion as Version};
+ghost use Rattle.office_engine.specs.Storing.{IsStoredBy, IsLeftAt, IsLegalAndStored};
+ghost use Rattle.office_contents.specs.declared.version.TableVersion.{TableVersion as Version};
 ghost use Rattle.desk_listening.specs.Listening.{Connection};
 ghost use Rattle.desk_serving.specs.Serving.{DeskRequest};
 ghost use Rattle.http_desk.specs.ReplayRuns.{IsRunOf};
@@ -28,15 +28,15 @@ use sqlite_disk::Disk;
 pub fn deeds_lead_on<S: Alter>()
     ensures { (deeds : List Deed) (old new : Held S) → AreDone S.Store deeds old new
         → HasCleanDisk (state S.Store new) → (h : History) → IsLegal h
-        → IsKeptBy h (state S.Store old)
-        → (next : History) × LeadOn deeds h next × IsLegalAndKept next (state S.Store new) }
+        → IsStoredBy h (state S.Store old)
+        → (next : History) × LeadOn deeds h next × IsLegalAndStored next (state S.Store new) }
 {}
 
 /// An office that was just made in memory keeps a history that the deeds lead to.
 pub fn memory_leads_on()
     ensures { (deeds : List Deed) (office : InMemory deeds)
         → (next : History) × LeadOn deeds made_office next
-        × IsLegalAndKept next (state over_memory office.new) }
+        × IsLegalAndStored next (state over_memory office.new) }
 {}
 
 /// The files that an office was closed into hold a history that the deeds lead to: on an honest disk, from

@@ -11,8 +11,8 @@ ghost use Rattle.sqlite.specs.WalFiles.{image_at};
 ghost use Rattle.sqlite_wal.specs.Reads.{AreClean};
 ghost use Rattle.office_rows.specs.Rows.{max_limit};
 ghost use Rattle.office_tables.specs.Opening.{has_office};
-ghost use Rattle.office_tables.specs.Schema.{no_schema};
-ghost use Rattle.office_engine.specs.Keeping.{IsKeptBy, IsLeftAt};
+ghost use Rattle.office_contents.specs.Schema.{no_schema};
+ghost use Rattle.office_engine.specs.Storing.{IsStoredBy, IsLeftAt};
 ghost use Rattle.office_commands.specs.Stores.{GoesOnFrom, IsOfficeOver, RunsInMemory, RunsOn, RunsOver, SomeOffice, made_office};
 ghost use Rattle.office_commands.specs.Tasks.{DoesTask, reads_input, writes_log};
 ghost use Rattle.office_commands.specs.Texts.{IsOfOpening, IsOfStore, IsUnclosable, IsUnopenable, found_nothing, is_of_search, is_sought, search_failure, store_failure};
@@ -160,7 +160,7 @@ fn make_office<S: Alter + Drop>(conn: Connection<S>) -> Result<Office<S>, Comman
     ensures clean { IfOk result (λ office.
         HasCleanDisk (state S.Store office) → HasCleanDisk (state S.Store conn)) }
     ensures made { IfOk result (λ office.
-        HasCleanDisk (state S.Store office) → IsKeptBy made_office (state S.Store office)) }
+        HasCleanDisk (state S.Store office) → IsStoredBy made_office (state S.Store office)) }
     ensures not_empty { (state S.Store conn).now.schema ≢ no_schema → IsErr result }
     ensures failure { IfErr result IsUnopenable }
     ensures not_sought { IfErr result (λ fault. is_sought fault ≡ false) }

@@ -1,7 +1,7 @@
 //! What is done with an open office, over any store.
 
 ghost use Rattle.std.specs.Prelude.{◌≡◌, ◌∷◌, [], IfErr, IfOk, List, false};
-ghost use Rattle.office_tables.specs.Faults as faults;
+ghost use Rattle.office_contents.specs.Faults as faults;
 ghost use Rattle.office_commands.specs.Deeds.{AreDone, Deed};
 ghost use Rattle.office_commands.specs.Tasks.{ComesOfAsk, ComesOfReplay, ReplaysAfter, install_of};
 ghost use Rattle.office_commands.specs.Texts.{IsOfStore, IsUninstalled, IsUnopenable, desk_failure, install_failure, is_sought, replay_failure, table_failure, table_fault};

@@ -1,20 +1,12 @@
 -- Days: one date has one text, and the numbers of the days.
-use Rattle.std.proofs.Common.{◌≡◌, ◌==◌, ◌&&◌, ◌||◌, not, Bool, true, false, if◌then◌else◌, ℕ, Some, ◌+◌, ◌*◌, ◌/◌, ◌%◌, ◌<◌, ◌≤◌, ◌++◌, ◌∷◌, [], List, ℤ, pos, negsuc, neg_ℤ, ◌≤ℤ◌, unsigned_abs, refl, sym, ap, subst, ◌∙◌, inl, arith, rules}
-use Rattle.std.proofs.lemmas.Int.{by_lt_z}
+use Rattle.office_core.proofs.Common.{◌≡◌, ◌==◌, ◌&&◌, ◌||◌, not, Bool, true, false, if◌then◌else◌, ℕ, Some, ◌+◌, ◌*◌, ◌/◌, ◌%◌, ◌<◌, ◌≤◌, ◌++◌, ◌∷◌, [], List, ℤ, pos, negsuc, neg_ℤ, ◌≤ℤ◌, unsigned_abs, refl, sym, ap, subst, ◌∙◌, inl, arith, rules, by_lt_z, IsInRange, signed_arith, Date, epoch_day, IsYear, IsDate, is_leap_year, days_in_month, same_Some, first_year, last_year, first_day, last_day, first_day_number, last_day_number, IsDay, IsDayNumber, day_text, digits, is_missing, number_of, day_parts}
 use Rattle.std.proofs.Props.{props}
 use mathlib.Core.HLevel.{is_prop→PathP}
-use Rattle.std.specs.Int.{IsInRange}
 use Rattle.jiff_core.specs.Calendar.{days_from_civil}
-use Rattle.jiff_core.proofs.SignedLemmas.{signed_arith}
 use Rattle.jiff_core.proofs.MarchLemmas.{day_count-early}
 use Rattle.jiff_core.proofs.CalendarLemmas.{days_from_civil-day_count, days_in_month_bounds}
 use Rattle.jiff_core.proofs.DateLemmas.{epoch_day-lt, days_from_civil-next_year}
-use Rattle.jiff.specs.Types.{Date}
-use Rattle.jiff.specs.Words.{epoch_day, IsYear, IsDate, is_leap_year, days_in_month}
-use Rattle.std.proofs.lemmas.Option.{same_Some}
-use Rattle.office_core.proofs.OptionLemmas.{some_if, some_and_then}
-use Rattle.office_core.specs.Days.{first_year, last_year, first_day, last_day, first_day_number, last_day_number, IsDay, IsDayNumber, day_text, digits, is_missing}
-use Rattle.office_core.specs.DayReading.{number_of, day_parts}
+use Rattle.office_core.proofs.OptionLemmas.{some_if, some_and_then, by_Bool}
 
 -- a date is its year, month and day
 pub same_date : (a b : Date) → a.year ≡ b.year → a.month ≡ b.month → a.day ≡ b.day → a ≡ b
@@ -162,22 +154,18 @@ kept true rest false true day h = omega (arith, h)
 kept true rest true false day h = grind (arith, rules, h)
 kept true rest false false day h = grind (arith, rules, h)
 
-kept_at_least : (missing : Bool) (day : ℕ) → 1 ≤ day → 1 ≤ (if missing then 28 else day)
-kept_at_least true day h = omega arith
-kept_at_least false day h = h
-
 -- the day of the month that another year has
-pub kept_day : (date : Date) (y : ℤ) → (1 ≤ (if is_missing y date.month date.day then 28 else date.day)) × ((if is_missing y date.month date.day then 28 else date.day) ≤ 31)
-kept_day date y =
+pub stored_day : (date : Date) (y : ℤ) → (1 ≤ (if is_missing y date.month date.day then 28 else date.day)) × ((if is_missing y date.month date.day then 28 else date.day) ≤ 31)
+stored_day date y =
     let m = date.month in
     let long = days_in_month_bounds y m in
     let most = kept (m == 2) ((m == 4) || (m == 6) || (m == 9) || (m == 11)) (is_leap_year date.year) (is_leap_year y) date.day date.day_in.1 in
-    (kept_at_least (is_missing y m date.day) date.day date.day_in.0, omega (arith, most, long))
+    (by_Bool (is_missing y m date.day) (λ missing. rw missing (omega arith)) (λ there. rw there date.day_in.0), omega (arith, most, long))
 
 -- and it makes a date of that year
 pub kept_is : (date : Date) (y : ℤ) → first_year ≤ℤ y → y ≤ℤ pos 9999 → IsDate y (pos date.month) (pos (if is_missing y date.month date.day then 28 else date.day))
 kept_is date y low high =
     let m = date.month in
-    let kept_in = kept_day date y in
+    let kept_in = stored_day date y in
     let most = kept (m == 2) ((m == 4) || (m == 6) || (m == 9) || (m == 11)) (is_leap_year date.year) (is_leap_year y) date.day date.day_in.1 in
     ((omega (arith, signed_arith, low), high), (omega (arith, signed_arith, date.month_in), omega (arith, signed_arith, date.month_in)), (omega (arith, signed_arith, kept_in), omega (arith, signed_arith, most)))

@@ -1,15 +1,6 @@
 -- The day that is computed of a text is the one that the text writes.
-use Rattle.std.proofs.Common.{◌≡◌, ◌∙◌, ℕ, ℤ, pos, neg_ℤ, ◌+◌, ◌*◌, ◌/◌, ◌%◌, ◌<◌, ◌≤ℤ◌, Bool, true, false, T, leb, ◌&&◌, List, [], ◌∷◌, Option, Some, None, IfSome, int_le, unsigned_abs, refl, sym, ap, subst, arith, rules}
-use Rattle.std.proofs.lemmas.Bool.{and_parts}
-use Rattle.std.proofs.lemmas.Option.{same_Some}
-use Rattle.std.specs.Int.Signed.{le_z}
-use Rattle.jiff_core.proofs.SignedLemmas.{signed_arith}
-use Rattle.jiff.specs.Types.{Date}
-use Rattle.jiff.specs.Words.{days_in_month}
-use Rattle.office_core.specs.FirstOf.{◌>>=◌}
-use Rattle.office_core.specs.Days.{first_year, last_year, IsDay, day_text}
-use Rattle.office_core.specs.DayReading.{number_of, day_parts, where_so, date_of, day_of_date, day_of}
-use Rattle.office_core.proofs.OptionLemmas.{some_if, some_and_then}
+use Rattle.office_core.proofs.Common.{◌≡◌, ◌∙◌, ℕ, ℤ, pos, neg_ℤ, ◌+◌, ◌*◌, ◌/◌, ◌%◌, ◌<◌, ◌≤ℤ◌, Bool, true, false, T, leb, ◌&&◌, List, [], ◌∷◌, Option, Some, None, IfSome, int_le, unsigned_abs, refl, sym, ap, subst, arith, rules, and_parts, same_Some, int_le as le_z, signed_arith, Date, days_in_month, ◌>>=◌, first_year, last_year, IsDay, day_text, number_of, day_parts, where_so, date_of, day_of_date, day_of}
+use Rattle.office_core.proofs.OptionLemmas.{some_if, some_and_then, by_Option}
 use Rattle.office_core.proofs.DayLemmas.{year_pos, parts_of_bytes, parts_of-day, text_of_parts, text_are}
 use Rattle.office_core.proofs.DueLemmas.{date_of_parts}
 
@@ -78,8 +69,4 @@ written_day text day e =
 -- what a reader of days gives of each text is what is computed
 pub read_exactly : (text : List ℕ) (read : Option Date) → IfSome read (λ day. IsDay day × (text ≡ day_text day)) → ((day : Date) → IsDay day → text ≡ day_text day → read ≡ Some day) → read ≡ day_of text
 read_exactly text (Some day) written only = sym (ap day_of written.1 ∙ day_of-text day written.0)
-read_exactly text None written only = by_day (day_of text) refl
-  where
-    by_day : (found : Option Date) → day_of text ≡ found → None ≡ found
-    by_day None is = refl
-    by_day (Some day) is = let both = written_day text day is in only day both.0 both.1
+read_exactly text None written only = by_Option (day_of text) sym (λ day is. let both = written_day text day is in only day both.0 both.1 ∙ sym is)

@@ -1,21 +1,16 @@
 -- One more digit of a number.
-use Rattle.std.proofs.Common.{◌≡◌, ℕ, ◌+◌, ◌*◌, ◌-◌, ◌<◌, ◌^◌, List, length, take, get_or, Bool, true, false, refl, sym, ◌∙◌, arith, add-one}
+use Rattle.office_core.proofs.Common.{◌≡◌, ℕ, ◌+◌, ◌*◌, ◌-◌, ◌<◌, ◌^◌, List, length, take, get_or, true, sym, ◌∙◌, arith, add-one, nat_tests, list_all, IsInRange, digit_value_digit, false≢true}
 use Rattle.std.proofs.Math.Nat.{pow-suc}
-use Rattle.std.proofs.lemmas.Bool.Decides.{nat_tests}
-use Rattle.std.specs.List.{list_all}
 use Rattle.std.specs.Char.{is_ascii_digit}
 use Rattle.std.specs.Str.Parse.{digits_value}
-use Rattle.std.specs.Int.{IsInRange}
 use Rattle.std.proofs.lemmas.List.Folds.{list_all_at}
 use Rattle.std.proofs.lemmas.Int.Digits.{digits_value_more}
-use Rattle.std.proofs.lemmas.Str.{digit_value_digit}
+use Rattle.office_core.proofs.OptionLemmas.{by_Bool}
 
 is_digit : (digits : List ℕ) (i : ℕ) → i < length digits → list_all is_ascii_digit digits ≡ true → IsInRange 48 57 (get_or digits i 0)
-is_digit digits i h all = by (is_ascii_digit (get_or digits i 0)) refl
-  where
-    by : (v : Bool) → is_ascii_digit (get_or digits i 0) ≡ v → IsInRange 48 57 (get_or digits i 0)
-    by true e = (grind (arith, nat_tests), grind (arith, nat_tests))
-    by false e = absurd (let no = list_all_at is_ascii_digit digits i 0 h e in let f : true ≡ false = sym all ∙ no in cc)
+is_digit digits i h all =
+    by_Bool (is_ascii_digit (get_or digits i 0)) (λ digit. (grind (arith, nat_tests, digit), grind (arith, nat_tests, digit)))
+    (λ other. absurd (false≢true (sym (list_all_at is_ascii_digit digits i 0 h other) ∙ all)))
 
 pub one_digit : (digits : List ℕ) (i n d : ℕ) → i < length digits → list_all is_ascii_digit digits ≡ true → n ≡ digits_value 10 (take i digits) → n < 10 ^ i → d ≡ get_or digits i 0 - 48
     → (n * 10 + d ≡ digits_value 10 (take (i + 1) digits)) × (n * 10 + d < 10 ^ (i + 1))

@@ -1,19 +1,10 @@
 -- The due day that is computed is the one of the definition.
-use Rattle.std.proofs.Common.{◌≡◌, ℕ, pos, neg_ℤ, Bool, true, false, T, leb, Option, Some, None, refl, sym, ap, subst, ◌∙◌, ◌+ℤ◌, ◌≤ℤ◌, ◌≤◌, arith, if◌then◌else◌}
-use Rattle.std.specs.Int.Signed.{le_z}
-use Rattle.jiff.specs.Types.{Date}
+use Rattle.office_core.proofs.Common.{◌≡◌, ℕ, pos, neg_ℤ, Bool, true, false, T, leb, Option, Some, None, refl, sym, ap, subst, ◌∙◌, ◌+ℤ◌, ◌≤ℤ◌, ◌≤◌, arith, if◌then◌else◌, int_le as le_z, Date, days_in_month, signed_arith, max_years, first_year, IsDay, IsYearsAfter, is_missing, where_so, date_of, Due, On, Never}
 use Rattle.jiff.proofs.Family.{same_date}
-use Rattle.jiff.specs.Words.{days_in_month}
-use Rattle.jiff_core.proofs.SignedLemmas.{signed_arith}
-use Rattle.office_core.specs.Bounds.{max_years}
-use Rattle.office_core.specs.Days.{first_year, IsDay, IsYearsAfter, is_missing}
-use Rattle.office_core.specs.DayReading.{where_so, date_of}
 use Rattle.office_core.specs.Requests.{IsYears}
 use Rattle.office_core.proofs.DayLemmas.{kept_is}
 use Rattle.office_core.specs.Retention.{IsDue}
 use Rattle.office_core.specs.RetentionReading.{on_or_never, years_after, due_of}
-use Rattle.office_core.specs.declared.retention.Due.{Due}
-use Rattle.office_core.specs.declared.retention.Due.TheVariants.{On, Never}
 use Rattle.std.proofs.Math.Dec.{le→leb}
 
 where_so_gives : {A : Type 0} (test : Bool) (t : T test) (rest : T test → Option A) (x : A) → rest t ≡ Some x → where_so test rest ≡ Some x
@@ -37,9 +28,8 @@ years_after_is closing date years h =
 
 pub due_of_is : (closing : Date) (years : Option ℕ) (due : Due) → IsDue closing years due → due_of closing years ≡ due
 due_of_is closing (Some years) (On date) h = ap on_or_never (years_after_is closing date years h)
-due_of_is closing (Some years) Never h = absurd h
-due_of_is closing None (On date) h = absurd h
 due_of_is closing None Never h = refl
+due_of_is closing _ _ h = absurd h
 
 -- the date that many years after a day of the office
 date_after : (closing : Date) (years : ℕ) → IsDay closing → years ≤ max_years → (date : Date) × IsYearsAfter closing years date

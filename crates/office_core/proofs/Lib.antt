@@ -1,3 +1,4 @@
+pub mod Common
 pub mod OptionLemmas
 pub mod TomlKeys
 pub mod DayLemmas
@@ -11,3 +12,4 @@ pub mod PolicyNames
 pub mod PolicyPlaces
 pub mod PolicyDays
 pub mod DueLemmas
+pub mod Lemmas

@@ -1,10 +1,20 @@
 -- What a chain of readings that may fail gives.
-use Rattle.std.proofs.Common.{◌≡◌, Bool, true, false, Option, Some, None, Result, Ok, Err, IsOk, IfOk, IsSome, IfSome, IsSomeAnd, option_map, refl, if◌then◌else◌, List, [], ◌∷◌, find, inl, inr}
-use Rattle.std.proofs.lemmas.Bool.{cases_Bool}
-use Rattle.std.proofs.lemmas.Option.{same_Some}
-use Rattle.std.proofs.lemmas.Bool.{false≢true}
+use Rattle.office_core.proofs.Common.{◌≡◌, Bool, true, false, Option, Some, None, Result, Ok, Err, IsOk, IfOk, IsSome, IfSome, IsSomeAnd, option_map, refl, if◌then◌else◌, List, [], ◌∷◌, find, same_Some, false≢true, ◌>>=◌, first_some, answer_if, Ordering, Less, Equal, Greater, subst}
 use Rattle.std.specs.Result.{result_ok}
-use Rattle.office_core.specs.FirstOf.{◌>>=◌, first_some, answer_if}
+
+-- by what a test gives, by whether something is there, and by the order of two
+pub by_Bool : {P : Type 0} (b : Bool) → (b ≡ true → P) → (b ≡ false → P) → P
+by_Bool true if_true if_false = if_true refl
+by_Bool false if_true if_false = if_false refl
+
+pub by_Option : {A P : Type 0} (o : Option A) → (o ≡ None → P) → ((x : A) → o ≡ Some x → P) → P
+by_Option None if_none if_some = if_none refl
+by_Option (Some x) if_none if_some = if_some x refl
+
+pub by_Ordering : {P : Type 0} (o : Ordering) → (o ≡ Less → P) → (o ≡ Equal → P) → (o ≡ Greater → P) → P
+by_Ordering Less if_less if_equal if_greater = if_less refl
+by_Ordering Equal if_less if_equal if_greater = if_equal refl
+by_Ordering Greater if_less if_equal if_greater = if_greater refl
 
 -- a result that is there is there as an option
 pub some_ok : {A E : Type 0} (o : Option A) (r : Result A E) → o ≡ result_ok r → IsOk r → IsSome o
@@ -49,8 +59,4 @@ IfSome_from None f = tt
 -- what is found passes the test
 pub find_some : {A : Type 0} (p : A → Bool) (xs : List A) (x : A) → find p xs ≡ Some x → p x ≡ true
 find_some p [] x e = cc
-find_some p (y ∷ ys) x e =
-    elim (cases_Bool (p y)) [
-      | inl hit ↦ let same : y ≡ x = same_Some _ _ (rw hit at e) in rw (← same) hit
-      | inr miss ↦ find_some p ys x (rw miss at e)
-    ]
+find_some p (y ∷ ys) x e = by_Bool (p y) (λ hit. subst (λ z. p z ≡ true) (same_Some _ _ (rw hit at e)) hit) (λ miss. find_some p ys x (rw miss at e))

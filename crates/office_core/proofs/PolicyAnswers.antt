@@ -1,13 +1,8 @@
 -- What an answer says of a text, where it is what reading the text gives.
-use Rattle.std.proofs.Common.{◌≡◌, ◌∙◌, ◌⊎◌, ℕ, List, Option, Some, None, Result, Ok, Err, IfOk, inl, inr, refl, sym, ap}
-use Rattle.std.specs.Prelude.{IfErr, MatchResult}
-use Rattle.toml.specs.Data.{Members}
+use Rattle.office_core.proofs.Common.{◌≡◌, ◌∙◌, ◌⊎◌, ℕ, List, Some, Result, Ok, Err, IfOk, inl, inr, refl, sym, ap, IfErr, MatchResult, first_some, Answers, FailsAs, PolicyValue, HasFirstFault, SpellsPolicy, policy_in_tree, faults, named_policy_fault, policy_of, read_tree, policy_unless, Memory}
 use Rattle.toml.specs.Parse.{parse_document}
-use Rattle.office_core.specs.FirstOf.{first_some}
-use Rattle.bag_text.specs.Answers.{Answers, FailsAs}
-use Rattle.office_core.specs.Policies.{PolicyValue, HasFirstFault, SpellsPolicy, policy_in_tree, faults, named_policy_fault, policy_of, read_tree, policy_unless}
 use Rattle.office_core.specs.declared.policy_fault.PolicyFault.{PolicyFault}
-use Rattle.office_core.specs.declared.policy_fault.PolicyFault.TheVariants.{NotToml, BadVersion, UnknownKey, BadCaller, BadRule, TooMany, Memory}
+use Rattle.office_core.proofs.OptionLemmas.{by_Option}
 
 abbrev Read : Type 0
 Read = Result PolicyValue PolicyFault
@@ -15,28 +10,18 @@ Read = Result PolicyValue PolicyFault
 -- ---- reading a text is the relation of its policy, or of its first fault
 
 policy_is : (text : List ℕ) (policy : PolicyValue) → policy_of text ≡ Ok policy → SpellsPolicy text policy
-policy_is text policy e = go (parse_document text) refl e
-  where
-    by_fault : (tree : Members) (fault : Option PolicyFault) → parse_document text ≡ Some tree → first_some (faults tree) ≡ fault
-        → policy_unless (policy_in_tree tree) fault ≡ Ok policy → SpellsPolicy text policy
-    by_fault tree None parsed sound read = record { tree = tree; parsed = parsed; sound = sound; is = cc }
-    by_fault tree (Some fault) parsed sound read = absurd cc
-
-    go : (parsed : Option Members) → parse_document text ≡ parsed → read_tree parsed ≡ Ok policy → SpellsPolicy text policy
-    go None parsed read = absurd cc
-    go (Some tree) parsed read = by_fault tree (first_some (faults tree)) parsed refl read
+policy_is text policy e =
+    by_Option (parse_document text) (λ none. absurd (let read = rw none at e in cc))
+    (λ tree parsed. by_Option (first_some (faults tree))
+    (λ sound. let read = rw (parsed, sound) at e in record { tree = tree; parsed = parsed; sound = sound; is = cc })
+    (λ fault first. absurd (let read = rw (parsed, first) at e in cc)))
 
 fault_is : (text : List ℕ) (fault : PolicyFault) → policy_of text ≡ Err fault → HasFirstFault text fault
-fault_is text fault e = go (parse_document text) refl e
-  where
-    by_fault : (tree : Members) (found : Option PolicyFault) → parse_document text ≡ Some tree → first_some (faults tree) ≡ found
-        → policy_unless (policy_in_tree tree) found ≡ Err fault → HasFirstFault text fault
-    by_fault tree None parsed first read = absurd cc
-    by_fault tree (Some found) parsed first read = let same : found ≡ fault = cc in inr (tree, parsed, first ∙ ap Some same)
-
-    go : (parsed : Option Members) → parse_document text ≡ parsed → read_tree parsed ≡ Err fault → HasFirstFault text fault
-    go None parsed read = inl (parsed, cc)
-    go (Some tree) parsed read = by_fault tree (first_some (faults tree)) parsed refl read
+fault_is text fault e =
+    by_Option (parse_document text) (λ none. let read = rw none at e in inl (none, cc))
+    (λ tree parsed. by_Option (first_some (faults tree))
+    (λ sound. absurd (let read = rw (parsed, sound) at e in cc))
+    (λ found first. let read = rw (parsed, first) at e in let same : found ≡ fault = cc in inr (tree, parsed, first ∙ ap Some same)))
 
 of_policy : (text : List ℕ) (policy : PolicyValue) → SpellsPolicy text policy → policy_of text ≡ Ok policy
 of_policy text policy spells =
@@ -50,13 +35,8 @@ of_fault text fault (inr (tree, parsed, first)) = ap read_tree parsed ∙ ap (po
 
 -- a refusal is want of memory, or the one that reading gives
 pub refusal_is : (fault : PolicyFault) (read : Read) → FailsAs (named_policy_fault fault) read → (fault ≡ Memory) ⊎ (read ≡ Err fault)
-refusal_is NotToml read e = inr e
-refusal_is BadVersion read e = inr e
-refusal_is UnknownKey read e = inr e
-refusal_is BadCaller read e = inr e
-refusal_is (BadRule number) read e = inr e
-refusal_is TooMany read e = inr e
 refusal_is Memory read e = inl refl
+refusal_is _ read e = inr e
 
 pub read_is_spelled : (text : List ℕ) (result : Read) → Answers named_policy_fault result (policy_of text) → IfOk result (SpellsPolicy text)
 read_is_spelled text (Ok policy) answers = policy_is text policy answers

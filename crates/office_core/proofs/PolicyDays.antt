@@ -1,11 +1,6 @@
 -- The days of the rules that a text spells.
-use Rattle.std.proofs.Common.{◌≡◌, ◌∙◌, ℕ, pos, false, List, Some, IsSomeAnd, sym, ap, subst, slice_get}
-use Rattle.std.specs.List.{AllByRecursion}
+use Rattle.office_core.proofs.Common.{◌≡◌, ◌∙◌, ℕ, pos, false, List, Some, IsSomeAnd, sym, ap, subst, slice_get, AllByRecursion, int_eq, HasNoDays, PolicyValue, SpellsPolicy, SpellsRules, WritesDays, has_days, may_have_days, rule_table_at, rule_values, rules_among, version_number_in, Rule}
 use Rattle.std.specs.Option.{option_map_or}
-use Rattle.std.specs.Ordering.{int_eq}
-use Rattle.office_core.specs.Rules.{HasNoDays}
-use Rattle.office_core.specs.Policies.{PolicyValue, SpellsPolicy, SpellsRules, WritesDays, has_days, may_have_days, rule_table_at, rule_values, rules_among, version_number_in}
-use Rattle.office_core.specs.declared.rule.Rule.{Rule}
 use Rattle.office_core.proofs.PolicyPlaces.{tree_rules, rule_in_place}
 use Rattle.office_core.proofs.RuleParts.{all_rules, rule_has_no_days, rule_writes_days}
 

@@ -1,14 +1,6 @@
 -- Reading a tree step by step gives its first fault, or the policy that it spells.
-use Rattle.std.proofs.Common.{◌≡◌, ℕ, Bool, true, false, ◌||◌, List, [], ◌∷◌, length, Option, Some, None, Ok, Err, nat_lt, option_map, refl, if◌then◌else◌}
-use Rattle.toml.specs.Data.{Members}
+use Rattle.office_core.proofs.Common.{◌≡◌, ℕ, Bool, true, false, ◌||◌, List, [], ◌∷◌, length, Option, Some, None, Ok, Err, nat_lt, option_map, refl, if◌then◌else◌, Members, max_rules, max_callers, first_some, answer_if, PolicyValue, policy_unless, faults, policy_in_tree, callers_of, rules_of, bad_rule, has_bad_version, has_unknown_key, has_bad_caller, rules_or, policy_within_limits, read_members, BadVersion, UnknownKey, BadCaller, BadRule, TooMany, Rule, Caller}
 use Rattle.bag_text.specs.Answers.{◌>>=◌}
-use Rattle.office_core.specs.Bounds.{max_rules, max_callers}
-use Rattle.office_core.specs.FirstOf.{first_some, answer_if}
-use Rattle.office_core.specs.Policies.{PolicyValue, policy_unless, faults, policy_in_tree, callers_of, rules_of, bad_rule, has_bad_version, has_unknown_key, has_bad_caller}
-use Rattle.office_core.specs.PolicyReading.{rules_or, policy_within_limits, read_members}
-use Rattle.office_core.specs.declared.policy_fault.PolicyFault.TheVariants.{BadVersion, UnknownKey, BadCaller, BadRule, TooMany}
-use Rattle.office_core.specs.declared.rule.Rule.{Rule}
-use Rattle.office_core.specs.declared.caller.Caller.{Caller}
 
 -- the last fault, or none
 last_fault : (many : Bool) (contents : PolicyValue) → (if many then Err TooMany else Ok contents) ≡ policy_unless contents (first_some (answer_if many TooMany ∷ []))

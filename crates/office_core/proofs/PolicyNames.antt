@@ -1,43 +1,22 @@
 -- What each policy that a text spells has: names, each caller once, and not too many of them.
-use Rattle.std.proofs.Common.{◌≡◌, ◌≢◌, ◌∙◌, ◌≤◌, ℕ, Bool, true, false, ◌&&◌, List, [], ◌∷◌, length, Option, Some, None, option_map, Ok, Err, nat_lt, refl, sym, ap, subst, if◌then◌else◌, arith}
-use Rattle.std.specs.Prelude.{codes, bytes_eq}
-use Rattle.std.proofs.lemmas.Bool.{and_parts, or_parts, false≢true}
-use Rattle.std.proofs.lemmas.Bool.Decides.{nat_tests}
-use Rattle.std.specs.List.{filter_map, AllByRecursion}
-use Rattle.toml.specs.Data.{Data, string, integer, float, boolean, datetime, array, table, Members, no_members, member, same_key, get_member, as_str}
-use Rattle.office_core.specs.Bounds.{max_rules, max_callers}
-use Rattle.office_core.specs.FirstOf.{◌>>=◌, first_some, answer_if}
+use Rattle.office_core.proofs.Common.{◌≡◌, ◌≢◌, ◌∙◌, ◌≤◌, ℕ, Bool, false, ◌&&◌, List, [], ◌∷◌, length, Option, Some, None, option_map, Ok, nat_lt, refl, sym, ap, subst, arith, codes, bytes_eq, and_parts, or_parts, false≢true, nat_tests, filter_map, AllByRecursion, Data, table, Members, no_members, member, same_key, get_member, as_str, max_rules, max_callers, first_some, answer_if, PolicyValue, policy_in_tree, entries, caller_in, table_entries, caller_entries, callers_among, is_bad_among, callers_of, text_at, pattern_in, pattern_at, rule_of, rules_among, bad_rule_among, bad_rule, rule_values, rules_of, has_days, has_bad_version, has_unknown_key, has_bad_caller, has_too_many, faults, IsNamed, HasNames, HasDays, IsNamedCaller, EachCallerOnce, IsPolicy, SpellsPolicy, read_callers, read_rules, Caller, BadVersion, UnknownKey, BadCaller, BadRule, TooMany, Rule, cond_some, same_Some}
 use Rattle.office_core.specs.Names.{is_name}
-use Rattle.office_core.specs.Policies.{PolicyValue, policy_in_tree, entries, caller_in, table_entries, caller_entries, callers_among, is_bad_among, callers_of, text_at, pattern_in, pattern_at, rule_of, rules_among, bad_rule_among, bad_rule, rule_values, rules_of, has_days, has_bad_version, has_unknown_key, has_bad_caller, has_too_many, faults, IsNamed, HasNames, HasDays, IsNamedCaller, EachCallerOnce, IsPolicy, SpellsPolicy}
-use Rattle.office_core.specs.PolicyReading.{rules_or, read_callers, read_rules}
-use Rattle.office_core.specs.declared.caller.Caller.{Caller}
-use Rattle.office_core.specs.declared.policy_fault.PolicyFault.TheVariants.{BadVersion, UnknownKey, BadCaller, BadRule, TooMany}
-use Rattle.office_core.proofs.OptionLemmas.{none_of, answer_if_none}
+use Rattle.office_core.proofs.OptionLemmas.{none_of, answer_if_none, by_Bool, by_Option, some_and_then}
 use Rattle.office_core.proofs.RuleParts.{rule_parts, all_rules, rule_has_days}
 use Rattle.office_core.proofs.TomlKeys.{IsNoKey, HasKeysOnce, AllSound, same_key-self, parsed_sound, member_sound}
 use Rattle.office_core.specs.declared.rule.Pattern.{Pattern}
 use Rattle.office_core.specs.declared.rule.Pattern.TheVariants as names
-use Rattle.office_core.specs.declared.rule.Rule.{Rule}
 
 -- ---- patterns
 
 pattern_named : (text : List ℕ) (pattern : Pattern) → pattern_in text ≡ Some pattern → IsNamed pattern
-pattern_named text pattern e = by_star (bytes_eq text (codes "*")) e
-  where
-    by_name : (test : Bool) → is_name text ≡ test → answer_if test (names.Named text) ≡ Some pattern → IsNamed pattern
-    by_name false is e = absurd cc
-    by_name true is e = let same : names.Named text ≡ pattern = cc in subst IsNamed same is
-
-    by_star : (test : Bool) → (if test then Some names.Any else answer_if (is_name text) (names.Named text)) ≡ Some pattern → IsNamed pattern
-    by_star true e = let same : names.Any ≡ pattern = cc in subst IsNamed same tt
-    by_star false e = by_name (is_name text) refl e
+pattern_named text pattern e =
+    by_Bool (bytes_eq text (codes "*"))
+    (λ star. subst IsNamed (same_Some names.Any pattern (rw star at e)) tt)
+    (λ other. let named = cond_some (is_name text) (names.Named text) pattern (rw other at e) in subst IsNamed named.1 named.0)
 
 named_at : (key : List ℕ) (ms : Members) (pattern : Pattern) → pattern_at key ms ≡ Some pattern → IsNamed pattern
-named_at key ms pattern e = by_text (text_at key ms) e
-  where
-    by_text : (text : Option (List ℕ)) → text >>= pattern_in ≡ Some pattern → IsNamed pattern
-    by_text None e = absurd cc
-    by_text (Some text) e = pattern_named text pattern e
+named_at key ms pattern e = let (text, _, read) = some_and_then (text_at key ms) pattern_in pattern e in pattern_named text pattern read
 
 -- ---- rules
 
@@ -56,30 +35,18 @@ among_have_days with_days found = all_rules HasDays with_days (rule_has_days wit
 
 -- what stands at a caller is that caller, with names
 caller_is : (entry : List ℕ × Data) (caller : Caller) → caller_in entry ≡ Some caller → (caller.name ≡ entry.0) × IsNamedCaller caller
-caller_is entry caller e = by_role (as_str entry.1) e
-  where
-    by_names : (role : List ℕ) (test : Bool) → (is_name entry.0 && is_name role) ≡ test → answer_if test (record { name = entry.0; role = role }) ≡ Some caller
-        → (caller.name ≡ entry.0) × IsNamedCaller caller
-    by_names role false is made = absurd cc
-    by_names role true is made =
-        let both = and_parts (is_name entry.0) (is_name role) is in
-        let read : Caller = record { name = entry.0; role = role } in
-        let same : read ≡ caller = cc in
-        subst (λ (c : Caller). (c.name ≡ entry.0) × IsNamedCaller c) same (refl, both)
+caller_is entry caller e =
+    let (role, _, read) = some_and_then (as_str entry.1) _ caller e in
+    let made = cond_some (is_name entry.0 && is_name role) (record { name = entry.0; role = role }) caller read in
+    subst (λ (c : Caller). (c.name ≡ entry.0) × IsNamedCaller c) made.1 (refl, and_parts (is_name entry.0) (is_name role) made.0)
 
-    by_role : (role : Option (List ℕ)) → (role >>= λ role. answer_if (is_name entry.0 && is_name role) (record { name = entry.0; role = role })) ≡ Some caller
-        → (caller.name ≡ entry.0) × IsNamedCaller caller
-    by_role None made = absurd cc
-    by_role (Some role) made = by_names role (is_name entry.0 && is_name role) refl made
-
-one_more_caller : (P : Caller → Type 0) (entry : List ℕ × Data) (entries : List (List ℕ × Data)) (found : Option Caller) → caller_in entry ≡ found → ((caller : Caller) → caller_in entry ≡ Some caller → P caller)
+one_more_caller : (P : Caller → Type 0) (entry : List ℕ × Data) (entries : List (List ℕ × Data)) → ((caller : Caller) → caller_in entry ≡ Some caller → P caller)
     → AllByRecursion P (filter_map caller_in entries) → AllByRecursion P (filter_map caller_in (entry ∷ entries))
-one_more_caller P entry entries None is here more = rw is more
-one_more_caller P entry entries (Some caller) is here more = rw is (here caller is, more)
+one_more_caller P entry entries here more = by_Option (caller_in entry) (λ none. rw none more) (λ caller is. rw is (here caller is, more))
 
 callers_named : (entries : List (List ℕ × Data)) → AllByRecursion IsNamedCaller (filter_map caller_in entries)
 callers_named [] = tt
-callers_named (entry ∷ entries) = one_more_caller IsNamedCaller entry entries (caller_in entry) refl (λ caller is. (caller_is entry caller is).1) (callers_named entries)
+callers_named (entry ∷ entries) = one_more_caller IsNamedCaller entry entries (λ caller is. (caller_is entry caller is).1) (callers_named entries)
 
 callers_among_named : (found : Option (List (List ℕ × Data))) → AllByRecursion IsNamedCaller (callers_among found)
 callers_among_named None = tt
@@ -89,32 +56,23 @@ callers_among_named (Some entries) = callers_named entries
 no_such_caller : (key : List ℕ) (ms : Members) → IsNoKey key ms → AllByRecursion (λ other. key ≢ other.name) (filter_map caller_in (entries ms))
 no_such_caller key no_members none = tt
 no_such_caller key (member l d ms) none =
-    one_more_caller (λ other. key ≢ other.name) (l, d) (entries ms) (caller_in (l, d)) refl
+    one_more_caller (λ other. key ≢ other.name) (l, d) (entries ms)
     (λ caller is e. false≢true (sym none.0 ∙ ap (same_key key) (sym (caller_is (l, d) caller is).0 ∙ sym e) ∙ same_key-self key))
     (no_such_caller key ms none.1)
 
 entries_once : (ms : Members) → HasKeysOnce ms → EachCallerOnce (filter_map caller_in (entries ms))
 entries_once no_members once = tt
-entries_once (member key d ms) once = by_caller (caller_in (key, d)) refl (entries_once ms once.1)
-  where
-    by_caller : (found : Option Caller) → caller_in (key, d) ≡ found → EachCallerOnce (filter_map caller_in (entries ms)) → EachCallerOnce (filter_map caller_in (entries (member key d ms)))
-    by_caller None is more = rw is more
-    by_caller (Some caller) is more =
-        rw is (subst (λ name. AllByRecursion (λ other. name ≢ other.name) (filter_map caller_in (entries ms))) (sym (caller_is (key, d) caller is).0) (no_such_caller key ms once.0), more)
+entries_once (member key d ms) once =
+    by_Option (caller_in (key, d)) (λ none. rw none (entries_once ms once.1))
+    (λ caller is. rw is (subst (λ name. AllByRecursion (λ other. name ≢ other.name) (filter_map caller_in (entries ms))) (sym (caller_is (key, d) caller is).0) (no_such_caller key ms once.0), entries_once ms once.1))
 
 -- each caller of a tree stands once
 pub callers_once : (tree : Members) → AllSound tree → EachCallerOnce (callers_of tree)
 callers_once tree sound = by_table (get_member (codes "callers") tree) refl
   where
     by_table : (found : Option Data) → get_member (codes "callers") tree ≡ found → EachCallerOnce (callers_among (table_entries found))
-    by_table None is = tt
     by_table (Some (table ms)) is = entries_once ms (member_sound (codes "callers") tree (table ms) sound is)
-    by_table (Some (array ds)) is = tt
-    by_table (Some (string t)) is = tt
-    by_table (Some (integer z)) is = tt
-    by_table (Some (float x)) is = tt
-    by_table (Some (boolean b)) is = tt
-    by_table (Some (datetime dt)) is = tt
+    by_table _ is = tt
 
 -- ---- policies
 
@@ -155,18 +113,10 @@ spelled_policy text policy spells =
 
 -- callers and rules that were read are those that stand there
 pub callers_read : (found : Option (List (List ℕ × Data))) (callers : List Caller) → read_callers found ≡ Ok callers → callers_among found ≡ callers
-callers_read found callers e = by_bad (is_bad_among found) e
-  where
-    by_bad : (bad : Bool) → (if bad then Err BadCaller else Ok (callers_among found)) ≡ Ok callers → callers_among found ≡ callers
-    by_bad true e = absurd cc
-    by_bad false e = cc
+callers_read found callers e = by_Bool (is_bad_among found) (λ bad. absurd (let read = rw bad at e in cc)) (λ good. let read = rw good at e in cc)
 
 pub rules_read : (with_days : Bool) (found : Option (List Data)) (rules : List Rule) → read_rules with_days found ≡ Ok rules → rules_among with_days found ≡ rules
-rules_read with_days found rules e = by_bad (bad_rule_among with_days found) e
-  where
-    by_bad : (bad : Option ℕ) → rules_or (rules_among with_days found) bad ≡ Ok rules → rules_among with_days found ≡ rules
-    by_bad (Some number) e = absurd cc
-    by_bad None e = cc
+rules_read with_days found rules e = by_Option (bad_rule_among with_days found) (λ good. let read = rw good at e in cc) (λ number bad. absurd (let read = rw bad at e in cc))
 
 -- what is read of a tree is a policy, where it isn't too much
 pub read_policy_is : (tree : Members) (callers : List Caller) (rules : List Rule) → EachCallerOnce (callers_of tree) → read_callers (caller_entries tree) ≡ Ok callers → read_rules (has_days tree) (rule_values tree) ≡ Ok rules

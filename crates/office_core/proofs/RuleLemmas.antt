@@ -1,39 +1,23 @@
 -- Which rule decides, and what follows from its effect.
-use Rattle.std.proofs.Common.{◌≡◌, ◌<◌, ◌<ℤ◌, ◌≤ℤ◌, ℕ, zero, suc, ◌+◌, Bool, true, false, ◌&&◌, ◌++◌, List, [], ◌∷◌, length, Option, Some, None, refl, sym, ap, ◌∙◌, inl, inr, arith, rules, slice_get, get_or, ◌≤◌, ◌↔◌, position, unwrap_or, int_lt, int_le, cond, if◌then◌else◌, option_and_then, option_map, not, nat_lt, length-append}
-use Rattle.std.specs.List.{position_or_len, prefix_len, AllByRecursion}
-use Rattle.std.proofs.lemmas.Bool.{cases_Bool, false≢true, and_parts}
+use Rattle.office_core.proofs.Common.{◌≡◌, ◌<◌, ◌<ℤ◌, ◌≤ℤ◌, ℕ, zero, suc, ◌+◌, Bool, true, false, ◌&&◌, ◌++◌, List, [], ◌∷◌, length, Option, Some, None, refl, sym, ap, ◌∙◌, arith, rules, slice_get, get_or, ◌≤◌, ◌↔◌, position, unwrap_or, int_lt, int_le, if◌then◌else◌, option_and_then, option_map, not, nat_lt, length-append, position_or_len, prefix_len, AllByRecursion, false≢true, and_parts, nat_tests, by_lt_z, none-some, same_Some, cond_some, option_and_then_some, slice_get_within, slice_get-get_or, get_or_from_slice_get, Date, epoch_day, first_some, first_day, last_day, IsDay, Question, HasNoDays, IsFirstMatch, NoneMatches, asked_on, counts_on, patterns_match, matches, matches_name, first_place, decision_of, decision_at, some_rule_allows, allows, Rule, Due, On, Never}
 use Rattle.std.proofs.Math.Bool.{and-true}
-use Rattle.std.proofs.lemmas.Bool.Decides.{nat_tests}
-use Rattle.std.proofs.lemmas.Int.{by_lt_z}
-use Rattle.std.proofs.lemmas.Option.{none-some, same_Some, cond_some, option_and_then_some, slice_get_within, slice_get-get_or, get_or_from_slice_get}
 use Rattle.std.proofs.lemmas.List.Quantifiers.{position-Some}
-use Rattle.jiff.specs.Types.{Date}
-use Rattle.jiff.specs.Words.{epoch_day}
 use Rattle.std.proofs.lemmas.Map.Keys.{any_passes_from_place}
-use Rattle.office_core.specs.FirstOf.{first_some}
-use Rattle.office_core.specs.Days.{first_day, last_day, IsDay}
-use Rattle.office_core.specs.Rules.{Question, HasNoDays, IsFirstMatch, NoneMatches, asked_on, counts_on, patterns_match, matches, matches_name, first_place, decision_of, decision_at, some_rule_allows, allows}
 use Rattle.office_core.specs.Verdicts.{verdict_of, is_denied, IsReadyForDisposal, hold_verdict, due_verdict}
 use Rattle.office_core.specs.declared.action.Action.TheVariants.{Dispose}
-use Rattle.office_core.specs.declared.rule.Rule.{Rule}
 use Rattle.office_core.specs.declared.rule.Effect.{Effect}
 use Rattle.office_core.specs.declared.rule.Effect.TheVariants as effects
 use Rattle.office_core.specs.declared.rule.Decision.{Decision}
-use Rattle.office_core.specs.declared.retention.Due.{Due}
-use Rattle.office_core.specs.declared.retention.Due.TheVariants.{On, Never}
 use Rattle.office_core.specs.declared.facts.Facts.{Facts}
 use Rattle.office_core.specs.declared.facts.Verdict.TheVariants.{DeniedByRule, DeniedByDefault, Gone, NotDue, Allow}
-use Rattle.office_core.proofs.OptionLemmas.{option_map_some}
+use Rattle.office_core.proofs.OptionLemmas.{option_map_some, by_Bool, by_Option}
 use Rattle.office_core.proofs.DayLemmas.{day_number, first_number, last_number}
 use Rattle.bag_text.proofs.ElementLemmas.{slice_get-append}
 
 prefix_len-append : {A : Type 0} (p : A → Bool) (xs ys : List A) → prefix_len p xs < length xs → prefix_len p (xs ++ ys) ≡ prefix_len p xs
 prefix_len-append p [] ys h = absurd (omega (arith, h))
 prefix_len-append p (x ∷ xs) ys h =
-    elim (cases_Bool (p x)) [
-      | inl hit ↦ rw hit (ap (λ n. 1 + n) (prefix_len-append p xs ys (omega (arith, rw hit at h))))
-      | inr miss ↦ rw miss refl
-    ]
+    by_Bool (p x) (λ hit. rw hit (ap (λ n. 1 + n) (prefix_len-append p xs ys (omega (arith, rw hit at h))))) (λ miss. rw miss refl)
 
 -- the first place of a list is that of a longer list
 position-append : {A : Type 0} (p : A → Bool) (xs ys : List A) (i : ℕ) → position p xs ≡ Some i → position p (xs ++ ys) ≡ Some i
@@ -55,10 +39,7 @@ first_place_at p (y ∷ ys) (suc i) x at passes before =
 fails_before_end : {A : Type 0} (p : A → Bool) (xs : List A) → length xs ≤ position_or_len p xs → AllByRecursion (λ x. p x ≡ false) xs
 fails_before_end p [] h = tt
 fails_before_end p (x ∷ xs) h =
-    elim (cases_Bool (p x)) [
-      | inl hit ↦ absurd (omega (arith, rw hit at h))
-      | inr miss ↦ (miss, fails_before_end p xs (omega (arith, rw miss at h)))
-    ]
+    by_Bool (p x) (λ hit. absurd (omega (arith, rw hit at h))) (λ miss. (miss, fails_before_end p xs (omega (arith, rw miss at h))))
 
 end_where_all_fail : {A : Type 0} (p : A → Bool) (xs : List A) → AllByRecursion (λ x. p x ≡ false) xs → position_or_len p xs ≡ length xs
 end_where_all_fail p [] h = refl
@@ -88,10 +69,7 @@ first_place_is rules asked place = (place_matches rules asked place, match_is_fi
 
 place_is_none : (p : Rule → Bool) (rules : List Rule) → position p rules ≡ None → length rules ≤ position_or_len p rules
 place_is_none p rules e =
-    elim (cases_Bool (nat_lt (position_or_len p rules) (length rules))) [
-      | inl within ↦ absurd (none-some (position_or_len p rules) (sym e ∙ rw within refl))
-      | inr past ↦ grind (arith, nat_tests, past)
-    ]
+    by_Bool (nat_lt (position_or_len p rules) (length rules)) (λ within. absurd (none-some (position_or_len p rules) (sym e ∙ rw within refl))) (λ past. grind (arith, nat_tests, past))
 
 none_at_end : (p : Rule → Bool) (rules : List Rule) → AllByRecursion (λ rule. p rule ≡ false) rules → position p rules ≡ None
 none_at_end p rules fail =
@@ -131,33 +109,25 @@ pub matches_by_patterns : (rule : Rule) (asked : Question) → HasNoDays rule �
 matches_by_patterns rule asked none is = ap (λ counts. patterns_match rule asked && counts) (counts_each_day rule asked.day none is) ∙ and-true (patterns_match rule asked)
 
 -- and so of such rules the first whose patterns match decides
-all_by_patterns : (rules : List Rule) (asked : Question) → AllByRecursion HasNoDays rules → IsDay asked.day
-    → prefix_len (λ r. not (matches r asked)) rules ≡ prefix_len (λ r. not (patterns_match r asked)) rules
-all_by_patterns [] asked none is = refl
-all_by_patterns (rule ∷ rules) asked none is =
-    ap (λ test. cond (not test) (1 + prefix_len (λ r. not (matches r asked)) rules) 0) (matches_by_patterns rule asked none.0 is)
-    ∙ ap (λ more. cond (not (patterns_match rule asked)) (1 + more) 0) (all_by_patterns rules asked none.1 is)
+alike_before : (p q : Rule → Bool) (rules : List Rule) → ((rule : Rule) → HasNoDays rule → p rule ≡ q rule) → AllByRecursion HasNoDays rules
+    → prefix_len (λ r. not (p r)) rules ≡ prefix_len (λ r. not (q r)) rules
+alike_before p q [] same none = refl
+alike_before p q (rule ∷ rules) same none = rw (same rule none.0, alike_before p q rules same none.1) refl
 
 pub decided_by_patterns : (rules : List Rule) (asked : Question) → AllByRecursion HasNoDays rules → IsDay asked.day
     → first_place rules asked ≡ position (λ rule. patterns_match rule asked) rules
-decided_by_patterns rules asked none is = ap (λ end. if nat_lt end (length rules) then Some end else None) (all_by_patterns rules asked none is)
+decided_by_patterns rules asked none is = ap (λ end. if nat_lt end (length rules) then Some end else None) (alike_before (λ r. matches r asked) (λ r. patterns_match r asked) rules (λ rule each. matches_by_patterns rule asked each is) none)
 
 -- and so matches on each of them alike
 matches_alike : (rule : Rule) (asked : Question) (day other : Date) → HasNoDays rule → IsDay day → IsDay other → matches rule (asked_on day asked) ≡ matches rule (asked_on other asked)
 matches_alike rule asked day other none is is_other = rw (counts_each_day rule day none is, counts_each_day rule other none is_other) refl
 
-all_alike : (rules : List Rule) (asked : Question) (day other : Date) → AllByRecursion HasNoDays rules → IsDay day → IsDay other
-    → prefix_len (λ r. not (matches r (asked_on day asked))) rules ≡ prefix_len (λ r. not (matches r (asked_on other asked))) rules
-all_alike [] asked day other none is is_other = refl
-all_alike (rule ∷ rules) asked day other none is is_other =
-    ap (λ test. cond (not test) (1 + prefix_len (λ r. not (matches r (asked_on day asked))) rules) 0) (matches_alike rule asked day other none.0 is is_other)
-    ∙ ap (λ more. cond (not (matches rule (asked_on other asked))) (1 + more) 0) (all_alike rules asked day other none.1 is is_other)
-
 -- rules that count on each day decide alike on each
 pub decided_alike : (rules : List Rule) (asked : Question) (day other : Date) → AllByRecursion HasNoDays rules → IsDay day → IsDay other
     → decision_of rules (asked_on day asked) ≡ decision_of rules (asked_on other asked)
 decided_alike rules asked day other none is is_other =
-    ap (λ end. option_and_then (λ place. option_map (decision_at place) (slice_get rules place)) (if nat_lt end (length rules) then Some end else None)) (all_alike rules asked day other none is is_other)
+    ap (λ end. option_and_then (λ place. option_map (decision_at place) (slice_get rules place)) (if nat_lt end (length rules) then Some end else None))
+    (alike_before (λ r. matches r (asked_on day asked)) (λ r. matches r (asked_on other asked)) rules (λ rule each. matches_alike rule asked day other each is is_other) none)
 
 -- ---- the rule that decides
 
@@ -217,18 +187,17 @@ kept_decision rules more asked decision e =
     ap (option_and_then (λ at. option_map (decision_at at) (slice_get (rules ++ more) at))) (position-append (λ r. matches r asked) rules more place first)
     ∙ ap (option_map (decision_at place)) (slice_get-append rules more place rule found) ∙ ap Some same
 
-allowed_by : (facts : Facts) (day : Date) (decision : Decision) (effect : Effect) (destroyed : Option Date) → facts.decision ≡ Some decision → decision.effect ≡ effect → facts.gone ≡ destroyed → facts.action ≡ Dispose → verdict_of facts day ≡ Allow → IsReadyForDisposal facts day
-allowed_by facts day decision effects.Deny destroyed a b c d is = let wrong : DeniedByRule decision.rule ≡ Allow = rw (a, b) at is in cc
-allowed_by facts day decision effects.Allow (Some on) a b c d is = let wrong : Gone on ≡ Allow = rw (a, b, c) at is in cc
-allowed_by facts day decision effects.Allow None a b c d is = ready facts day decision facts.hold facts.due a b c refl refl (rw (a, b, c, d) at is)
-
-allowed_from : (facts : Facts) (day : Date) (decision : Option Decision) → facts.decision ≡ decision → facts.action ≡ Dispose → verdict_of facts day ≡ Allow → IsReadyForDisposal facts day
-allowed_from facts day None a d is = let wrong : DeniedByDefault ≡ Allow = rw a at is in cc
-allowed_from facts day (Some decision) a d is = allowed_by facts day decision decision.effect facts.gone a refl refl d is
-
 -- an allowed disposal is ready
 pub allowed_disposal : (facts : Facts) (day : Date) → facts.action ≡ Dispose → verdict_of facts day ≡ Allow → IsReadyForDisposal facts day
-allowed_disposal facts day d is = allowed_from facts day facts.decision refl d is
+allowed_disposal facts day d is =
+    by_Option facts.decision (λ none. let wrong : DeniedByDefault ≡ Allow = rw none at is in cc)
+    (λ decision a. by_effect decision decision.effect a refl)
+  where
+    by_effect : (decision : Decision) (effect : Effect) → facts.decision ≡ Some decision → decision.effect ≡ effect → IsReadyForDisposal facts day
+    by_effect decision effects.Deny a b = let wrong : DeniedByRule decision.rule ≡ Allow = rw (a, b) at is in cc
+    by_effect decision effects.Allow a b =
+        by_Option facts.gone (λ kept. ready facts day decision facts.hold facts.due a b kept refl refl (rw (a, b, kept, d) at is))
+        (λ on gone. let wrong : Gone on ≡ Allow = rw (a, b, gone) at is in cc)
 
 ready_allows : (day date : Date) → epoch_day date ≤ℤ epoch_day day → unwrap_or (first_some (due_verdict day (On date) ∷ [])) Allow ≡ Allow
 ready_allows day date come =

@@ -1,22 +1,7 @@
 -- What a table that spells a rule says of each part of the rule.
-use Rattle.std.proofs.Common.{◌≡◌, ◌∙◌, ◌≤ℤ◌, ℕ, Bool, true, false, List, [], ◌∷◌, Option, Some, None, int_le, inl, inr, refl, sym, ap, subst, option_and_then, rules, Ordering, Less, Equal, Greater, nat_cmp, is_eq}
-use Rattle.std.specs.Prelude.{codes}
-use Rattle.std.specs.Cmp.Lexicographic.{slice_cmp}
-use Rattle.std.specs.Ordering.{match_ordering}
-use Rattle.std.specs.List.{list_all, filter_map, AllByRecursion}
-use Rattle.std.proofs.lemmas.Bool.{and_parts, false≢true}
+use Rattle.office_core.proofs.Common.{◌≡◌, ◌∙◌, ◌≤ℤ◌, ℕ, Bool, true, false, List, [], ◌∷◌, Option, Some, None, int_le, inl, inr, refl, sym, ap, subst, option_and_then, rules, nat_cmp, is_eq, codes, slice_cmp, list_all, filter_map, AllByRecursion, and_parts, false≢true, same_Some, bytes_eq-Decides, Date, epoch_day, Data, Members, no_members, member, get_member, as_str, as_table, first_day, last_day, IsDay, day_of, HasNoDays, entries, is_one_of, rule_keys, keys_of_rule, effect_at, action_at, pattern_at, day_in, day_at, first_at, last_at, days_from, days_at, rule_of, rule_of_value, rules_among, IsBound, WritesDays, HasDays, Rule}
 use Rattle.std.proofs.lemmas.Map.Text.{is_eq-slice_cmp}
-use Rattle.std.proofs.lemmas.Option.{same_Some}
-use Rattle.std.proofs.lemmas.Slice.Eq.{bytes_eq-Decides}
-use Rattle.jiff.specs.Types.{Date}
-use Rattle.jiff.specs.Words.{epoch_day}
-use Rattle.toml.specs.Data.{Data, Members, no_members, member, get_member, as_str, as_table}
-use Rattle.office_core.specs.Days.{first_day, last_day, IsDay}
-use Rattle.office_core.specs.DayReading.{day_of}
-use Rattle.office_core.specs.Rules.{HasNoDays}
-use Rattle.office_core.specs.Policies.{entries, is_one_of, rule_keys, keys_of_rule, effect_at, action_at, pattern_at, day_in, day_at, first_at, last_at, days_from, days_at, rule_of, rule_of_value, rules_among, IsBound, WritesDays, HasDays}
-use Rattle.office_core.specs.declared.rule.Rule.{Rule}
-use Rattle.office_core.proofs.OptionLemmas.{some_if, some_and_then}
+use Rattle.office_core.proofs.OptionLemmas.{some_if, some_and_then, by_Option, by_Ordering}
 use Rattle.office_core.proofs.DayTexts.{written_day}
 
 -- the parts of a rule are those that its table spells
@@ -57,16 +42,11 @@ pub all_rules : (P : Rule → Type 0) (with_days : Bool) → ((ms : Members) (ru
 all_rules P with_days each None = tt
 all_rules P with_days each (Some values) = all values
   where
-    one_more : (value : Data) (values : List Data) → AllByRecursion P (filter_map (rule_of_value with_days) values) → (found : Option Rule) → rule_of_value with_days value ≡ found
-        → AllByRecursion P (filter_map (rule_of_value with_days) (value ∷ values))
-    one_more value values more None is = rw is more
-    one_more value values more (Some rule) is =
-        let (ms, table, read) = some_and_then (as_table value) (rule_of with_days) rule is in
-        rw is (each ms rule read, more)
-
     all : (values : List Data) → AllByRecursion P (filter_map (rule_of_value with_days) values)
     all [] = tt
-    all (value ∷ values) = one_more value values (all values) (rule_of_value with_days value) refl
+    all (value ∷ values) =
+        by_Option (rule_of_value with_days value) (λ none. rw none (all values))
+        (λ rule is. let (ms, table, read) = some_and_then (as_table value) (rule_of with_days) rule is in rw is (each ms rule read, all values))
 
 -- ---- days
 
@@ -84,14 +64,12 @@ bounds_at ms first last e =
     (is_from ∙ ap Some same_from, is_until ∙ ap Some same_until, subst (λ (until : Date). epoch_day first ≤ℤ epoch_day until) same_until (subst (λ (from : Date). epoch_day from ≤ℤ epoch_day until) same_from order))
 
 bound_at : (key : List ℕ) (otherwise : Date) (ms : Members) (day : Date) → day_at key otherwise ms ≡ Some day → IsBound key otherwise ms day
-bound_at key otherwise ms day e = by_value (get_member key ms) refl e
-  where
-    by_value : (found : Option Data) → get_member key ms ≡ found → day_in otherwise found ≡ Some day → IsBound key otherwise ms day
-    by_value None is read = inr (is, sym (same_Some _ _ read))
-    by_value (Some value) is read =
-        let (text, written, reads) = some_and_then (as_str value) day_of day read in
-        let (in_office, same) = written_day text day reads in
-        inl (in_office, ap (option_and_then as_str) is ∙ written ∙ ap Some same)
+bound_at key otherwise ms day e =
+    by_Option (get_member key ms) (λ none. inr (none, sym (same_Some _ _ (rw none at e))))
+    (λ value is.
+    let (text, written, reads) = some_and_then (as_str value) day_of day (rw is at e) in
+    let (in_office, same) = written_day text day reads in
+    inl (in_office, ap (option_and_then as_str) is ∙ written ∙ ap Some same))
 
 bound_is_day : (key : List ℕ) (otherwise : Date) (ms : Members) (day : Date) → IsDay otherwise → IsBound key otherwise ms day → IsDay day
 bound_is_day key otherwise ms day is (inl written) = written.0
@@ -125,14 +103,10 @@ no_such_key : (keys : List (List ℕ)) (key : List ℕ) → is_one_of keys key �
 no_such_key keys key other no_members all = refl
 no_such_key keys key other (member l d ms) all =
     let both = and_parts (is_one_of keys l) (list_all (λ entry. is_one_of keys entry.0) (entries ms)) all in
-    by_order both.0 (slice_cmp nat_cmp key l) refl (no_such_key keys key other ms both.1)
-  where
-    by_order : is_one_of keys l ≡ true → (order : Ordering) → slice_cmp nat_cmp key l ≡ order → get_member key ms ≡ None → match_ordering order (get_member key ms) (Some d) (get_member key ms) ≡ None
-    by_order here Less is none = none
-    by_order here Equal is none =
-        let same : key ≡ l = (bytes_eq-Decides key l).0 (sym (is_eq-slice_cmp key l) ∙ ap is_eq is) in
-        absurd (false≢true (sym other ∙ ap (is_one_of keys) same ∙ here))
-    by_order here Greater is none = none
+    let none = no_such_key keys key other ms both.1 in
+    by_Ordering (slice_cmp nat_cmp key l) (λ less. rw less none)
+    (λ equal. let same : key ≡ l = (bytes_eq-Decides key l).0 (sym (is_eq-slice_cmp key l) ∙ ap is_eq equal) in absurd (false≢true (sym other ∙ ap (is_one_of keys) same ∙ both.0)))
+    (λ greater. rw greater none)
 
 pub rule_has_no_days : (ms : Members) (rule : Rule) → rule_of false ms ≡ Some rule → HasNoDays rule
 rule_has_no_days ms rule e =

@@ -1,18 +1,14 @@
 -- A table that stands at the top of a TOML text has each of its keys once.
-use Rattle.std.proofs.Common.{◌≡◌, ◌∙◌, ℕ, zero, suc, Bool, true, false, ◌==◌, ◌&&◌, List, [], ◌∷◌, length, drop, slice_index, Option, Some, None, option_map, option_and_then, refl, sym, ap, subst, Ordering, Less, Equal, Greater, nat_cmp, is_eq, if◌then◌else◌}
+use Rattle.office_core.proofs.Common.{◌≡◌, ◌∙◌, ℕ, zero, suc, Bool, true, false, List, [], ◌∷◌, length, drop, Option, Some, None, option_map, option_and_then, refl, sym, ap, subst, Ordering, Less, nat_cmp, is_eq, if◌then◌else◌, none-some, same_Some, option_and_then_some, slice_cmp, ordering_reverse, Data, string, array, table, no_items, Members, no_members, member, same_key, get_member}
 use Rattle.std.proofs.lemmas.Cmp.{nat_list_cmp_total}
-use Rattle.std.proofs.lemmas.Option.{none-some, same_Some, option_and_then_some}
 use Rattle.std.specs.Cmp.{tied_itself}
-use Rattle.std.specs.Cmp.Lexicographic.{slice_cmp}
-use Rattle.std.specs.Ordering.{match_ordering, ordering_reverse}
-use Rattle.toml_parser.specs.Lexical.{Read, left_bracket, right_bracket, first, skip_ws, skip_blank}
+use Rattle.toml_parser.specs.Lexical.{Read, right_bracket, skip_blank}
 use Rattle.toml_parser.specs.Strings.{Key, recursion_limit}
 use Rattle.toml_parser.specs.declared.scalar.Scalar.{Scalar}
-use Rattle.toml_parser.specs.declared.scalar.Scalar.TheVariants.{Boolean, Integer, Float, Datetime}
-use Rattle.toml.specs.Data.{Data, string, array, table, no_items, Members, no_members, member, same_key, get_member}
-use Rattle.toml.specs.Tables.{Origin, Node, Nodes, no_nodes, node, value, open_table, open_array, implicit, dotted, header, get_node, insert, replace, close, close_node, Edit, header_node, dot_node, by_header, by_dot, along_header, along_dots, Definition, key_value, std_table, array_table, Expression, new_node, redefine, at_found, at_key, put, Document, define_as, define}
-use Rattle.toml.specs.Parse.{read_map, after_byte, after_element, key_equals, keyval, items, members, scalar_data, atom, val, header_key, expression, ends_line, line, lines, skip_bom, parse_document}
-use Rattle.office_core.proofs.OptionLemmas.{option_map_some}
+use Rattle.toml_parser.specs.declared.scalar.Scalar.TheVariants.{Boolean}
+use Rattle.toml.specs.Tables.{Origin, Node, Nodes, no_nodes, node, value, open_table, open_array, implicit, dotted, header, get_node, insert, replace, close, close_node, Edit, header_node, dot_node, along_header, along_dots, Definition, key_value, std_table, array_table, Expression, new_node, redefine, at_key, put, Document, define_as, define}
+use Rattle.toml.specs.Parse.{read_map, after_byte, after_element, key_equals, keyval, items, members, scalar_data, atom, val, header_key, expression, line, lines, skip_bom, parse_document}
+use Rattle.office_core.proofs.OptionLemmas.{option_map_some, by_Bool, by_Option, by_Ordering, some_if}
 
 -- ---- what is shown
 
@@ -76,8 +72,7 @@ same_key-self k = rw (tied_itself nat_list_cmp_total k)
 
 is_eq-reverse : (o : Ordering) → is_eq (ordering_reverse o) ≡ is_eq o
 is_eq-reverse Less = refl
-is_eq-reverse Equal = refl
-is_eq-reverse Greater = refl
+is_eq-reverse _ = refl
 
 same_key-other : (k l : List ℕ) → same_key k l ≡ false → same_key l k ≡ false
 same_key-other k l other = ap is_eq (nat_list_cmp_total.antisymm l k) ∙ is_eq-reverse (slice_cmp nat_cmp k l) ∙ other
@@ -91,49 +86,29 @@ picked false a b x left right e = right e
 
 missing_new : (k : List ℕ) (ns : Nodes) → get_node k ns ≡ None → IsNew k ns
 missing_new k no_nodes none = tt
-missing_new k (node l x ns) none = by_key (same_key k l) refl none (missing_new k ns)
-  where
-    by_key : (test : Bool) → same_key k l ≡ test → (if test then Some x else get_node k ns) ≡ None → (get_node k ns ≡ None → IsNew k ns) → IsNew k (node l x ns)
-    by_key true same found more = absurd (none-some x (sym found))
-    by_key false other found more = (other, more found)
-
-inserted_new : (j k l : List ℕ) (x y : Node) (ns : Nodes) (o : Ordering) → same_key j k ≡ false → same_key j l ≡ false → IsNew j ns → IsNew j (insert k x ns)
-    → IsNew j (match_ordering o (node k x (node l y ns)) (node l x ns) (node l y (insert k x ns)))
-inserted_new j k l x y ns Less a b new more = (a, (b, new))
-inserted_new j k l x y ns Equal a b new more = (b, new)
-inserted_new j k l x y ns Greater a b new more = (b, more)
+missing_new k (node l x ns) none = by_Bool (same_key k l) (λ same. absurd (none-some x (sym (rw same at none)))) (λ other. (other, missing_new k ns (rw other at none)))
 
 insert_new : (j k : List ℕ) (x : Node) (ns : Nodes) → same_key j k ≡ false → IsNew j ns → IsNew j (insert k x ns)
 insert_new j k x no_nodes other new = (other, tt)
-insert_new j k x (node l y ns) other new = inserted_new j k l x y ns (slice_cmp nat_cmp k l) other new.0 new.1 (insert_new j k x ns other new.1)
-
-inserted_sound : (k l : List ℕ) (x y : Node) (ns : Nodes) (o : Ordering) → SoundNode x → IsNew k (node l y ns) → SoundNodes (node l y ns) → SoundNodes (insert k x ns)
-    → SoundNodes (match_ordering o (node k x (node l y ns)) (node l x ns) (node l y (insert k x ns)))
-inserted_sound k l x y ns Less here new sound more = (new, (here, sound))
-inserted_sound k l x y ns Equal here new sound more = (sound.0, (here, sound.1.1))
-inserted_sound k l x y ns Greater here new sound more = (insert_new l k x ns (same_key-other k l new.0) sound.0, (sound.1.0, more))
+insert_new j k x (node l y ns) other new =
+    by_Ordering (slice_cmp nat_cmp k l) (λ less. rw less (other, new)) (λ equal. rw equal (new.0, new.1)) (λ greater. rw greater (new.0, insert_new j k x ns other new.1))
 
 insert_sound : (k : List ℕ) (x : Node) (ns : Nodes) → SoundNode x → IsNew k ns → SoundNodes ns → SoundNodes (insert k x ns)
 insert_sound k x no_nodes here new sound = (tt, (here, tt))
 insert_sound k x (node l y ns) here new sound =
-    inserted_sound k l x y ns (slice_cmp nat_cmp k l) here new sound (insert_sound k x ns here new.1 sound.1.1)
-
-replaced_new : (j k l : List ℕ) (x y : Node) (ns : Nodes) (test : Bool) → IsNew j (node l y ns) → IsNew j (replace k x ns) → IsNew j (if test then node l x ns else node l y (replace k x ns))
-replaced_new j k l x y ns true new more = new
-replaced_new j k l x y ns false new more = (new.0, more)
+    by_Ordering (slice_cmp nat_cmp k l)
+    (λ less. rw less (new, (here, sound)))
+    (λ equal. rw equal (sound.0, (here, sound.1.1)))
+    (λ greater. rw greater (insert_new l k x ns (same_key-other k l new.0) sound.0, (sound.1.0, insert_sound k x ns here new.1 sound.1.1)))
 
 replace_new : (j k : List ℕ) (x : Node) (ns : Nodes) → IsNew j ns → IsNew j (replace k x ns)
 replace_new j k x no_nodes new = tt
-replace_new j k x (node l y ns) new = replaced_new j k l x y ns (same_key k l) new (replace_new j k x ns new.1)
-
-replaced_sound : (k l : List ℕ) (x y : Node) (ns : Nodes) (test : Bool) → SoundNode x → SoundNodes (node l y ns) → SoundNodes (replace k x ns)
-    → SoundNodes (if test then node l x ns else node l y (replace k x ns))
-replaced_sound k l x y ns true here sound more = (sound.0, (here, sound.1.1))
-replaced_sound k l x y ns false here sound more = (replace_new l k x ns sound.0, (sound.1.0, more))
+replace_new j k x (node l y ns) new = by_Bool (same_key k l) (λ same. rw same new) (λ other. rw other (new.0, replace_new j k x ns new.1))
 
 replace_sound : (k : List ℕ) (x : Node) (ns : Nodes) → SoundNode x → SoundNodes ns → SoundNodes (replace k x ns)
 replace_sound k x no_nodes here sound = tt
-replace_sound k x (node l y ns) here sound = replaced_sound k l x y ns (same_key k l) here sound (replace_sound k x ns here sound.1.1)
+replace_sound k x (node l y ns) here sound =
+    by_Bool (same_key k l) (λ same. rw same (sound.0, (here, sound.1.1))) (λ other. rw other (replace_new l k x ns sound.0, (sound.1.0, replace_sound k x ns here sound.1.1)))
 
 found_sound : (k : List ℕ) (x : Node) (ns : Nodes) → get_node k ns ≡ Some x → SoundNodes ns → SoundNode x
 found_sound k x no_nodes found sound = absurd (none-some x found)
@@ -157,13 +132,11 @@ header_sound edit keeps (open_array done last) y sound e =
     option_map_some (open_array done) (edit last) y e (λ new is same. subst SoundNode same tt)
 
 dot_sound : (edit : Edit) → Keeps edit → (x y : Node) → SoundNode x → dot_node edit x ≡ Some y → SoundNode y
-dot_sound edit keeps (value d) y sound e = absurd (none-some y e)
-dot_sound edit keeps (open_table header inner) y sound e = absurd (none-some y e)
 dot_sound edit keeps (open_table implicit inner) y sound e =
     option_map_some (open_table dotted) (edit inner) y e (λ new is same. subst SoundNode same (keeps inner new sound is))
 dot_sound edit keeps (open_table dotted inner) y sound e =
     option_map_some (open_table dotted) (edit inner) y e (λ new is same. subst SoundNode same (keeps inner new sound is))
-dot_sound edit keeps (open_array done last) y sound e = absurd (none-some y e)
+dot_sound edit keeps _ y sound e = absurd cc
 
 -- a table that is put there new
 table_put_sound : (origin : Origin) (k : List ℕ) (edit : Edit) → Keeps edit → (ns result : Nodes) → get_node k ns ≡ None → SoundNodes ns
@@ -179,25 +152,21 @@ node_put_sound step sound_step k x ns result found sound e =
     option_map_some (λ new. replace k new ns) (step x) result e
     (λ new is same. subst SoundNodes same (replace_sound k new ns (sound_step x new (found_sound k x ns found sound) is) sound))
 
-by_header_sound : (k : List ℕ) (edit : Edit) → Keeps edit → (ns result : Nodes) (found : Option Node) → get_node k ns ≡ found → SoundNodes ns → by_header k edit ns found ≡ Some result → SoundNodes result
-by_header_sound k edit keeps ns result None none sound e = table_put_sound implicit k edit keeps ns result none sound e
-by_header_sound k edit keeps ns result (Some x) found sound e = node_put_sound (header_node edit) (header_sound edit keeps) k x ns result found sound e
-
-by_dot_sound : (k : List ℕ) (edit : Edit) → Keeps edit → (ns result : Nodes) (found : Option Node) → get_node k ns ≡ found → SoundNodes ns → by_dot k edit ns found ≡ Some result → SoundNodes result
-by_dot_sound k edit keeps ns result None none sound e = table_put_sound dotted k edit keeps ns result none sound e
-by_dot_sound k edit keeps ns result (Some x) found sound e = node_put_sound (dot_node edit) (dot_sound edit keeps) k x ns result found sound e
-
 along_header_keeps : (path : List (List ℕ)) (edit : Edit) → Keeps edit → Keeps (along_header path edit)
 unfolding along_header
 along_header_keeps [] edit keeps ns result sound e = keeps ns result sound e
 along_header_keeps (k ∷ path) edit keeps ns result sound e =
-    by_header_sound k (along_header path edit) (along_header_keeps path edit keeps) ns result (get_node k ns) refl sound e
+    by_Option (get_node k ns)
+    (λ none. table_put_sound implicit k (along_header path edit) (along_header_keeps path edit keeps) ns result none sound (rw none at e))
+    (λ x found. node_put_sound (header_node (along_header path edit)) (header_sound (along_header path edit) (along_header_keeps path edit keeps)) k x ns result found sound (rw found at e))
 
 along_dots_keeps : (path : List (List ℕ)) (edit : Edit) → Keeps edit → Keeps (along_dots path edit)
 unfolding along_dots
 along_dots_keeps [] edit keeps ns result sound e = keeps ns result sound e
 along_dots_keeps (k ∷ path) edit keeps ns result sound e =
-    by_dot_sound k (along_dots path edit) (along_dots_keeps path edit keeps) ns result (get_node k ns) refl sound e
+    by_Option (get_node k ns)
+    (λ none. table_put_sound dotted k (along_dots path edit) (along_dots_keeps path edit keeps) ns result none sound (rw none at e))
+    (λ x found. node_put_sound (dot_node (along_dots path edit)) (dot_sound (along_dots path edit) (along_dots_keeps path edit keeps)) k x ns result found sound (rw found at e))
 
 -- what a line defines is sound
 abbrev SoundDefinition : Definition → Type 0
@@ -206,32 +175,20 @@ SoundDefinition _ = Unit {0}
 
 new_node_sound : (what : Definition) → SoundDefinition what → SoundNode (new_node what)
 new_node_sound (key_value d) here = here
-new_node_sound std_table here = tt
-new_node_sound array_table here = tt
+new_node_sound _ here = tt
 
 redefine_sound : (what : Definition) (x y : Node) → SoundNode x → redefine what x ≡ Some y → SoundNode y
 redefine_sound std_table (open_table implicit inner) y sound e = subst SoundNode (same_Some (open_table header inner) y e) sound
-redefine_sound std_table (open_table dotted inner) y sound e = absurd (none-some y e)
-redefine_sound std_table (open_table header inner) y sound e = absurd (none-some y e)
-redefine_sound std_table (value d) y sound e = absurd (none-some y e)
-redefine_sound std_table (open_array done last) y sound e = absurd (none-some y e)
 redefine_sound array_table (open_array done last) (open_array more next) sound e = tt
-redefine_sound array_table (open_array done last) (value d) sound e = absurd cc
-redefine_sound array_table (open_array done last) (open_table origin inner) sound e = absurd cc
-redefine_sound array_table (open_table origin inner) y sound e = absurd (none-some y e)
-redefine_sound array_table (value d) y sound e = absurd (none-some y e)
-redefine_sound (key_value d) x y sound e = absurd (none-some y e)
-
-at_found_sound : (k : List ℕ) (what : Definition) → SoundDefinition what → (ns result : Nodes) (found : Option Node) → get_node k ns ≡ found → SoundNodes ns → at_found k what ns found ≡ Some result → SoundNodes result
-at_found_sound k what here ns result None none sound e =
-    subst SoundNodes (same_Some (insert k (new_node what) ns) result e) (insert_sound k (new_node what) ns (new_node_sound what here) (missing_new k ns none) sound)
-at_found_sound k what here ns result (Some x) found sound e =
-    option_map_some (λ y. replace k y ns) (redefine what x) result e
-    (λ y is same. subst SoundNodes same (replace_sound k y ns (redefine_sound what x y (found_sound k x ns found sound) is) sound))
+redefine_sound _ _ _ sound e = absurd cc
 
 at_key_keeps : (k : List ℕ) (what : Definition) → SoundDefinition what → Keeps (at_key k what)
 unfolding at_key
-at_key_keeps k what here ns result sound e = at_found_sound k what here ns result (get_node k ns) refl sound e
+at_key_keeps k what here ns result sound e =
+    by_Option (get_node k ns)
+    (λ none. subst SoundNodes (same_Some (insert k (new_node what) ns) result (rw none at e)) (insert_sound k (new_node what) ns (new_node_sound what here) (missing_new k ns none) sound))
+    (λ x found. option_map_some (λ y. replace k y ns) (redefine what x) result (rw found at e)
+    (λ y is same. subst SoundNodes same (replace_sound k y ns (redefine_sound what x y (found_sound k x ns found sound) is) sound)))
 
 put_keeps : (key : Key) (d : Data) → IsSound d → Keeps (put key d)
 put_keeps key d here = along_dots_keeps key.0 (at_key key.1 (key_value d)) (at_key_keeps key.1 (key_value d) here)
@@ -240,12 +197,9 @@ define_sound : (doc : Document) (key : Key) (what : Definition) (result : Docume
 define_sound doc key (key_value d) result here sound e =
     option_map_some (λ root. (root, doc.1)) (along_header doc.1 (put key d) doc.0) result e
     (λ root is same. subst (λ (after : Document). SoundNodes after.0) same (along_header_keeps doc.1 (put key d) (put_keeps key d here) doc.0 root sound is))
-define_sound doc key std_table result here sound e =
-    option_map_some _ (along_header key.0 (at_key key.1 std_table) doc.0) result e
-    (λ root is same. subst (λ (after : Document). SoundNodes after.0) same (along_header_keeps key.0 (at_key key.1 std_table) (at_key_keeps key.1 std_table tt) doc.0 root sound is))
-define_sound doc key array_table result here sound e =
-    option_map_some _ (along_header key.0 (at_key key.1 array_table) doc.0) result e
-    (λ root is same. subst (λ (after : Document). SoundNodes after.0) same (along_header_keeps key.0 (at_key key.1 array_table) (at_key_keeps key.1 array_table tt) doc.0 root sound is))
+define_sound doc key what result here sound e =
+    option_map_some _ (along_header key.0 (at_key key.1 what) doc.0) result e
+    (λ root is same. subst (λ (after : Document). SoundNodes after.0) same (along_header_keeps key.0 (at_key key.1 what) (at_key_keeps key.1 what here) doc.0 root sound is))
 
 -- ---- values
 
@@ -258,9 +212,7 @@ mapped_sound f r d rest each e = option_map_some (λ p. (f p.0, p.1)) r (d, rest
 
 scalar_sound : (s : Scalar) → IsSound (scalar_data s)
 scalar_sound (Boolean b) = tt
-scalar_sound (Integer z) = tt
-scalar_sound (Float x) = tt
-scalar_sound (Datetime dt) = tt
+scalar_sound _ = tt
 
 atom_sound : ReadsSound atom
 unfolding atom
@@ -309,45 +261,28 @@ DefinesSound read = SoundDefinition read.0.1
 
 array_header_sound : (k : Read Key) (read : Expression × List ℕ)
     → option_and_then (λ k. option_map (λ left. ((k.0, array_table), left)) (after_byte right_bracket k.1)) k ≡ Some read → DefinesSound read
-array_header_sound None read e = absurd (none-some read e)
-array_header_sound (Some k) read e =
-    option_map_some (λ (left : List ℕ). ((k.0, array_table), left)) (after_byte right_bracket k.1) read e (λ left is same. subst DefinesSound same tt)
+array_header_sound k read e =
+    option_and_then_some _ k read e
+    (λ key is mapped. option_map_some (λ (left : List ℕ). ((key.0, array_table), left)) (after_byte right_bracket key.1) read mapped (λ left _ same. subst DefinesSound same tt))
 
 std_header_sound : (k : Read Key) (read : Expression × List ℕ) → read_map (λ k. (k, std_table)) k ≡ Some read → DefinesSound read
-std_header_sound None read e = absurd (none-some read e)
-std_header_sound (Some k) read e = subst DefinesSound (same_Some ((k.0, std_table), k.1) read e) tt
+std_header_sound k read e = option_map_some _ k read e (λ key is same. subst DefinesSound same tt)
 
-pair_sound : (text : List ℕ) (pair : Read (Key × Data)) (read : Expression × List ℕ) → keyval (val recursion_limit) text ≡ pair
-    → read_map (λ p. (p.0, key_value p.1)) pair ≡ Some read → DefinesSound read
-pair_sound text None read is e = absurd (none-some read e)
-pair_sound text (Some p) read is e =
-    subst DefinesSound (same_Some ((p.0.0, key_value p.0.1), p.1) read e) (keyval_sound (val recursion_limit) (val_sound recursion_limit) text p.0.0 p.0.1 p.1 is)
+pair_sound : (text : List ℕ) (read : Expression × List ℕ) → read_map (λ p. (p.0, key_value p.1)) (keyval (val recursion_limit) text) ≡ Some read → DefinesSound read
+pair_sound text read e =
+    option_map_some _ (keyval (val recursion_limit) text) read e
+    (λ p is same. subst DefinesSound same (keyval_sound (val recursion_limit) (val_sound recursion_limit) text p.0.0 p.0.1 p.1 is))
 
 expression_sound : (text : List ℕ) (read : Expression × List ℕ) → expression text ≡ Some read → DefinesSound read
 unfolding expression
 expression_sound text read e =
-    picked (first text == left_bracket && slice_index text 1 == left_bracket)
-    (option_and_then (λ (k : Key × List ℕ). option_map (λ (left : List ℕ). ((k.0, array_table), left)) (after_byte right_bracket k.1)) (header_key (drop 2 text)))
-    (if first text == left_bracket then read_map (λ (k : Key). (k, std_table)) (header_key (drop 1 text))
-    else read_map (λ (p : Key × Data). (p.0, key_value p.1)) (keyval (val recursion_limit) text))
-    read
-    (array_header_sound (header_key (drop 2 text)) read)
-    (picked (first text == left_bracket)
-    (read_map (λ (k : Key). (k, std_table)) (header_key (drop 1 text)))
-    (read_map (λ (p : Key × Data). (p.0, key_value p.1)) (keyval (val recursion_limit) text))
-    read
-    (std_header_sound (header_key (drop 1 text)) read)
-    (pair_sound text (keyval (val recursion_limit) text) read refl))
-    e
+    picked _ _ _ read (array_header_sound (header_key (drop 2 text)) read) (picked _ _ _ read (std_header_sound (header_key (drop 1 text)) read) (pair_sound text read)) e
 
 line_sound : (text : List ℕ) (read : Expression × List ℕ) → line text ≡ Some read → DefinesSound read
 unfolding line
 line_sound text read e =
     option_and_then_some _ (expression text) read e
-    (λ found is kept. picked (ends_line (skip_ws found.1)) (Some found) None read
-    (λ whole. subst DefinesSound (same_Some found read whole) (expression_sound text found is))
-    (λ none. absurd (none-some read none))
-    kept)
+    (λ found is kept. subst DefinesSound (same_Some found read (some_if _ _ read kept).1) (expression_sound text found is))
 
 lines_sound : (n : ℕ) (doc result : Document) (text : List ℕ) → SoundNodes doc.0 → lines n doc text ≡ Some result → SoundNodes result.0
 unfolding lines define
@@ -373,9 +308,6 @@ parsed_sound text tree e =
 
 pub member_sound : (k : List ℕ) (ms : Members) (d : Data) → AllSound ms → get_member k ms ≡ Some d → IsSound d
 member_sound k no_members d sound e = absurd (none-some d e)
-member_sound k (member l x ms) d sound e = by_order (slice_cmp nat_cmp k l) e (member_sound k ms d sound.1)
-  where
-    by_order : (o : Ordering) → match_ordering o (get_member k ms) (Some x) (get_member k ms) ≡ Some d → (get_member k ms ≡ Some d → IsSound d) → IsSound d
-    by_order Less is more = more is
-    by_order Equal is more = subst IsSound (same_Some x d is) sound.0
-    by_order Greater is more = more is
+member_sound k (member l x ms) d sound e =
+    let more = member_sound k ms d sound.1 in
+    by_Ordering (slice_cmp nat_cmp k l) (λ less. more (rw less at e)) (λ equal. subst IsSound (same_Some x d (rw equal at e)) sound.0) (λ greater. more (rw greater at e))

@@ -4,6 +4,7 @@ pub mod DayReading
 pub mod Retention
 pub mod RetentionReading
 pub mod Names
+pub mod Descriptions
 pub mod FirstOf
 pub mod Actions
 pub mod Rules

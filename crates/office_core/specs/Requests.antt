@@ -1,8 +1,8 @@
 -- Which requests there are: a request that is a value of the type asks only for these.
 use Rattle.std.specs.Prelude.{ℕ, ◌≤◌, Option, IfSome}
 use Rattle.office_core.specs.Bounds.{max_years}
-use Rattle.office_core.specs.Days.{IsDay}
-use Rattle.office_core.specs.Names.{IsName, IsAccession, IsMatter}
+use Rattle.office_core.specs.Descriptions.{IsDescription}
+use Rattle.office_core.specs.Names.{IsName, IsMatter}
 use Rattle.office_core.specs.declared.request.Request.{Request}
 use Rattle.office_core.specs.declared.request.Request.TheVariants.{DefineClass, DefineCollection, Deposit, List as ListDeposits, Record, Holds, DownloadBag, DownloadFile, Audit, HoldDeposit, HoldCollection, HoldClass, Release, Dispose, DueList}
 
@@ -10,11 +10,11 @@ use Rattle.office_core.specs.declared.request.Request.TheVariants.{DefineClass, 
 abbrev pub IsYears : Option ℕ → Type 0
 IsYears years = IfSome years (λ count. count ≤ max_years)
 
--- its names are names, its accession an accession and its matter a matter; its years and its closing day are in their ranges
+-- its names are names and its matter a matter; its description and its years are in their ranges
 abbrev pub IsRequest : Request → Type 0
 IsRequest (DefineClass name years) = IsName name × IsYears years
 IsRequest (DefineCollection name) = IsName name
-IsRequest (Deposit collection class accession closed bag) = IsName collection × IsName class × IsAccession accession × IsDay closed
+IsRequest (Deposit description bag) = IsDescription description
 IsRequest (ListDeposits collection class) = IfSome collection IsName × IfSome class IsName
 IsRequest (HoldDeposit deposit matter) = IsMatter matter
 IsRequest (HoldCollection collection matter) = IsName collection × IsMatter matter

@@ -1,22 +1,19 @@
 //! What the office answers.
 
 use crate::day::Day;
-use crate::names::{OwnedAccession, OwnedMatter, OwnedName};
+use crate::description::OwnedDescription;
+use crate::names::{OwnedMatter, OwnedName};
 use crate::refusal::Refusal;
 use crate::retention::{Due, Years};
 use crate::sequence::Sequence;
 use crate::text::FaultText;
-use bag_check::BagReport;
+use bag_text::BagReport;
 
 /// What is recorded of a deposit.
 #[derive(Debug, Drop)]
 pub struct DepositRecord {
     pub number: u32,
-    pub accession: OwnedAccession,
-    pub collection: OwnedName,
-    pub class: OwnedName,
-    /// The day on which the records were closed.
-    pub closed: Day,
+    pub description: OwnedDescription,
     /// The day of the deposit.
     pub deposited: Day,
     /// How many files the payload has.

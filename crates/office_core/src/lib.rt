@@ -9,6 +9,7 @@ mod closing;
 mod date;
 mod day;
 mod deciding;
+mod description;
 mod facts;
 pub mod laws;
 mod limits;
@@ -34,6 +35,7 @@ pub use closing::{due, due_date};
 pub use date::Date;
 pub use day::{Day, FIRST_DAY_NUMBER, LAST_DAY_NUMBER};
 pub use deciding::{denial_verdict, verdict};
+pub use description::{Description, DescriptionOf, OwnedDescription};
 pub use facts::{Facts, Verdict};
 pub use limits::Limits;
 pub use names::{

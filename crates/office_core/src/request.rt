@@ -4,8 +4,8 @@ ghost use Rattle.std.specs.Prelude.{IfSome};
 ghost use Rattle.office_core.specs.Names.{IsName};
 ghost use Rattle.office_core.specs.Requests.{IsRequest};
 
-use crate::day::Day;
-use crate::names::{Accession, Matter, Name};
+use crate::description::Description;
+use crate::names::{Matter, Name};
 use crate::retention::Years;
 
 /// What a caller asks of the office. Deposits and holds are asked for by their numbers, from 1.
@@ -22,11 +22,7 @@ pub enum Request<'a> {
     },
     /// Deposit the bag whose transfer form the bytes are.
     Deposit {
-        collection: Name<'a>,
-        class: Name<'a>,
-        accession: Accession<'a>,
-        /// The day on which the records were closed.
-        closed: Day,
+        description: Description<'a>,
         bag: &'a [u8],
     },
     /// List the kept deposits: of one collection, of one class, or of all.
@@ -92,8 +88,8 @@ fn prove_optional_name(name: &Option<Name<'_>>)
 }
 
 impl Request<'_> {
-    /// Each part of the request is in its range: names, the accession and the matter have their
-    /// forms, the years are at most 200, and the closing day is a day of the office.
+    /// Each part of the request is in its range: names and the matter have their forms, the years are
+    /// at most 200, and a description is in its range.
     ///
     /// It does nothing when it runs. Code that has a request calls it where a proof needs the fact.
     pub fn prove_in_range(&self)
@@ -107,17 +103,8 @@ impl Request<'_> {
             Request::DefineCollection { name } => {
                 let _name = name.as_str();
             }
-            Request::Deposit {
-                collection,
-                class,
-                accession,
-                closed,
-                ..
-            } => {
-                let _collection = collection.as_str();
-                let _class = class.as_str();
-                let _accession = accession.as_str();
-                let _closed = closed.date();
+            Request::Deposit { description, .. } => {
+                description.prove_in_range();
             }
             Request::List { collection, class } => {
                 prove_optional_name(collection);

@@ -1,12 +1,10 @@
 -- How a transaction ends.
-use Rattle.std.proofs.Common.{◌≡◌, ◌⊎◌, inl, inr, true, false, Result, Ok, Err, IfOk, OnOk, IsOkAnd, IsTrue, refl, sym, subst, ap, ◌∙◌, true≢false, arith}
-use Rattle.office_engine.proofs.Common.{Ghosts, Trees, Database, Held, state, State, HasCleanDisk, Survives, IsRolledBack, survives_then, CommitsNothing, Continues, TableFault, Answer, History, answer, IsLegal, Item, Pictures, IsOfficeWith, Rows, RowsMake, Finds, IsKeptBy, IsLegalAndKept, after_item}
+use Rattle.office_engine.proofs.Common.{◌≡◌, ◌⊎◌, inl, inr, true, false, Result, Ok, Err, IfOk, OnOk, IsOkAnd, IsTrue, refl, sym, subst, ap, ◌∙◌, true≢false, arith, Ghosts, Trees, Database, Held, state, State, HasCleanDisk, Survives, IsRolledBack, survives_then, TableFault, Answer, History, answer, IsLegal, Item, Pictures, IsOfficeWith, Rows, RowsMake, Finds, IsStoredBy, IsLegalAndStored, after_item, Shows, HasSameTables}
+use Rattle.office_contents.specs.Calls.{CommitsNothing, Continues}
 use Rattle.sqlite.specs.Steps.{FailsToCommit}
 use Rattle.sqlite.specs.declared.error.Error.{Error}
-use Rattle.sqlite.specs.State.{Shows}
 use Rattle.sqlite.proofs.Callers.{survives_begin}
 use Rattle.sql_meaning.specs.Inside.{GoesOn}
-use Rattle.office_engine.specs.Keeping.{KeepsTables}
 
 -- ---- what an office has
 
@@ -71,7 +69,7 @@ module _ {S T E : Type 0} {g : Ghosts S} {first last : Held S} {done : Result T 
     inside = inside_ok (state g (record first { in_transaction = true })) (state g last) done refl (it.goes_on clean)
 
     -- rolled back: the tables are as they were
-    pub unchanged : IsRolledBack (state g last) (state g end) → KeepsTables (state g first) (state g end)
+    pub unchanged : IsRolledBack (state g last) (state g end) → HasSameTables (state g first) (state g end)
     unchanged back is_open =
         let kept = it.stays.kept clean refl in
         let was = back.was_open is_open in
@@ -134,13 +132,13 @@ module _ {X T : Type 0} (a : Account X) (Makes : X → T → X → Type 0) where
 
   -- what is committed is kept, and nothing else is left
   module _ {S E : Type 0} {g : Ghosts S} {first last : Held S} {done : Result T E} (it : IsInside g first last done) (makes : MakesInside g first last done) (end : Held S) (clean : HasCleanDisk (state g last)) (given : T) (is : done ≡ Ok given) where
-    abbrev pub IsKeptAs : X → State → Type 0
-    IsKeptAs y s = Keeps (a.Is y) s × (IsSettled s → (left : Trees) → s.may_leave left → Leaves (a.Is y) left)
+    abbrev pub IsStoredAs : X → State → Type 0
+    IsStoredAs y s = Keeps (a.Is y) s × (IsSettled s → (left : Trees) → s.may_leave left → Leaves (a.Is y) left)
 
     pub made_inside : (x : X) → a.Legal x → Keeps (a.Is x) (state g first) → (y : X) × Makes x given y × a.Legal y × a.Is y (state g last).now
     made_inside x legal keeps = rw is at (makes clean x legal (keeps (was_open it end clean given is)).0)
 
-    pub committed_as : Shows (state g last) (state g end) (state g last).now (state g last).now false → (x : X) → a.Legal x → Keeps (a.Is x) (state g first) → (y : X) × Makes x given y × a.Legal y × IsKeptAs y (state g end)
+    pub committed_as : Shows (state g last) (state g end) (state g last).now (state g last).now false → (x : X) → a.Legal x → Keeps (a.Is x) (state g first) → (y : X) × Makes x given y × a.Legal y × IsStoredAs y (state g end)
     committed_as shows x legal keeps =
         let made = made_inside x legal keeps in (
           made.0,
@@ -169,7 +167,7 @@ module _ {S T : Type 0} (g : Ghosts S) (first last end : Held S) (is_so : Histor
     (stays : CommitsNothing g (record first { in_transaction = true }) last) where
   pub found_kept : (found : Result T TableFault) → Continues g (record first { in_transaction = true }) last found → Finds g (record first { in_transaction = true }) last found is_so
       → HasCleanDisk (state g last) → IsRolledBack (state g last) (state g end)
-      → IfOk found (λ x. (h : History) → IsLegal h → IsKeptBy h (state g first) → IsLegalAndKept h (state g end) × is_so h x)
+      → IfOk found (λ x. (h : History) → IsLegal h → IsStoredBy h (state g first) → IsLegalAndStored h (state g end) × is_so h x)
   found_kept (Err e) goes finds clean back = tt
   found_kept (Ok x) goes finds clean back = λ h legal keeps.
       let ok : Result T TableFault = Ok x in

@@ -1,9 +1,7 @@
 -- What may be found after a run.
-use Rattle.std.proofs.Common.{◌≡◌, ◌≢◌, ◌⊎◌, inl, inr, ℕ, zero, suc, List, [], ◌∷◌, ◌++◌, All, drop, refl, sym, subst, ◌∙◌}
-use Rattle.office_engine.proofs.Common.{All-head, All-tail, Answer, History, Change, change, IsLater, Item, Run, grown_by_none, IsFoundAfter}
+use Rattle.office_engine.proofs.Common.{◌≡◌, ◌≢◌, ◌⊎◌, inl, inr, ℕ, zero, suc, List, [], ◌∷◌, ◌++◌, All, drop, refl, sym, subst, ◌∙◌, All-head, All-tail, Answer, History, Change, change, IsLater, Item, Run, grown_by_none, IsFoundAfter, IsFailure}
 use Rattle.office_core.specs.declared.answer.Answer.TheVariants.{Refused}
 use Rattle.office_core.specs.declared.refusal.Refusal.TheVariants.{Memory, Store}
-use Rattle.office_history.specs.Runs.{IsFailure}
 
 pub failure_or : (given : Answer) → IsFailure given ⊎ (IsFailure given → ⊥)
 failure_or (Refused Memory) = inl tt

@@ -3,12 +3,13 @@ pub mod Accepted
 pub mod Ends
 pub mod Turn
 pub mod FoundAfter
-pub mod Kept
+pub mod Stored
 pub mod RunTurns
 pub mod Upgraded
 pub mod RowsAccepted
-pub mod ServedByRows
+pub mod StepsByRows
 pub mod SameOnce
 pub mod StockTold
 pub mod OtherBytes
 pub mod ServedWhole
+pub mod Lemmas

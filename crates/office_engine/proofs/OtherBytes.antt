@@ -1,6 +1,5 @@
 -- What is served where bytes of contents differ from those that were deposited: those that were deposited, or none.
-use Rattle.std.proofs.Common.{◌≡◌, ℕ, ℤ, pos, Bool, true, false, if◌then◌else◌, List, [], ◌∷◌, map, Option, Some, None, is_none, option_map, refl, sym, ap, subst, ◌∙◌, true≢false}
-use Rattle.office_engine.proofs.Common.{AllByRecursion, list_all, and_parts, same_Some, bytes_eq-Decides, is_good, File, set_text, Database, map-map, all_from, all_has, ◌>>=◌, Answer, Refusal, Request, DownloadBag, DownloadFile, ContentRow, FileRow, Tables, file_at, this_version, DiffersInBytes, content_at, is_intact, references_of, IsOffice, contents_of, tables_of, each_found, file_answer, History, picture, IsLegal, content_stored, files_by_path, path_cmp, stored_files, Visit, allowed_rows, serve, serve_unless, Rows, is_intact_at, rows_of, Pictures, serve_rows}
+use Rattle.office_engine.proofs.Common.{◌≡◌, ℕ, ℤ, pos, Bool, true, false, if◌then◌else◌, List, [], ◌∷◌, map, Option, Some, None, is_none, option_map, refl, sym, ap, subst, ◌∙◌, true≢false, AllByRecursion, list_all, and_parts, same_Some, bytes_eq-Decides, is_good, File, set_text, Database, map-map, all_from, all_has, ◌>>=◌, Answer, Refusal, Request, DownloadBag, DownloadFile, ContentRow, FileRow, Tables, file_at, this_version, DiffersInBytes, content_at, is_intact, references_of, IsOffice, contents_of, tables_of, each_found, file_answer, History, picture, IsLegal, content_stored, files_by_path, path_cmp, stored_files, Visit, allowed_rows, serve, serve_unless, Rows, is_intact_at, rows_of, Pictures, serve_rows, files_of, allowed_answer, refusal}
 use Rattle.bag_text.specs.BagList.{list_fault}
 use Rattle.std.specs.Cmp.Lexicographic.{on_texts, slice_cmp}
 use Rattle.std.specs.Ordering.{nat_cmp}
@@ -10,15 +9,12 @@ use Rattle.sqlite_keyed.specs.Lists.{sort_by}
 use Rattle.sqlite_keyed.proofs.SortLemmas.{IsPermutation-sort_by, sort_by-map}
 use Rattle.sqlite_trees.proofs.ListLemmas.{all-permutation}
 use Rattle.office_core.specs.declared.answer.Answer.TheVariants as answers
-use Rattle.office_rows.specs.Rows.{files_of}
 use Rattle.office_tables.proofs.OtherBytes.{digested as row_digested, other_tables, same_file, same_files}
 use Rattle.office_by_rows.specs.Answers as told
-use Rattle.office_by_rows.specs.Answers.{allowed_answer}
-use Rattle.office_by_rows.specs.Refusals.{refusal}
 use Rattle.office_refines.specs.Refining.{HasBagOf, refusal_before}
 use Rattle.office_engine.specs.OtherBytes.{AreUnderDigests, HasDigestAt, HasDigestsOf, IsUnderDigest, digested}
 use Rattle.office_engine.proofs.RowsAccepted.{both_told}
-use Rattle.office_engine.proofs.ServedByRows.{served_parts}
+use Rattle.office_engine.proofs.StepsByRows.{served_parts}
 
 all_passed : {X : Type 0} (p : X → Bool) (xs : List X) → list_all p xs ≡ true → AllByRecursion (λ x. p x ≡ true) xs
 all_passed p [] e = tt
@@ -58,17 +54,14 @@ content_told None bytes e = absurd (true≢false (ap is_refused (same_Some _ _ e
 content_told (Some content) bytes e = ap Some (ap bytes_in (same_Some _ _ e))
 
 pub file_told : (b : Bool) (o : Option FileRow) (bytes : List ℕ) → (if b then option_map (λ (f : FileRow). f.content) o else None) ≡ Some bytes → (f : FileRow) × (o ≡ Some f) × (f.content ≡ bytes)
-file_told false o bytes e = absurd cc
-file_told true None bytes e = absurd cc
 file_told true (Some f) bytes e = (f, refl, same_Some _ _ e)
+file_told _ _ bytes e = absurd cc
 
 -- another content at the same place, of the same digest
 other_content : (bytes : List ℕ) (b : Bool) (o p : Option FileRow) → option_map (λ (f : FileRow). sha256 f.content) o ≡ option_map (λ (f : FileRow). sha256 f.content) p → (if b then option_map (λ (f : FileRow). f.content) o else None) ≡ Some bytes
     → (kept : List ℕ) × ((if b then option_map (λ (f : FileRow). f.content) p else None) ≡ Some kept) × (sha256 bytes ≡ sha256 kept)
-other_content bytes false o p same e = absurd cc
-other_content bytes true None p same e = absurd cc
-other_content bytes true (Some f) None same e = absurd cc
 other_content bytes true (Some f) (Some g) same e = (g.content, refl, ap sha256 (sym (same_Some _ _ e)) ∙ same_Some _ _ same)
+other_content bytes _ _ _ same e = absurd cc
 
 form_told : (b : Bool) (files : List File) (bytes : List ℕ) → (if b then Some (answers.Bag (set_text files)) else None) ≡ Some (answers.Bag bytes) → bytes ≡ set_text files
 form_told true files bytes e = sym (ap bytes_in (same_Some _ _ e))

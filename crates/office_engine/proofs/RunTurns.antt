@@ -1,7 +1,5 @@
 -- Items of a run in turn.
-use Rattle.std.proofs.Common.{◌≡◌, ◌⊎◌, inl, inr, ◌≤◌, ◌<◌, refl, ℕ, suc, ◌+◌, List, [], ◌∷◌, ◌++◌, take, length, get_or, Some, Result, Ok, Err, OnErr, Bool, true, false, IsTrue, true≢false, subst, sym, ap, ◌∙◌, arith}
-use Rattle.office_engine.proofs.Common.{cases_Bool, take_more, take_all, All-nil, All-cons, same_Some, Trees, Ghosts, State, HasCleanDisk, Survives, Held, state, Answer, History, with_changes, change, Item, Run, grown_by_none, visit_on, Rows, RowsMake, RowsRun, AllStayShut, IsFoundBy, IsLeftOf, IsTurn, InTurn, LeavesRun, LeavesRunRows, Runs, RunsRows, after_item, is_accepted}
-use Rattle.office_history.specs.Runs.{IsFailure}
+use Rattle.office_engine.proofs.Common.{◌≡◌, ◌⊎◌, inl, inr, ◌≤◌, ◌<◌, refl, ℕ, suc, ◌+◌, List, [], ◌∷◌, ◌++◌, take, length, get_or, Some, Result, Ok, Err, OnErr, false, IsTrue, true≢false, subst, sym, ap, ◌∙◌, arith, cases_Bool, take_more, take_all, All-nil, All-cons, same_Some, Trees, Ghosts, State, HasCleanDisk, Survives, Held, state, Answer, History, with_changes, change, Item, Run, grown_by_none, visit_on, Rows, RowsMake, RowsRun, AllStayShut, IsFoundBy, IsLeftOf, IsTurn, InTurn, LeavesRun, LeavesRunRows, Runs, RunsRows, after_item, is_accepted, IsFailure}
 use Rattle.office_engine.proofs.Ends.{Account, Keeps, IsSettled, Leaves, MakesHistory, MakesRows, all_rows, histories, left_settled}
 use Rattle.office_engine.proofs.FoundAfter.{changes_or, failure_or}
 use Rattle.office_engine.proofs.RowsAccepted.{rows_stay}
@@ -19,9 +17,8 @@ module _ {S : Type 0} (g : Ghosts S) where
   turns_more : (old mid new : Held S) (items : List Item) (told : List Answer) (item : Item) (given : Answer) → InTurn g old mid items told → IsTurn (state g mid) (state g new) item given
       → InTurn g old new (items ++ item ∷ []) (told ++ given ∷ [])
   turns_more old mid new [] [] item given turns turn = (new, subst (λ (h : Held S). IsTurn (state g h) (state g new) item given) turns turn, refl)
-  turns_more old mid new [] (a ∷ told) item given turns turn = absurd turns
-  turns_more old mid new (i ∷ items) [] item given turns turn = absurd turns
   turns_more old mid new (i ∷ items) (a ∷ told) item given turns turn = (turns.0, turns.1, turns_more turns.0 mid new items told item given turns.2 turn)
+  turns_more old mid new _ _ item given turns turn = absurd turns
 
   pub turns_next : (old mid new : Held S) (items : List Item) (index : ℕ) (item : Item) (told : List Answer) (given : Answer) → index < length items → item ≡ get_or items index item
       → InTurn g old mid (take index items) told → IsTurn (state g mid) (state g new) item given → InTurn g old new (take (index + 1) items) (told ++ given ∷ [])
@@ -37,9 +34,8 @@ module _ {S : Type 0} (g : Ghosts S) where
       → ((old mid : Held S) (item : Item) (given : Answer) (items : List Item) (told : List Answer) → IsTurn (state g old) (state g mid) item given → InTurn g mid new items told → P mid items told → P old (item ∷ items) (given ∷ told))
       → (old : Held S) (items : List Item) (told : List Answer) → InTurn g old new items told → P old items told
   turns_fold new P none one old [] [] turns = subst (λ (s : Held S). P s [] []) turns none
-  turns_fold new P none one old [] (given ∷ told) turns = absurd turns
-  turns_fold new P none one old (item ∷ items) [] turns = absurd turns
   turns_fold new P none one old (item ∷ items) (given ∷ told) turns = one old turns.0 item given items told turns.1 turns.2 (turns_fold new P none one turns.0 items told turns.2)
+  turns_fold new P none one old _ _ turns = absurd turns
 
   -- over a store that a fault has shut, each is a failure
   pub turns_shut : (old new : Held S) (items : List Item) (told : List Answer) → InTurn g old new items told → AllStayShut (state g old) (state g new) told
@@ -64,10 +60,6 @@ module _ {S : Type 0} (g : Ghosts S) where
       ]) old
 
   -- ---- in an account of what the office has
-
-  open_or : (is_open : Bool) → IsTrue is_open ⊎ (is_open ≡ false)
-  open_or true = inl refl
-  open_or false = inr refl
 
   module _ {X : Type 0} (a : Account X) (Makes : Item → X → Answer → X → Type 0) (Adds : X → Item → X → Type 0) (Ran : X → List Item → List Answer → X → Type 0) where
     abbrev Steps : Item → X → Answer → X → Type 0
@@ -140,7 +132,7 @@ module _ {S : Type 0} (g : Ghosts S) where
         turns_left old new items told turns clean =
             turns_fold new (λ s items told. (x : X) → a.Legal x → IsTrue (state g s).is_open → Keeps (a.Is x) (state g s) → (left : Trees) → (state g new).may_leave left → LeftOf x items told left)
             (λ x legal is_open keeps left may. (x, record { told = x; run = ends x; is_found = inl refl }, left_settled (a.Is x) (state g new) (settled new) is_open keeps left may))
-            (λ old mid item given items told turn turns more x legal is_open keeps left may. elim (open_or (state g mid).is_open) [
+            (λ old mid item given items told turn turns more x legal is_open keeps left may. elim (cases_Bool (state g mid).is_open) [
               | inl still ↦
                   let one = moves old mid item given turn x legal keeps in
                   let rest = more one.0 one.2 still one.3 left may in
@@ -176,7 +168,7 @@ module _ {S : Type 0} (g : Ghosts S) where
       ]
 
   pub rows_move : Moves all_rows MakesRows AddsToRows RowsRun
-  rows_move old new item given turn r legal has = let one = turn.served_rows r has in (one.0, one.1, tt, one.2)
+  rows_move old new item given turn r legal has = let one = turn.takes_rows_step r has in (one.0, one.1, tt, one.2)
 
   pub rows_crash : Crashes all_rows MakesRows AddsToRows RowsRun
   rows_crash old new item given turn r legal is_open has left may =
@@ -184,12 +176,12 @@ module _ {S : Type 0} (g : Ghosts S) where
       let visit = visit_on item.0 item.1.now in
       elim (failure_or given) [
         | inl fails ↦ elim either [ inl was ↦ (r, inl (inl (fails, refl)), was) | inr made ↦ (made.1, inr (fails, (made.0, made.2)), made.3) ]
-        | inr answered ↦ elim (turn.served_rows r has).1 [
+        | inr answered ↦ elim (turn.takes_rows_step r has).1 [
           | inl failed ↦ absurd (answered failed.0)
           | inr makes ↦ elim either [
             | inl was ↦ elim (cases_Bool (is_accepted given)) [
               | inl accepted ↦ let made = turn.durable_rows r has accepted in (made.0, inl (inr made.1), made.2 left may)
-              | inr none ↦ (r, inl (inr (makes ∙ ap (λ (rows : Rows). Some (given, rows)) (rows_stay given none r (turn.served_rows r has).0 visit item.2 makes))), was)
+              | inr none ↦ (r, inl (inr (makes ∙ ap (λ (rows : Rows). Some (given, rows)) (rows_stay given none r (turn.takes_rows_step r has).0 visit item.2 makes))), was)
             ]
             | inr made ↦ (made.1, inl (inr (makes ∙ ap (λ (p : Answer × Rows). Some (given, p.1)) (same_Some _ _ (sym makes ∙ made.2)))), made.3)
           ]
@@ -217,7 +209,7 @@ module _ {S : Type 0} (g : Ghosts S) where
       -- whichever was open
       pub survived : (P : Trees → Type 0) → (IsTrue (state g old).is_open → (left : Trees) → (state g new).may_leave left → P left) → (left : Trees) → (state g new).may_leave left
           → (state g old).may_leave left ⊎ (IsTrue (state g old).is_open × P left)
-      survived P leaves left may = elim (open_or (state g old).is_open) [
+      survived P leaves left may = elim (cases_Bool (state g old).is_open) [
         | inl is_open ↦ inr (is_open, leaves is_open left may)
         | inr shut ↦ inl (shut_leaves old new items told turns clean shut left may)
       ]

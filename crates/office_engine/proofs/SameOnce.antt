@@ -1,8 +1,7 @@
 -- Lists without repetitions that have the same elements differ in their order alone.
-use Rattle.std.proofs.Common.{◌≡◌, ℕ, List, [], ◌∷◌, filter, not, bytes_eq, Bool, true, false, refl, sym, ap, subst, ◌∙◌, inl, inr}
-use Rattle.office_engine.proofs.Common.{AllByRecursion, IsPermutation, cases_Bool, bytes_eq-Decides, IsPermutation-refl, IsPermutation-sym, IsPermutation-trans, IsPermutation-cons, IsPermutation-middle, Has, all_has, has_filtered, has_kept}
-use Rattle.std.specs.List.{IsDistinct}
+use Rattle.office_engine.proofs.Common.{◌≡◌, ℕ, List, [], ◌∷◌, filter, not, bytes_eq, Bool, true, false, refl, sym, ap, subst, ◌∙◌, inl, inr, AllByRecursion, IsPermutation, cases_Bool, bytes_eq-Decides, IsPermutation-refl, IsPermutation-sym, IsPermutation-trans, IsPermutation-cons, IsPermutation-middle, Has, all_has, has_filtered, has_kept, IsDistinct}
 use Rattle.sqlite_catalog.proofs.ListFacts.{filter_all}
+use Rattle.office_core.proofs.OptionLemmas.{by_Bool}
 
 abbrev Texts : Type 0
 Texts = List (List ℕ)
@@ -13,17 +12,12 @@ other x y = not (bytes_eq x y)
 distinct_filtered : (keep : List ℕ → Bool) (xs : Texts) → IsDistinct bytes_eq xs → IsDistinct bytes_eq (filter keep xs)
 unfolding IsDistinct
 distinct_filtered keep [] once = tt
-distinct_filtered keep (x ∷ xs) once = elim (cases_Bool (keep x)) [
-  | inl kept ↦ rw kept (apart xs once.0, distinct_filtered keep xs once.1)
-  | inr left ↦ rw left (distinct_filtered keep xs once.1)
-]
+distinct_filtered keep (x ∷ xs) once =
+    by_Bool (keep x) (λ kept. rw kept (apart xs once.0, distinct_filtered keep xs once.1)) (λ left. rw left (distinct_filtered keep xs once.1))
   where
     apart : (ys : Texts) → AllByRecursion (λ y. bytes_eq x y ≡ false) ys → AllByRecursion (λ y. bytes_eq x y ≡ false) (filter keep ys)
     apart [] all = tt
-    apart (y ∷ ys) all = elim (cases_Bool (keep y)) [
-      | inl kept ↦ rw kept (all.0, apart ys all.1)
-      | inr left ↦ rw left (apart ys all.1)
-    ]
+    apart (y ∷ ys) all = by_Bool (keep y) (λ kept. rw kept (all.0, apart ys all.1)) (λ left. rw left (apart ys all.1))
 
 -- what stands once comes to the front
 fronted : (x : List ℕ) (ys : Texts) → IsDistinct bytes_eq ys → Has ys x → IsPermutation ys (x ∷ filter (other x) ys)

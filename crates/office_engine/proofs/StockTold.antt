@@ -1,8 +1,7 @@
 -- The contents that are held, and how many they are with how many bytes, by the contents of the files.
-use Rattle.std.proofs.Common.{◌≡◌, nat_le, ℕ, ℤ, pos, List, [], ◌∷◌, ◌++◌, map, length, bytes_eq, sum, Some, refl, sym, ap, ap₂, subst, ◌∙◌, inl, inr}
-use Rattle.office_engine.proofs.Common.{IsDistinct, flat_map, map-append, length-map, FileRow, ContentRow, Tables, Database, File, tables_of, contents_of, AreContents, History, kept_numbers, file_row, contents, Stock, stock, answer_if, same_Some, Pictures, map-map, IsPermutation, length_permutation, sum_by-IsPermutation, Has}
+use Rattle.office_engine.proofs.Common.{◌≡◌, nat_le, ℕ, ℤ, pos, List, [], ◌∷◌, ◌++◌, map, length, bytes_eq, sum, Some, refl, sym, ap, ap₂, subst, ◌∙◌, inl, inr, IsDistinct, flat_map, map-append, length-map, FileRow, ContentRow, Tables, Database, File, tables_of, contents_of, AreContents, History, kept_numbers, file_row, answer_if, same_Some, Pictures, map-map, IsPermutation, length_permutation, sum_by-IsPermutation, Has}
+use Rattle.office_history.specs.Stocks.{contents, Stock, stock, files_of}
 use Rattle.office_rows.proofs.Order.{map_back}
-use Rattle.office_history.specs.Stocks.{files_of}
 use Rattle.office_core.proofs.OptionLemmas.{some_and_then, some_if}
 use Rattle.office_by_rows.specs.Stock.{max_total, stock_by, stock_in, total_by}
 use Rattle.office_by_rows.specs.Values.{all_told, count_of}
@@ -10,7 +9,7 @@ use Rattle.std.proofs.lemmas.List.Sums.{sum-map}
 use Rattle.bag_text.proofs.ElementLemmas as texts
 use Rattle.office_history.specs.Lists.{in_first_places}
 use Rattle.office_history.proofs.MemberLemmas.{first_places_once, first_places_have, has_in_places}
-use Rattle.office_serving.proofs.Totals.{counts_are}
+use Rattle.office_queries.proofs.Totals.{counts_are}
 use Rattle.office_engine.proofs.SameOnce.{same_once}
 
 to_texts : {X : Type 0} (xs : List X) (x : X) → Has xs x → texts.Has xs x

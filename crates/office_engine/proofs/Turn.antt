@@ -1,11 +1,9 @@
 -- How the transaction of one request ends.
-use Rattle.std.proofs.Common.{◌≡◌, ◌⊎◌, inl, inr, Some, Bool, true, false, Result, Ok, Err, OnOk, IsOkAnd, IsTrue, refl, sym, subst, ap, ◌∙◌, true≢false}
-use Rattle.office_engine.proofs.Common.{Ghosts, Trees, Database, Held, state, State, HasCleanDisk, Survives, survives_weaker, IsRolledBack, IsOffice, TableFault, Answer, History, with_changes, Item, grown_by_none, visit_on, Rows, IsServedBy, Serves, CommitsTo, IsLeftOf, IsTurn, LeavesAlso, after_item, is_accepted}
-use Rattle.sqlite.specs.State.{Shows}
-use Rattle.office_history.specs.Runs.{IsFailure}
+use Rattle.office_engine.proofs.Common.{◌≡◌, ◌⊎◌, inl, inr, Some, Bool, true, false, Result, Ok, Err, OnOk, IsOkAnd, IsTrue, refl, sym, subst, ap, ◌∙◌, true≢false, Ghosts, Trees, Database, Held, state, State, HasCleanDisk, Survives, survives_weaker, IsRolledBack, IsOffice, TableFault, Answer, History, with_changes, Item, grown_by_none, visit_on, Rows, IsServedBy, Serves, CommitsTo, IsLeftOf, IsTurn, LeavesAlso, after_item, is_accepted, Shows, IsFailure}
 use Rattle.office_engine.proofs.Accepted.{no_change}
 use Rattle.office_engine.proofs.Ends.{Account, IsInside, IsSettled, Keeps, MakesHistory, MakesInside, MakesRows, MayCommit, all_rows, committed_as, either_left, either_next, histories, inside, made_inside, of_ok, still_kept, unchanged, was_open}
 use Rattle.office_engine.proofs.RowsAccepted.{rows_stay}
+use Rattle.office_core.proofs.OptionLemmas.{by_Bool}
 
 -- the trees are those inside the transaction, where what was decided tells of a change
 abbrev pub Makes : State → Result Answer TableFault → Trees → Type 0
@@ -36,11 +34,8 @@ module _ {S : Type 0} {g : Ghosts S} {first last : Held S} {decided : Result Ans
 
   pub how : (told : (decided ≡ Ok given) ⊎ IsFailure given) (committed : IsTrue (is_accepted given) → (decided ≡ Ok given) × Shows (state g last) (state g end) (state g last).now (state g last).now false)
       (dropped : OnOk decided (IsTrue (state g last).in_transaction) → is_accepted given ≡ false → IsRolledBack (state g last) (state g end)) → Ends
-  how told committed dropped = by (is_accepted given) refl
-    where
-      by : (b : Bool) → is_accepted given ≡ b → Ends
-      by true accepted = let made = committed accepted in inl (made.0, accepted, made.1)
-      by false none = inr (none, dropped (inside it end early) none, told)
+  how told committed dropped =
+      by_Bool (is_accepted given) (λ accepted. let made = committed accepted in inl (made.0, accepted, made.1)) (λ none. inr (none, dropped (inside it end early) none, told))
 
   -- what the office has after it, in either account
   module _ {X : Type 0} (a : Account X) (Makes : X → Answer → X → Type 0) (makes : MakesInside a Makes g first last decided) where
@@ -112,7 +107,7 @@ module _ {S : Type 0} {g : Ghosts S} {first last : Held S} {decided : Result Ans
         ];
       };
       survives_rows = survives_weaker (state g first) (state g end) _ _ (λ _ db may. (may.0, λ r. may.1 r tt)) survives_rows;
-      served_rows = λ r has. let it = moved all_rows (MakesRows item) makes_rows (still_rows item given) ends r tt has in (it.0, it.1, it.3);
+      takes_rows_step = λ r has. let it = moved all_rows (MakesRows item) makes_rows (still_rows item given) ends r tt has in (it.0, it.1, it.3);
       leaves_rows = λ r is_open has. either_left all_rows (MakesRows item) (state g first) (state g end) (settled first) survives_rows late r tt is_open has;
       durable_rows = λ r has accepted. elim ends [
         | inl changed ↦ let made = committed_as all_rows (MakesRows item) it makes_rows end early given changed.0 changed.2 r tt has in (made.0, made.1, made.3.1 (settled end))

@@ -1,15 +1,11 @@
 -- Histories through an upgrade, from what is said of rows.
-use Rattle.std.proofs.Common.{◌≡◌, ℤ, List, [], ◌∷◌, find, option_map, None, Some, refl, sym, ap, subst, subst₂, ◌∙◌, IsTrue, inl, inr}
-use Rattle.office_engine.proofs.Common.{cases_Bool, Trees, Database, Ghosts, State, Survives, Held, state, survives_weaker, OfficeRow, is_known, this_version, contents_of, references_of, AreKeptOnce, TableFault, History, office_row, picture, IsLegal, limits_hold, Pictures, PicturesAt, IsKeptAt, IsKeptBy, IsLeftAt, IsLeftOf}
-use Rattle.office_tables.specs.Opening.{KeepsTables}
-use Rattle.office_tables.specs.Faults.{IsFailure}
-use Rattle.office_tables.specs.Moving.{AllRows, BecomesAt, renewed}
-use Rattle.office_tables.specs.Versions.{version_number}
-use Rattle.office_tables.specs.declared.version.TableVersion.{TableVersion}
-use Rattle.office_tables.specs.declared.version.TableVersion.TheVariants.{Third, Fourth, Fifth}
+use Rattle.office_engine.proofs.Common.{◌≡◌, ℤ, List, [], ◌∷◌, find, option_map, Some, refl, sym, ap, subst, subst₂, ◌∙◌, IsTrue, inl, inr, Trees, Database, Ghosts, State, Survives, Held, state, survives_weaker, OfficeRow, is_known, this_version, contents_of, references_of, AreStoredOnce, TableFault, History, office_row, picture, IsLegal, limits_hold, Pictures, PicturesAt, IsStoredAt, IsStoredBy, IsLeftAt, IsLeftOf, HasSameTables, AllRows, BecomesAt, renewed, Third, Fifth, Upgrades, UpgradeLasts, OpensOlder, TakesUp, StaysAt, GoesBackAt, LeavesAt, IsLeftOfUpgrade, IsUpgradeOf, StoppedInTurn}
+use Rattle.office_contents.specs.Faults.{IsFailure}
+use Rattle.office_contents.specs.Versions.{version_number}
+use Rattle.office_contents.specs.declared.version.TableVersion.{TableVersion}
 use Rattle.office_upgrade.specs.Upgrading as rows
-use Rattle.office_upgrade.proofs.Kept.{stays_once}
-use Rattle.office_engine.specs.Upgrading.{Upgrades, UpgradeLasts, OpensOlder, TakesUp, StaysAt, GoesBackAt, LeavesAt, IsLeftOfUpgrade, IsUpgradeOf, StoppedInTurn}
+use Rattle.office_upgrade.proofs.Stored.{stays_once}
+use Rattle.office_core.proofs.OptionLemmas.{by_Bool}
 
 -- the rows by which a version pictures a history, with the contents of a database
 abbrev rows_of : TableVersion → History → Database → AllRows
@@ -20,10 +16,7 @@ tells_no_other : (version : TableVersion) (h : History) (db : Database) → rows
 tells_no_other version h db told is = one_told (office_row (version_number version) h) told is
   where
     one_told : (o : OfficeRow) (seen : ℤ) → option_map (λ (x : OfficeRow). x.version) (find is_known (o ∷ [])) ≡ Some seen → seen ≡ o.version
-    one_told o seen e = elim (cases_Bool (is_known o)) [
-      | inl known ↦ let it : Some o.version ≡ Some seen = rw known at e in cc
-      | inr unknown ↦ absurd (let it : None ≡ Some seen = rw unknown at e in cc)
-    ]
+    one_told o seen e = by_Bool (is_known o) (λ known. let it = rw known at e in cc) (λ unknown. absurd (let it = rw unknown at e in cc))
 
 -- the tables of a legal history tell their version
 tells : (version : TableVersion) (h : History) (db : Database) → IsLegal h → rows.TellsVersion version (rows_of version h db)
@@ -36,8 +29,7 @@ becomes version h db pictured =
 -- the picture of each version is renewed into that of the newest
 renewed_picture : (version : TableVersion) (h : History) (db : Database) → (renewed version (rows_of version h db)).tables ≡ picture this_version h
 renewed_picture Third h db = refl
-renewed_picture Fourth h db = refl
-renewed_picture Fifth h db = refl
+renewed_picture _ h db = refl
 
 module _ (version : TableVersion) (h : History) (old : Database) (pictured : PicturesAt version h old) where
   -- what has the rows renewed pictures the history
@@ -53,7 +45,7 @@ module _ (version : TableVersion) (h : History) (old : Database) (pictured : Pic
   pictures_still other still = record {
     office = still.office;
     are = ap (λ (r : AllRows). r.tables) still.are;
-    once = subst₂ AreKeptOnce (sym (ap (λ (r : AllRows). r.references) still.are)) (sym (ap (λ (r : AllRows). r.contents) still.are)) pictured.once;
+    once = subst₂ AreStoredOnce (sym (ap (λ (r : AllRows). r.references) still.are)) (sym (ap (λ (r : AllRows). r.contents) still.are)) pictured.once;
   }
 
   left_new : (left : Trees) → rows.IsLeftAt Fifth (renewed version (rows_of version h old)) left → IsLeftOf h left
@@ -63,7 +55,7 @@ module _ (version : TableVersion) (h : History) (old : Database) (pictured : Pic
   left_still left it = (it.0, pictures_still it.0 it.1, it.2)
 
 -- what was kept, and what was left, as rows
-kept_rows : (version : TableVersion) (h : History) (old : State) → IsKeptAt version h old → rows.IsKeptAt version (rows_of version h old.now) old
+kept_rows : (version : TableVersion) (h : History) (old : State) → IsStoredAt version h old → rows.IsStoredAt version (rows_of version h old.now) old
 kept_rows version h old kept is_open = (becomes version h old.now (kept is_open).0, (kept is_open).1)
 
 left_rows : (version : TableVersion) (h : History) (left : Trees) (it : IsLeftAt version h left) → rows.IsLeftAt version (rows_of version h it.0) left
@@ -90,7 +82,7 @@ leaves old new made version h was_open found left may =
       | inr renewed ↦ inr (left_new version h found.0 found.1 left renewed)
     ]
 
-pub stays : (old new : State) → KeepsTables old new → StaysAt old new
+pub stays : (old new : State) → HasSameTables old new → StaysAt old new
 stays old new same version h kept is_open =
     let it = same is_open in
     let before = kept it.0 in
@@ -116,7 +108,7 @@ left_fails stopped old fails version h legal left = fails version (rows_of versi
 -- ---- upgrades that are stopped
 
 -- what was left of one goes on
-pub stopped_goes_on : (again done : State) (version : TableVersion) (h : History) → TakesUp again done → IsLeftOfUpgrade version h again.now.trees → IsKeptBy h done
+pub stopped_goes_on : (again done : State) (version : TableVersion) (h : History) → TakesUp again done → IsLeftOfUpgrade version h again.now.trees → IsStoredBy h done
 stopped_goes_on again done version h takes (inl before) = takes version h before
 stopped_goes_on again done version h takes (inr after) = takes Fifth h after
 
@@ -133,5 +125,5 @@ stopped_in_turn g first ((begun, stopped) ∷ more) left version h (was_open, is
     stopped_in_turn g between more left version h rest (stopped_again (state g begun) (state g stopped) version h was_open leaves_at (subst (IsLeftOfUpgrade version h) (sym is) it) between may)
 
 -- what was kept stands in the trees
-pub kept_stands : (version : TableVersion) (h : History) (old : State) → IsTrue old.is_open → IsKeptAt version h old → IsLeftAt version h old.now.trees
+pub kept_stands : (version : TableVersion) (h : History) (old : State) → IsTrue old.is_open → IsStoredAt version h old → IsLeftAt version h old.now.trees
 kept_stands version h old was_open kept = (old.now, (kept was_open).0, refl)

@@ -6,9 +6,9 @@ use Rattle.office_core.specs.declared.request.Request.{Request}
 use Rattle.office_history.specs.Runs.{IsFailure, Item}
 use Rattle.office_by_rows.specs.Asking.{Visit}
 use Rattle.office_by_rows.specs.Changes.{installed}
-use Rattle.office_asking.specs.Asking.{visit_on}
-use Rattle.office_asking.specs.Contents.{Rows}
-use Rattle.office_asking.specs.Serving.{serve_rows}
+use Rattle.office_access.specs.Asking.{visit_on}
+use Rattle.office_access.specs.Contents.{Rows}
+use Rattle.office_access.specs.Serving.{serve_rows}
 
 -- the rows tell this answer to the request of that caller on that day
 abbrev pub RowsTell : Rows → Visit → Request → Answer → Type 0

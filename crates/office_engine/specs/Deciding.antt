@@ -7,7 +7,7 @@ use Rattle.office_core.specs.declared.request.Request.{Request}
 use Rattle.office_core.specs.declared.request.Request.TheVariants.{Audit, DownloadBag, DownloadFile, DueList, Holds, List, Record}
 use Rattle.office_history.specs.Histories.{History}
 use Rattle.office_history.specs.Runs.{IsLegal}
-use Rattle.office_asking.specs.Pictures.{Pictures}
+use Rattle.office_access.specs.Pictures.{Pictures}
 
 -- whether the request asks for no change
 abbrev pub is_reading : Request → Bool

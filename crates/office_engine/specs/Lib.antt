@@ -1,5 +1,5 @@
 pub mod ByRows
 pub mod Deciding
-pub mod Keeping
+pub mod Storing
 pub mod OtherBytes
 pub mod Upgrading

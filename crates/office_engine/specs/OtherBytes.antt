@@ -6,9 +6,9 @@ use Rattle.sqlite.specs.Effect.{Database}
 use Rattle.bag_text.specs.TransferForm.{File, content_at, set_text}
 use Rattle.jiff.specs.Types.{Date}
 use Rattle.office_rows.specs.Rows.{ContentRow}
-use Rattle.office_tables.specs.Contents as contents
-use Rattle.office_tables.specs.Contents.{references_of}
-use Rattle.office_tables.specs.Tables.{contents_of, tables_of}
+use Rattle.office_contents.specs.Contents as contents
+use Rattle.office_contents.specs.Contents.{references_of}
+use Rattle.office_contents.specs.Tables.{contents_of, tables_of}
 use Rattle.office_history.specs.Histories.{Deposit, History, deposit_numbered}
 
 -- a path, and the SHA-256 of the content there

@@ -6,22 +6,22 @@ use Rattle.sqlite.specs.Store.{Ghosts}
 use Rattle.sqlite.specs.State.{State}
 use Rattle.sqlite.specs.Held.{Held, state}
 use Rattle.office_tables.specs.Moving.{AllRows}
-use Rattle.office_tables.specs.Versions.{version_number}
-use Rattle.office_tables.specs.declared.version.TableVersion.{TableVersion}
-use Rattle.office_tables.specs.declared.version.TableVersion.TheVariants.{Fifth}
+use Rattle.office_contents.specs.Versions.{version_number}
+use Rattle.office_contents.specs.declared.version.TableVersion.{TableVersion}
+use Rattle.office_contents.specs.declared.version.TableVersion.TheVariants.{Fifth}
 use Rattle.office_history.specs.Histories.{History}
 use Rattle.office_history.specs.Runs.{IsLegal}
-use Rattle.office_asking.specs.Contents.{Rows}
-use Rattle.office_asking.specs.Pictures.{PicturesAt}
-use Rattle.office_engine.specs.Keeping.{IsKeptAt, IsKeptBy, IsLeftAt, IsLeftOf}
+use Rattle.office_access.specs.Contents.{Rows}
+use Rattle.office_access.specs.Pictures.{PicturesAt}
+use Rattle.office_engine.specs.Storing.{IsStoredAt, IsStoredBy, IsLeftAt, IsLeftOf}
 
 -- whichever history was kept, by tables of any known version, it is kept by those of this one
 abbrev pub Upgrades : State → State → Type 0
-Upgrades old new = (version : TableVersion) (h : History) → IsKeptAt version h old → IsKeptBy h new
+Upgrades old new = (version : TableVersion) (h : History) → IsStoredAt version h old → IsStoredBy h new
 
 -- whichever a crash may have left, it is taken up, with the tables of this version
 abbrev pub TakesUp : State → State → Type 0
-TakesUp old new = (version : TableVersion) (h : History) → IsLeftAt version h old.now.trees → IsKeptBy h new
+TakesUp old new = (version : TableVersion) (h : History) → IsLeftAt version h old.now.trees → IsStoredBy h new
 
 -- whichever was there, kept or left by a crash, a crash leaves it by the tables of this version, and leaves nothing else
 abbrev pub UpgradeLasts : State → State → Type 0
@@ -44,11 +44,11 @@ OpensOlder old new = (version : TableVersion) (h : History) → version_number v
 
 -- whichever history was kept, it still is, by the tables that it had
 abbrev pub StaysAt : State → State → Type 0
-StaysAt old new = (version : TableVersion) (h : History) → IsKeptAt version h old → IsKeptAt version h new
+StaysAt old new = (version : TableVersion) (h : History) → IsStoredAt version h old → IsStoredAt version h new
 
 -- whichever a crash may have left, it is kept by the tables that it had
 abbrev pub GoesBackAt : State → State → Type 0
-GoesBackAt old new = (version : TableVersion) (h : History) → IsLeftAt version h old.now.trees → IsKeptAt version h new
+GoesBackAt old new = (version : TableVersion) (h : History) → IsLeftAt version h old.now.trees → IsStoredAt version h new
 
 -- whichever history the database pictured, a crash leaves it by the tables of this version
 abbrev pub IsUpgradeOf : Database → Trees → Type 0

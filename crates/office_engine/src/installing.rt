@@ -3,8 +3,8 @@
 ghost use Rattle.std.specs.Prelude.{◌≡◌, IfErr, IfOk, IsOkAnd, IsTrue, Ok, OnErr, OnOk, false};
 ghost use Rattle.sqlite.specs.State.{HasCleanDisk, IsRolledBack, Shows, Survives};
 ghost use Rattle.sqlite.specs.Held.{state};
-ghost use Rattle.office_tables.specs.Faults.{IsFailure};
-ghost use Rattle.office_engine.specs.Keeping.{CommitsInstalled, CommitsTo, IfClean, InstallLasts, InstalledRowsLast, Installs, InstallsRows, KeepsTables, LeavesEither, LeavesInstalled, LeavesInstalledRows, after_policy};
+ghost use Rattle.office_contents.specs.Faults.{IsFailure};
+ghost use Rattle.office_engine.specs.Storing.{CommitsInstalled, CommitsTo, IfClean, InstallLasts, InstalledRowsLast, Installs, InstallsRows, HasSameTables, LeavesEither, LeavesInstalled, LeavesInstalledRows, after_policy};
 
 use office_core::Policy;
 use office_refines::laws::installs_are_exact;
@@ -53,7 +53,7 @@ pub fn install<S: Alter>(
         OnOk result (Installs old new policy.now)) }
     ensures open { IfClean S.Store conn.old conn.new (λ old _. OnOk result (IsTrue old.is_open)) }
     ensures kept { IfClean S.Store conn.old conn.new (λ old new.
-        OnErr result (KeepsTables old new)) }
+        OnErr result (HasSameTables old new)) }
     ensures survives { Survives (state S.Store conn.old) (state S.Store conn.new)
         (CommitsTo (state S.Store conn.old) (after_policy policy.now)) }
     ensures durable { IfClean S.Store conn.old conn.new (λ old new.
@@ -76,6 +76,6 @@ pub fn install<S: Alter>(
     let _rules = policy.rules();
     let _is_settled = conn.is_autocommit();
     let mut tx = conn.transaction();
-    let done = office_defining::install(alloc, &mut tx, policy);
+    let done = office_classes::install(alloc, &mut tx, policy);
     end(tx, done)
 }

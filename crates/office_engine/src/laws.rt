@@ -13,10 +13,10 @@ ghost use Rattle.office_core.specs.declared.answer.Answer.TheVariants as answers
 ghost use Rattle.office_core.specs.declared.request.Request.{Request};
 ghost use Rattle.office_core.specs.declared.request.Request.TheVariants.{DownloadBag, DownloadFile};
 ghost use Rattle.office_rows.specs.Rows.{Tables, empty_office, this_version};
-ghost use Rattle.office_tables.specs.Tables.{Becomes, IsOffice, contents_of, tables_of};
-ghost use Rattle.office_tables.specs.Contents.{DiffersInBytes, IsMarked, KeepsOnce};
-ghost use Rattle.office_tables.specs.declared.version.TableVersion.{TableVersion};
-ghost use Rattle.office_tables.specs.declared.version.TableVersion.TheVariants.{Fifth};
+ghost use Rattle.office_contents.specs.Tables.{Becomes, IsOffice, contents_of, tables_of};
+ghost use Rattle.office_contents.specs.Contents.{DiffersInBytes, IsMarked, StoresOnce};
+ghost use Rattle.office_contents.specs.declared.version.TableVersion.{TableVersion};
+ghost use Rattle.office_contents.specs.declared.version.TableVersion.TheVariants.{Fifth};
 ghost use Rattle.office_history.specs.Histories.{History};
 ghost use Rattle.office_history.specs.Answers.{after, answer};
 ghost use Rattle.office_history.specs.Pictures.{due_rows, picture};
@@ -26,13 +26,13 @@ ghost use Rattle.office_history.specs.Runs.{IsFailure, IsLater, IsLegal, Item, R
 ghost use Rattle.office_by_rows.specs.Answers.{due_list};
 ghost use Rattle.office_by_rows.specs.Asking.{Visit};
 ghost use Rattle.office_by_rows.specs.Stock.{stock_by};
-ghost use Rattle.office_asking.specs.Contents.{Rows, rows_of};
-ghost use Rattle.office_asking.specs.Pictures.{Pictures};
-ghost use Rattle.office_asking.specs.Serving.{rows_after, serve_rows};
+ghost use Rattle.office_access.specs.Contents.{Rows, rows_of};
+ghost use Rattle.office_access.specs.Pictures.{Pictures};
+ghost use Rattle.office_access.specs.Serving.{rows_after, serve_rows};
 ghost use Rattle.office_upgrade.specs.Upgrading as rows;
 ghost use Rattle.office_upgrade.specs.Upgrading.{TellsNoOther};
 ghost use Rattle.office_engine.specs.ByRows.{RowsTell};
-ghost use Rattle.office_engine.specs.Keeping.{HasRows, IsFoundAfter, IsKeptAt, IsKeptBy, IsLeftAt, IsLeftWith};
+ghost use Rattle.office_engine.specs.Storing.{HasRows, IsFoundAfter, IsStoredAt, IsStoredBy, IsLeftAt, IsLeftWith};
 ghost use Rattle.office_engine.specs.OtherBytes.{AreUnderDigests, HasDigestAt, HasDigestsOf, IsUnderDigest};
 ghost use Rattle.office_engine.specs.Upgrading.{IsLeftOfUpgrade, LeavesAt, StoppedInTurn, TakesUp, all_rows_of};
 
@@ -40,12 +40,12 @@ pub use office_history::laws::{
     a_class_that_gets_its_old_years_back_has_its_old_due_days,
     a_hold_and_its_release_leave_the_counts, a_hold_of_the_collection_and_one_of_the_class_are_two,
     a_policy_without_days_answers_alike, accessions_are_used_once, audits_are_valid, changes_stand,
-    closed_by_the_day_of_deposit, contents_are_kept_once, deposited_bags, disposals_stand,
-    due_lists_are_disposals, files_are_served_as_deposited, later_deposits_are_covered,
-    later_deposits_of_a_class_are_covered, limits_hold, numbers_are_given_once, one_picture,
-    pictures_are_in_range, refused_changes_nothing, released_holds_are_not_live,
-    revised_classes_move_due_days, runs_only_add, runs_stay_legal, served_as_deposited, sound_bags,
-    the_least_live_hold_is_named, verdicts_decide, what_is_named_is_there,
+    closed_by_the_day_of_deposit, contents_are_stored_once, deposited_bags, disposals_stand,
+    downloaded_as_deposited, due_lists_are_disposals, files_are_downloaded_as_deposited,
+    later_deposits_are_covered, later_deposits_of_a_class_are_covered, limits_hold,
+    numbers_are_given_once, one_picture, pictures_are_in_range, refused_changes_nothing,
+    released_holds_are_not_live, revised_classes_move_due_days, runs_only_add, runs_stay_legal,
+    sound_bags, the_least_live_hold_is_named, verdicts_decide, what_is_named_is_there,
     what_may_be_destroyed_is_on_the_due_list,
 };
 pub use office_refines::laws::{
@@ -60,14 +60,14 @@ use sqlite::Alter;
 /// nothing else does.
 pub fn new_offices_are_pictured()
     ensures { (db : Database) (max_deposits max_holds : ℕ)
-        → Becomes db (empty_office this_version (pos max_deposits) (pos max_holds)) × KeepsOnce db
+        → Becomes db (empty_office this_version (pos max_deposits) (pos max_holds)) × StoresOnce db
         ↔ Pictures (new_history max_deposits max_holds) db }
 {}
 
 /// Tables that picture a history hold exactly the contents of its kept bags, each once, under its own SHA-256 and with its
 /// length; and the due day and the count of live holds that they keep of each deposit, destroyed or not, are those of the
 /// history.
-pub fn kept_columns_are_told()
+pub fn stored_columns_are_told()
     ensures contents { (db : Database) (h : History) → Pictures h db
         → IsPermutation (contents h) (map (λ c. c.bytes) (contents_of db)) }
     ensures marked { (db : Database) (h : History) → Pictures h db
@@ -118,7 +118,7 @@ pub fn no_legal_content_is_taken_for_an_altered_one()
 
 /// Whatever rows and contents an office has, the bytes of each file that it serves are those of the file's content row,
 /// whose mark is their SHA-256.
-pub fn bytes_are_served_under_their_digest()
+pub fn bytes_are_downloaded_under_their_digest()
     ensures file { (db : Database) (visit : Visit) (n : ℕ) (path : Bor (List ℕ)) (bytes : List ℕ)
         → IsOffice db
         → RowsTell (rows_of db) visit (DownloadFile n path) (answers.File bytes)
@@ -134,7 +134,7 @@ pub fn bytes_are_served_under_their_digest()
 /// Where bytes of contents are not those that were deposited, and all else is as it was, an office serves none of
 /// them: what it serves of a file, or of each file of a bag, has the SHA-256 of what was deposited there. So it is
 /// that, or these two byte strings share a SHA-256.
-pub fn altered_bytes_are_never_served()
+pub fn altered_bytes_are_never_downloaded()
     ensures file { (db altered : Database) (h : History) (visit : Visit) (n : ℕ)
         (path : Bor (List ℕ)) (bytes : List ℕ)
         → IsLegal h → Pictures h db → DiffersInBytes db altered
@@ -174,16 +174,16 @@ pub fn accepted_changes_are_found()
 /// before one ends.
 pub fn a_stopped_upgrade_goes_on<S: Alter>()
     ensures once { (old stopped again done : Held S) (version : TableVersion) (h : History)
-        → IsTrue (state S.Store old).is_open → IsKeptAt version h (state S.Store old)
+        → IsTrue (state S.Store old).is_open → IsStoredAt version h (state S.Store old)
         → LeavesAt (state S.Store old) (state S.Store stopped)
         → (state S.Store stopped).may_leave (state S.Store again).now.trees
-        → TakesUp (state S.Store again) (state S.Store done) → IsKeptBy h (state S.Store done) }
+        → TakesUp (state S.Store again) (state S.Store done) → IsStoredBy h (state S.Store done) }
     ensures often { (first left : Trees) (stops : List (Held S × Held S)) (version : TableVersion)
         (h : History) → IsLeftAt version h first → StoppedInTurn S.Store first stops left
         → IsLeftOfUpgrade version h left }
     ensures done { (again done : Held S) (version : TableVersion) (h : History)
         → IsLeftOfUpgrade version h (state S.Store again).now.trees
-        → TakesUp (state S.Store again) (state S.Store done) → IsKeptBy h (state S.Store done) }
+        → TakesUp (state S.Store again) (state S.Store done) → IsStoredBy h (state S.Store done) }
 {}
 
 /// Rows that a crash left are those of the office that takes them up, whichever they are.

@@ -5,7 +5,7 @@ mod installing;
 pub mod laws;
 mod listing;
 mod office;
-mod serving;
+mod transacting;
 
 pub use office::Office;
-pub use office_serving::Stock;
+pub use office_queries::Stock;

@@ -3,12 +3,12 @@
 ghost use Rattle.std.specs.Prelude.{◌≡◌, IfErr, IfOk, IsTrue, OnOk, false};
 ghost use Rattle.sqlite.specs.State.{Survives};
 ghost use Rattle.sqlite.specs.Held.{state};
-ghost use Rattle.office_tables.specs.Faults.{IsFailure};
-ghost use Rattle.office_engine.specs.Keeping.{AreToldDue, CountsStock, IfClean, IsToldStock, KeepsTables, ListsDue};
+ghost use Rattle.office_contents.specs.Faults.{IsFailure};
+ghost use Rattle.office_engine.specs.Storing.{AreToldDue, CountsStock, IfClean, IsToldStock, HasSameTables, ListsDue};
 
 use office_core::Day;
+use office_queries::{Stock, due_numbers, stock_of};
 use office_refines::laws::due_lists_are_exact;
-use office_serving::{Stock, due_numbers, stock_of};
 use office_tables::TableFault;
 use office_tables::laws::contents_are_those_of_files;
 use sqlite::{Alter, Connection};
@@ -29,7 +29,7 @@ pub fn due_list<S: Alter>(
     ensures rows { IfClean S.Store conn.old conn.new (λ old _.
         IfOk result (λ numbers. AreToldDue old day caller.now numbers.items)) }
     ensures open { IfClean S.Store conn.old conn.new (λ old _. OnOk result (IsTrue old.is_open)) }
-    ensures kept { IfClean S.Store conn.old conn.new KeepsTables }
+    ensures kept { IfClean S.Store conn.old conn.new HasSameTables }
     ensures survives { Survives (state S.Store conn.old) (state S.Store conn.new) (λ _. ⊥) }
 {
     due_lists_are_exact();
@@ -51,7 +51,7 @@ pub fn stock<S: Alter>(alloc: Global, conn: &mut Connection<S>) -> Result<Stock,
     ensures rows { IfClean S.Store conn.old conn.new (λ old _.
         IfOk result (IsToldStock old)) }
     ensures open { IfClean S.Store conn.old conn.new (λ old _. OnOk result (IsTrue old.is_open)) }
-    ensures kept { IfClean S.Store conn.old conn.new KeepsTables }
+    ensures kept { IfClean S.Store conn.old conn.new HasSameTables }
     ensures survives { Survives (state S.Store conn.old) (state S.Store conn.new) (λ _. ⊥) }
 {
     contents_are_those_of_files();

@@ -4,29 +4,29 @@ ghost use Rattle.std.specs.Prelude.{◌≡◌, ◌≢◌, Err, IfErr, IfOk, IsTr
 ghost use Rattle.sqlite.specs.State.{HasCleanDisk, Survives};
 ghost use Rattle.sqlite.specs.Held.{state};
 ghost use Rattle.sqlite.specs.Tree.{Trees};
-ghost use Rattle.office_tables.specs.Faults as faults;
+ghost use Rattle.office_contents.specs.Faults as faults;
 ghost use Rattle.office_tables.specs.Opening as opening;
-ghost use Rattle.office_tables.specs.Opening.{HasOtherVersion, HasVersion, IfRefused, IfTaken, KeepsTables, IsKnownAsOther, has_office};
-ghost use Rattle.office_tables.specs.Tables.{IsOffice, tables_of};
-ghost use Rattle.office_tables.specs.Schema.{no_schema};
-ghost use Rattle.office_tables.specs.declared.fault.TableFault.TheVariants.{NotAnOffice, OtherVersion};
+ghost use Rattle.office_tables.specs.Opening.{HasOtherVersion, HasVersion, IfRefused, IfTaken, HasSameTables, IsKnownAsOther, has_office};
+ghost use Rattle.office_contents.specs.Tables.{IsOffice, tables_of};
+ghost use Rattle.office_contents.specs.Schema.{no_schema};
+ghost use Rattle.office_contents.specs.declared.fault.TableFault.TheVariants.{NotAnOffice, OtherVersion};
 ghost use Rattle.office_rows.specs.Rows.{this_version, version_of};
 ghost use Rattle.office_history.specs.Histories.{History};
 ghost use Rattle.office_history.specs.Runs.{IsLegal, new_history};
 ghost use Rattle.office_tables.specs.Found.{GoesOnAs};
-ghost use Rattle.office_tables.specs.Versions.{IfKnownOffice, version_number};
+ghost use Rattle.office_contents.specs.Versions.{IfKnownOffice, version_number};
 ghost use Rattle.office_tables.specs.Moving.{AllRows, BecomesAt};
-ghost use Rattle.office_tables.specs.declared.version.TableVersion.{TableVersion};
+ghost use Rattle.office_contents.specs.declared.version.TableVersion.{TableVersion};
 ghost use Rattle.office_upgrade.specs.Upgrading as rows;
 ghost use Rattle.office_upgrade.specs.Upgrading.{HasUnknownVersion, IsOlder, IsUpgrade, NewestSurvives, TellsVersion, TellsKnown, TellsUnknown};
 ghost use Rattle.office_engine.specs.Upgrading.{GoesBackAt, IsUpgradeOf, LeavesAt, OpensOlder, StaysAt, TakesUp, UpgradeLasts, Upgrades};
-ghost use Rattle.office_engine.specs.Keeping.{AllStayShut, AreToldDue, CommitsInstalled, CommitsRows, CommitsRun, CommitsRunRows, CommitsTo, CountsStock, IfClean, InTurn, InstallLasts, InstalledRowsLast, Installs, InstallsRows, IsKeptBy, IsLeftAt, IsLeftOf, IsToldByRows, IsToldStock, Lasts, LeavesEither, LeavesInstalled, LeavesInstalledRows, LeavesKept, LeavesKeptRows, LeavesMade, LeavesRows, LeavesRun, LeavesRunRows, ListsDue, RowsLast, Runs, RunsRows, Serves, ServesRows, StaysShut, after_item, is_accepted, after_policy};
+ghost use Rattle.office_engine.specs.Storing.{AllStayShut, AreToldDue, CommitsInstalled, CommitsRows, CommitsRun, CommitsRunRows, CommitsTo, CountsStock, IfClean, InTurn, InstallLasts, InstalledRowsLast, Installs, InstallsRows, IsStoredBy, IsLeftAt, IsLeftOf, IsToldByRows, IsToldStock, Lasts, LeavesEither, LeavesInstalled, LeavesInstalledRows, LeavesStored, LeavesStoredRows, LeavesMade, LeavesRows, LeavesRun, LeavesRunRows, ListsDue, RowsLast, Runs, RunsRows, TakesStep, TakesRowsStep, StaysShut, after_item, is_accepted, after_policy};
 
 use crate::installing::install;
 use crate::listing::{due_list, stock};
-use crate::serving::serve;
+use crate::transacting::transact;
 use office_core::{Answer, Day, Limits, Policy, Request};
-use office_serving::Stock;
+use office_queries::Stock;
 use office_tables::{TableFault, adopt};
 use sqlite::{Alter, Connection};
 use std::alloc::{AllocError, Global};
@@ -67,14 +67,14 @@ impl<S: Alter> Office<S> {
     ) -> Result<Office<S>, (Connection<S>, TableFault)>
         requires outside { (state S.Store conn).in_transaction ≡ false }
         ensures made { IfTaken S.Store result
-            (IsKeptBy (new_history limits.deposits limits.holds)) }
+            (IsStoredBy (new_history limits.deposits limits.holds)) }
         ensures open { IfTaken S.Store result (λ s. IsTrue s.is_open) }
         ensures survives { IfOk result (λ office.
             Survives (state S.Store conn) (state S.Store office)
             (IsLeftOf (new_history limits.deposits limits.holds))) }
         ensures durable { IfTaken S.Store result (λ s. (left : Trees) → s.may_leave left
             → IsLeftOf (new_history limits.deposits limits.holds) left) }
-        ensures refused { IfRefused S.Store result (λ s _. KeepsTables (state S.Store conn) s) }
+        ensures refused { IfRefused S.Store result (λ s _. HasSameTables (state S.Store conn) s) }
         ensures refused_outside { IfErr result (λ e. (state S.Store e.0).in_transaction ≡ false) }
         ensures refused_survives { IfErr result (λ e.
             Survives (state S.Store conn) (state S.Store e.0)
@@ -97,7 +97,7 @@ impl<S: Alter> Office<S> {
     /// The connection is handed back, its tables as they were.
     pub fn adopt(conn: Connection<S>) -> Result<Office<S>, (Connection<S>, TableFault)>
         requires outside { (state S.Store conn).in_transaction ≡ false }
-        ensures same { IfTaken S.Store result (KeepsTables (state S.Store conn)) }
+        ensures same { IfTaken S.Store result (HasSameTables (state S.Store conn)) }
         ensures version { IfTaken S.Store result (λ _.
             HasVersion (state S.Store conn).now this_version) }
         ensures has_table { IfTaken S.Store result (λ _.
@@ -111,17 +111,17 @@ impl<S: Alter> Office<S> {
         // What a crash left of an office goes on as that office, and is never told to be none, or one
         // of another version.
         ensures goes_on { IfTaken S.Store result (λ s.
-            (h : History) → IsLeftOf h (state S.Store conn).now.trees → IsKeptBy h s) }
+            (h : History) → IsLeftOf h (state S.Store conn).now.trees → IsStoredBy h s) }
         ensures known { IfRefused S.Store result (λ _ fault.
             IsTrue (state S.Store conn).is_open → (h : History)
             → IsLegal h → IsLeftOf h (state S.Store conn).now.trees → faults.IsFailure fault) }
 
-        ensures refused { IfRefused S.Store result (λ s _. KeepsTables (state S.Store conn) s) }
+        ensures refused { IfRefused S.Store result (λ s _. HasSameTables (state S.Store conn) s) }
         ensures refused_outside { IfErr result (λ e. (state S.Store e.0).in_transaction ≡ false) }
         ensures refused_survives { IfErr result (λ e.
             Survives (state S.Store conn) (state S.Store e.0) (λ _. ⊥)) }
         ensures goes_back { IfRefused S.Store result (λ s _.
-            (h : History) → IsLeftOf h (state S.Store conn).now.trees → IsKeptBy h s) }
+            (h : History) → IsLeftOf h (state S.Store conn).now.trees → IsStoredBy h s) }
         ensures not_office { IfRefused S.Store result (λ _ fault.
             fault ≡ NotAnOffice → opening.NotAnOffice (state S.Store conn).now) }
         ensures other_version { IfRefused S.Store result (λ _ fault.
@@ -154,10 +154,10 @@ impl<S: Alter> Office<S> {
         ensures found { IfTaken S.Store result (TakesUp (state S.Store conn)) }
         // Tables that show no older version stay as they are, those of this version among them.
         ensures kept { IfTaken S.Store result (λ s.
-            (IsOlder (state S.Store conn).now → ⊥) → KeepsTables (state S.Store conn) s) }
+            (IsOlder (state S.Store conn).now → ⊥) → HasSameTables (state S.Store conn) s) }
         ensures newest { IfTaken S.Store result (λ s. IsOffice (state S.Store conn).now
             → version_of (tables_of (state S.Store conn).now) ≡ Some this_version
-            → KeepsTables (state S.Store conn) s) }
+            → HasSameTables (state S.Store conn) s) }
         ensures newest_survives { IfOk result (λ office.
             NewestSurvives (state S.Store conn) (state S.Store office)) }
         ensures open { IfTaken S.Store result (λ _. IsTrue (state S.Store conn).is_open) }
@@ -183,7 +183,7 @@ impl<S: Alter> Office<S> {
         ensures durable_rows { IfTaken S.Store result (rows.UpgradeLasts (state S.Store conn)) }
         ensures leaves_rows { IfTaken S.Store result (rows.LeavesOffice (state S.Store conn)) }
 
-        ensures refused_same { IfRefused S.Store result (λ s _. KeepsTables (state S.Store conn) s) }
+        ensures refused_same { IfRefused S.Store result (λ s _. HasSameTables (state S.Store conn) s) }
         ensures refused { IfRefused S.Store result (λ s _. StaysAt (state S.Store conn) s) }
         ensures goes_back { IfRefused S.Store result (λ s _. GoesBackAt (state S.Store conn) s) }
         ensures goes_back_rows { IfRefused S.Store result (λ s _. rows.GoesBack (state S.Store conn) s) }
@@ -245,7 +245,7 @@ impl<S: Alter> Office<S> {
         ensures open { IfClean S.Store self.old self.new (λ old _.
             OnOk result (IsTrue old.is_open)) }
         ensures kept { IfClean S.Store self.old self.new (λ old new.
-            OnErr result (KeepsTables old new)) }
+            OnErr result (HasSameTables old new)) }
         ensures survives { Survives (state S.Store self.old) (state S.Store self.new)
             (CommitsTo (state S.Store self.old) (after_policy policy.now)) }
         ensures durable { IfClean S.Store self.old self.new (λ old new.
@@ -267,13 +267,13 @@ impl<S: Alter> Office<S> {
         install(alloc, &mut self.conn, policy)
     }
 
-    /// Serves a caller's request on that day, in one transaction with one commit. A request that is
+    /// Answers a caller's request on that day, in one transaction with one commit. A request that is
     /// refused, or only asks, changes nothing.
     pub fn step(&mut self, alloc: Global, day: Day, caller: &str, request: &Request<'_>) -> Answer
         ensures served { IfClean S.Store self.old self.new (λ old new.
-            Serves old new (day, caller.entry, request.now) result) }
+            TakesStep old new (day, caller.entry, request.now) result) }
         ensures kept { IfClean S.Store self.old self.new (λ old new.
-            is_accepted result ≡ false → KeepsTables old new) }
+            is_accepted result ≡ false → HasSameTables old new) }
         // Whatever rows the tables of the office hold, no answer rests on one that tells nothing.
         ensures rows { IfClean S.Store self.old self.new (λ old _.
             IsToldByRows old (day, caller.entry, request.now) result) }
@@ -291,8 +291,8 @@ impl<S: Alter> Office<S> {
             LeavesMade old new result) }
         // Whatever rows and contents the office has, an accepted change leaves what `serve_rows` makes
         // of them, and a refusal or a failure leaves them; a crash leaves those before or after.
-        ensures served_rows { IfClean S.Store self.old self.new (λ old new.
-            ServesRows old new (day, caller.entry, request.now) result) }
+        ensures takes_rows_step { IfClean S.Store self.old self.new (λ old new.
+            TakesRowsStep old new (day, caller.entry, request.now) result) }
         ensures survives_rows { Survives (state S.Store self.old) (state S.Store self.new)
             (CommitsRows (state S.Store self.old) (day, caller.entry, request.now)) }
         ensures leaves_rows { IfClean S.Store self.old self.new (λ old new.
@@ -300,10 +300,10 @@ impl<S: Alter> Office<S> {
         ensures durable_rows { IfClean S.Store self.old self.new (λ old new.
             RowsLast old new (day, caller.entry, request.now) result) }
     {
-        serve(alloc, &mut self.conn, day, caller, request)
+        transact(alloc, &mut self.conn, day, caller, request)
     }
 
-    /// Serves requests one after the other, each with its day and its caller. The room for the
+    /// Answers requests one after the other, each with its day and its caller. The room for the
     /// answers is taken first: an `Err` has done nothing.
     pub fn run(
         &mut self,
@@ -320,8 +320,8 @@ impl<S: Alter> Office<S> {
         ensures shut { IfClean S.Store self.old self.new (λ old new.
             IfOk result (λ answers. AllStayShut old new answers.items)) }
         ensures failed { OnErr result (self.new ≡ self.old) }
-        ensures failed_leaves { OnErr result (LeavesKept (state S.Store self.new)) }
-        ensures failed_leaves_rows { OnErr result (LeavesKeptRows (state S.Store self.new)) }
+        ensures failed_leaves { OnErr result (LeavesStored (state S.Store self.new)) }
+        ensures failed_leaves_rows { OnErr result (LeavesStoredRows (state S.Store self.new)) }
         // What a crash leaves has every change that was answered as accepted.
         ensures survives { IfOk result (λ answers.
             Survives (state S.Store self.old) (state S.Store self.new)
@@ -358,7 +358,7 @@ impl<S: Alter> Office<S> {
             IfOk result (λ numbers. AreToldDue old day caller.now numbers.items)) }
         ensures open { IfClean S.Store self.old self.new (λ old _.
             OnOk result (IsTrue old.is_open)) }
-        ensures kept { IfClean S.Store self.old self.new KeepsTables }
+        ensures kept { IfClean S.Store self.old self.new HasSameTables }
         ensures survives { Survives (state S.Store self.old) (state S.Store self.new) (λ _. ⊥) }
     {
         due_list(alloc, &mut self.conn, day, caller)
@@ -375,7 +375,7 @@ impl<S: Alter> Office<S> {
             IfOk result (IsToldStock old)) }
         ensures open { IfClean S.Store self.old self.new (λ old _.
             OnOk result (IsTrue old.is_open)) }
-        ensures kept { IfClean S.Store self.old self.new KeepsTables }
+        ensures kept { IfClean S.Store self.old self.new HasSameTables }
         ensures survives { Survives (state S.Store self.old) (state S.Store self.new) (λ _. ⊥) }
     {
         stock(alloc, &mut self.conn)

@@ -1,31 +1,9 @@
 -- Where a request is allowed its change is one that the history allows; so what each such change keeps, each legal history has.
-use Rattle.std.proofs.Common.{◌≡◌, ◌≤ℤ◌, ℕ, pos, ◌<◌, Bool, true, false, not, List, [], ◌∷◌, ◌++◌, length, Option, Some, None, Result, Ok, Err, IsSome, slice_get, int_lt, refl, sym, ap, subst, ◌∙◌, append-nil, arith, rules, if◌then◌else◌}
-use Rattle.std.specs.Prelude.{nat_le}
-use Rattle.std.proofs.lemmas.Bool.Decides.{nat_tests}
+use Rattle.office_history.proofs.Common.{◌≡◌, ◌≤ℤ◌, ℕ, pos, ◌<◌, Bool, true, false, not, List, [], ◌∷◌, ◌++◌, length, Option, Some, None, Result, Ok, Err, IsSome, slice_get, int_lt, refl, sym, ap, subst, ◌∙◌, append-nil, arith, rules, nat_le, nat_tests, Date, epoch_day, File, IsLimit, IsDay, Description, IsDescription, first_some, answer_if, IsRequest, Due, On, Never, Refusal, Full, NotDue, Request, DefineClass, DefineCollection, HoldDeposit, HoldCollection, HoldClass, Release, Dispose, History, Change, Installed, Deposited, PlacedHold, Deposit, Hold, with_changes, has_class, has_collection, deposits, deposit_numbered, accession_of, destruction_day, due, holds, hold_numbered, release_day, live_holds, least_hold, bag_of, refusal_in, refusal, bad_as, of_deposit, denial, denial_at, release_denial, gone_refusal, released_refusal, held_refusal, not_due_refusal, no_such_collection, no_such_class, taken_refusal, closed_ahead_refusal, bad_bag, full_of_deposits, full_of_holds, filing_refusals, bag_refusals, changes_unless, allowed_change, deposit_change, IsChange, IsAllowed, IsHold, IsDepositable, IsPlaceable, IsReleasable, IsDisposable, IsLegal, new_history, new, install, step, none_of, answer_if_none, option_map_none, by_Bool, by_Option}
 use Rattle.std.proofs.lemmas.Int.{by_lt_z}
-use Rattle.jiff.specs.Types.{Date}
-use Rattle.jiff.specs.Words.{epoch_day}
-use Rattle.bag_text.specs.TransferForm.{File}
-use Rattle.office_rows.specs.Rows.{IsLimit}
-use Rattle.office_core.specs.Days.{IsDay}
-use Rattle.office_core.specs.FirstOf.{first_some, answer_if}
-use Rattle.office_core.specs.Requests.{IsRequest}
-use Rattle.office_core.specs.declared.retention.Due.{Due}
-use Rattle.office_core.specs.declared.retention.Due.TheVariants.{On, Never}
 use Rattle.office_core.specs.declared.action.Action.TheVariants as acts
-use Rattle.office_core.specs.declared.refusal.Refusal.{Refusal}
-use Rattle.office_core.specs.declared.refusal.Refusal.TheVariants.{Full}
-use Rattle.office_core.specs.declared.facts.Verdict.TheVariants.{NotDue}
 use Rattle.office_core.specs.Verdicts as deciding
-use Rattle.office_core.specs.declared.request.Request.{Request}
-use Rattle.office_core.specs.declared.request.Request.TheVariants.{DefineClass, DefineCollection, Deposit as MakeDeposit, List as ListDeposits, Record, Holds, DownloadBag, DownloadFile, Audit, HoldDeposit, HoldCollection, HoldClass, Release, Dispose, DueList}
-use Rattle.office_history.specs.Histories.{History, Change, Installed, DefinedCollection, Deposited, PlacedHold, Deposit, Hold, with_changes, has_class, has_collection, deposits, deposit_numbered, accession_of, destruction_day, due, holds, hold_numbered, release_day, live_holds, least_hold}
-use Rattle.office_history.specs.Bags.{bag_of}
-use Rattle.office_history.specs.Refusals.{refusal_in, refusal, bad_as, of_deposit, of_hold, denial, denial_at, release_denial, gone_refusal, released_refusal, held_refusal, not_due_refusal, no_such_collection, no_such_class, taken_refusal, closed_ahead_refusal, bad_bag, full_of_deposits, full_of_holds}
-use Rattle.office_history.specs.Answers.{changes_unless, allowed_change, deposit_change}
-use Rattle.office_history.specs.Acceptance.{IsChange, IsAllowed, IsDeposit, IsHold, IsDepositable, IsPlaceable, IsReleasable, IsDisposable}
-use Rattle.office_history.specs.Runs.{IsLegal, new_history, new, install, serve}
-use Rattle.office_core.proofs.OptionLemmas.{none_of, answer_if_none, option_map_none}
+use Rattle.office_core.specs.declared.request.Request.TheVariants.{Deposit as MakeDeposit}
 use Rattle.office_history.proofs.HistoryLemmas.{deposits_grown, holds_grown}
 
 -- ---- where no refusal stands
@@ -44,13 +22,9 @@ not_later day date passed =
     (λ ge. ge)
 
 not_before : (day date : Date) → refusal_in (answer_if (int_lt (epoch_day day) (epoch_day date)) (NotDue date)) ≡ None → epoch_day date ≤ℤ epoch_day day
-not_before day date e = not_later day date (by (int_lt (epoch_day day) (epoch_day date)) e)
-  where
-    by : (test : Bool) → refusal_in (answer_if test (NotDue date)) ≡ None → test ≡ false
-    by true e = absurd cc
-    by false e = refl
+not_before day date e = not_later day date (by_Bool (int_lt (epoch_day day) (epoch_day date)) (λ early. absurd (let wrong = rw early at e in cc)) (λ past. past))
 
-not_gone : (o : Option Date) → refusal_in (deciding.gone_verdict o) ≡ None → o ≡ None
+pub not_gone : (o : Option Date) → refusal_in (deciding.gone_verdict o) ≡ None → o ≡ None
 not_gone None e = refl
 not_gone (Some day) e = absurd cc
 
@@ -72,36 +46,36 @@ due_has_come day Never e = absurd cc
 
 -- ---- what a request that is allowed finds
 
-pub depositable : (h : History) (day : Date) (caller collection class accession : List ℕ) (closed : Date) (form : List ℕ)
-    → first_some (no_such_collection h collection ∷ no_such_class h class ∷ denial h day caller acts.Deposit (Some collection) (Some class) ∷ taken_refusal h accession ∷ closed_ahead_refusal day closed ∷ bad_bag form ∷ full_of_deposits h ∷ []) ≡ None
-    → (bag : List File) × (bag_of form ≡ Ok bag) × IsDepositable h day (record { collection = collection; class = class; accession = accession; closed = closed; bag = bag })
-depositable h day caller collection class accession closed form e =
-    let a = none_of (no_such_collection h collection) _ e in
-    let b = none_of (no_such_class h class) _ a.1 in
-    let c = none_of (denial h day caller acts.Deposit (Some collection) (Some class)) _ b.1 in
-    let d = none_of (taken_refusal h accession) _ c.1 in
-    let f = none_of (closed_ahead_refusal day closed) _ d.1 in
+pub depositable : (h : History) (day : Date) (caller : List ℕ) (description : Description) (form : List ℕ)
+    → first_some (filing_refusals h day caller description ++ bag_refusals h day description form) ≡ None
+    → (bag : List File) × (bag_of form ≡ Ok bag) × IsDepositable h day (record { description = description; bag = bag })
+depositable h day caller description form e =
+    let a = none_of (no_such_collection h description.collection) _ e in
+    let b = none_of (no_such_class h description.class) _ a.1 in
+    let c = none_of (denial h day caller acts.Deposit (Some description.collection) (Some description.class)) _ b.1 in
+    let d = none_of (taken_refusal h description.accession) _ c.1 in
+    let f = none_of (closed_ahead_refusal day description.closed) _ d.1 in
     let g = none_of (bad_bag form) _ f.1 in
     let i = none_of (full_of_deposits h) _ g.1 in
     let bag = good_bag (bag_of form) g.0 in (
       bag.0,
       bag.1,
       record {
-        collection = is_so (has_collection h collection) _ a.0;
-        class = is_so (has_class h class) _ b.0;
-        new_accession = option_map_none _ (accession_of h accession) d.0;
-        closed = not_later day closed (answer_if_none _ _ f.0);
+        collection = is_so (has_collection h description.collection) _ a.0;
+        class = is_so (has_class h description.class) _ b.0;
+        new_accession = option_map_none _ (accession_of h description.accession) d.0;
+        closed = not_later day description.closed (answer_if_none _ _ f.0);
         form = form;
         read = bag.1;
         room = below h.max_deposits (length (deposits h)) i.0;
       },
     )
 
-disposable_at : (h : History) (day : Date) (caller : List ℕ) (n : ℕ) (there : Option (Date × Deposit)) → deposit_numbered h n ≡ there
-    → first_some (of_deposit there (λ d. denial_at h day caller acts.Dispose d ∷ gone_refusal h n ∷ held_refusal h n d ∷ not_due_refusal h day d ∷ [])) ≡ None → IsDisposable h day n
-disposable_at h day caller n None is e = absurd cc
-disposable_at h day caller n (Some found) is e =
-    let allowed = none_of (denial_at h day caller acts.Dispose found.1) _ e in
+pub disposable : (h : History) (day : Date) (caller : List ℕ) (n : ℕ) → refusal h day caller (Dispose n) ≡ None → IsDisposable h day n
+disposable h day caller n e =
+    by_Option (deposit_numbered h n) (λ none. absurd (let refused = rw none at e in cc))
+    (λ found is.
+    let allowed = none_of (denial_at h day caller acts.Dispose found.1) _ (rw is at e) in
     let there = none_of (gone_refusal h n) _ allowed.1 in
     let free = none_of (held_refusal h n found.1) _ there.1 in
     let late = none_of (not_due_refusal h day found.1) _ free.1 in
@@ -114,10 +88,7 @@ disposable_at h day caller n (Some found) is e =
       unheld = none_first (live_holds h n found.1) (not_held (least_hold h n found.1) free.0);
       due = come.1;
       has_come = come.2;
-    }
-
-pub disposable : (h : History) (day : Date) (caller : List ℕ) (n : ℕ) → refusal h day caller (Dispose n) ≡ None → IsDisposable h day n
-disposable h day caller n e = disposable_at h day caller n (deposit_numbered h n) refl e
+    })
 
 holdable_at : (h : History) (day : Date) (caller : List ℕ) (n : ℕ) (there : Option (Date × Deposit)) → deposit_numbered h n ≡ there
     → first_some (of_deposit there (λ d. denial_at h day caller acts.Hold d ∷ gone_refusal h n ∷ full_of_holds h ∷ [])) ≡ None → IsSome (deposit_numbered h n) × (destruction_day h n ≡ None) × (length (holds h) < h.max_holds)
@@ -128,16 +99,13 @@ holdable_at h day caller n (Some found) is e =
     let c = none_of (full_of_holds h) _ b.1 in
     (rw is refl, not_gone (destruction_day h n) b.0, below h.max_holds (length (holds h)) c.0)
 
-releasable_at : (h : History) (day : Date) (caller : List ℕ) (k : ℕ) (there : Option (Date × Hold)) → hold_numbered h k ≡ there
-    → first_some (of_hold there (λ hold. release_denial h day caller hold.target ∷ released_refusal h k ∷ [])) ≡ None → IsReleasable h k
-releasable_at h day caller k None is e = absurd cc
-releasable_at h day caller k (Some found) is e =
-    let a = none_of (release_denial h day caller found.1.target) _ e in
-    let b = none_of (released_refusal h k) _ a.1 in
-    record { found = found; there = is; live = option_map_none _ (release_day h k) b.0 }
-
 pub releasable : (h : History) (day : Date) (caller : List ℕ) (k : ℕ) → refusal h day caller (Release k) ≡ None → IsReleasable h k
-releasable h day caller k e = releasable_at h day caller k (hold_numbered h k) refl e
+releasable h day caller k e =
+    by_Option (hold_numbered h k) (λ none. absurd (let refused = rw none at e in cc))
+    (λ found is.
+    let a = none_of (release_denial h day caller found.1.target) _ (rw is at e) in
+    let b = none_of (released_refusal h k) _ a.1 in
+    record { found = found; there = is; live = option_map_none _ (release_day h k) b.0 })
 
 -- ---- the change that it makes
 
@@ -148,15 +116,10 @@ AtMostOne P (c ∷ []) = P c
 AtMostOne P (c ∷ d ∷ more) = ⊥
 
 pub allowed_of : (h : History) (day : Date) (caller : List ℕ) (request : Request) → refusal h day caller request ≡ None → AtMostOne (IsAllowed h) (allowed_change h day request)
-allowed_of h day caller (DefineClass name years) e = tt
-allowed_of h day caller (DefineCollection name) e = by (has_collection h name) refl
-  where
-    by : (there : Bool) → has_collection h name ≡ there → AtMostOne (IsAllowed h) (if there then [] else DefinedCollection day name ∷ [])
-    by true is = tt
-    by false is = is
-allowed_of h day caller (MakeDeposit collection class accession closed bag) e =
-    let found = depositable h day caller collection class accession closed bag.now e in
-    subst (λ (r : Result (List File) (List ℕ)). AtMostOne (IsAllowed h) (deposit_change day collection class accession closed r)) (sym found.1) found.2
+allowed_of h day caller (DefineCollection name) e = by_Bool (has_collection h name) (λ there. rw there tt) (λ new. rw new new)
+allowed_of h day caller (MakeDeposit description bag) e =
+    let found = depositable h day caller description bag.now e in
+    subst (λ (r : Result (List File) (List ℕ)). AtMostOne (IsAllowed h) (deposit_change day description r)) (sym found.1) found.2
 allowed_of h day caller (HoldDeposit n matter) e =
     let found = holdable_at h day caller n (deposit_numbered h n) refl e in
     record { there = found.0; not_gone = found.1; room = found.2 }
@@ -172,39 +135,23 @@ allowed_of h day caller (HoldClass name matter) e =
     record { there = is_so (has_class h name) _ a.0; not_gone = tt; room = below h.max_holds (length (holds h)) c.0 }
 allowed_of h day caller (Release k) e = releasable h day caller k e
 allowed_of h day caller (Dispose n) e = disposable h day caller n e
-allowed_of h day caller (ListDeposits collection class) e = tt
-allowed_of h day caller (Record n) e = tt
-allowed_of h day caller (Holds n) e = tt
-allowed_of h day caller (DownloadBag n) e = tt
-allowed_of h day caller (DownloadFile n path) e = tt
-allowed_of h day caller (Audit n) e = tt
-allowed_of h day caller DueList e = tt
+allowed_of h day caller _ e = tt
 
 -- what a request in range changes is in range
 pub ranged_of : (h : History) (day : Date) (request : Request) → IsDay day → IsRequest request → AtMostOne IsChange (allowed_change h day request)
 ranged_of h day (DefineClass name years) in_day asked = (in_day, asked.0, asked.1)
-ranged_of h day (DefineCollection name) in_day asked = by (has_collection h name)
+ranged_of h day (DefineCollection name) in_day asked = by_Bool (has_collection h name) (λ there. rw there tt) (λ new. rw new (in_day, asked))
+ranged_of h day (MakeDeposit description bag) in_day asked = by (bag_of bag.now)
   where
-    by : (there : Bool) → AtMostOne IsChange (if there then [] else DefinedCollection day name ∷ [])
-    by true = tt
-    by false = (in_day, asked)
-ranged_of h day (MakeDeposit collection class accession closed bag) in_day asked = by (bag_of bag.now)
-  where
-    by : (r : Result (List File) (List ℕ)) → AtMostOne IsChange (deposit_change day collection class accession closed r)
-    by (Ok files) = (in_day, record { collection = asked.0; class = asked.1; accession = asked.2; closed = asked.3 })
+    by : (r : Result (List File) (List ℕ)) → AtMostOne IsChange (deposit_change day description r)
+    by (Ok files) = (in_day, asked)
     by (Err fault) = tt
 ranged_of h day (HoldDeposit n matter) in_day asked = (in_day, record { target = tt; matter = asked })
 ranged_of h day (HoldCollection name matter) in_day asked = (in_day, record { target = asked.0; matter = asked.1 })
 ranged_of h day (HoldClass name matter) in_day asked = (in_day, record { target = asked.0; matter = asked.1 })
 ranged_of h day (Release k) in_day asked = in_day
 ranged_of h day (Dispose n) in_day asked = in_day
-ranged_of h day (ListDeposits collection class) in_day asked = tt
-ranged_of h day (Record n) in_day asked = tt
-ranged_of h day (Holds n) in_day asked = tt
-ranged_of h day (DownloadBag n) in_day asked = tt
-ranged_of h day (DownloadFile n path) in_day asked = tt
-ranged_of h day (Audit n) in_day asked = tt
-ranged_of h day DueList in_day asked = tt
+ranged_of h day _ in_day asked = tt
 
 -- ---- what each change keeps, each legal history has
 
@@ -233,12 +180,12 @@ pub legal_by : (P : History → Type 0)
     → (h : History) → IsLegal h → P h
 legal_by P begun more h (new a b a_in b_in) = begun a b a_in b_in
 legal_by P begun more h (install before policy is legal) = more before (Installed policy) legal (is, tt) (legal_by P begun more before legal)
-legal_by P begun more h (serve before day caller request in_day asked legal) =
+legal_by P begun more h (step before day caller request in_day asked legal) =
     after_change P before day caller request in_day asked (λ c ok. more before c legal ok (legal_by P begun more before legal)) (legal_by P begun more before legal) (refusal before day caller request) refl
 
 -- the deposits after a change: those before, or one more
 pub deposits_by : (P : List (Date × Deposit) → Type 0) (x : History) (c : Change) → IsAccepted x c → P (deposits x)
-    → ((day : Date) (deposit : Deposit) → IsDay day × IsDeposit deposit → IsDepositable x day deposit → P (deposits x ++ (day, deposit) ∷ []))
+    → ((day : Date) (deposit : Deposit) → IsDay day × IsDescription deposit.description → IsDepositable x day deposit → P (deposits x ++ (day, deposit) ∷ []))
     → P (deposits (with_changes x (c ∷ [])))
 deposits_by P x (Deposited day deposit) ok here made = subst P (sym (deposits_grown x (Deposited day deposit ∷ []))) (made day deposit ok.0 ok.1)
 deposits_by P x c ok here made = subst P (sym (deposits_grown x (c ∷ []) ∙ append-nil (deposits x))) here

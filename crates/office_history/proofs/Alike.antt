@@ -1,42 +1,18 @@
 -- Two histories that agree in all that the office decides by: they grow alike, and have one picture.
-use Rattle.std.proofs.Common.{◌≡◌, ℕ, zero, suc, ℤ, Bool, true, false, List, [], ◌∷◌, ◌++◌, length, map, filter, Option, Some, None, option_map, unwrap_or, slice_get, is_none, is_some, refl, sym, ap, ◌∙◌, pos, arith, cond, ◌&&◌}
-use Rattle.std.specs.Prelude.{bytes_eq, sum}
-use Rattle.std.specs.List.{filter_map, flat_map, list_any, cons_option}
-use Rattle.std.specs.Option.{option_or, option_map_or}
-use Rattle.std.proofs.lemmas.List.{map-append, length-map}
-use Rattle.std.proofs.lemmas.List.Elements.{filter_map-append}
-use Rattle.std.proofs.lemmas.Option.{same_Some, slice_get-map}
-use Rattle.jiff.specs.Types.{Date}
-use Rattle.jiff.specs.Words.{epoch_day}
-use Rattle.bag_text.specs.TransferForm.{File}
-use Rattle.bag_check.specs.Validity.{payload_files, payload_bytes}
-use Rattle.office_core.specs.RetentionReading.{due_of}
-use Rattle.office_core.specs.declared.retention.Due.TheVariants.{Never}
-use Rattle.office_rows.specs.Rows.{DepositRow}
-use Rattle.office_history.specs.Lists.{first_said, last_said, item_numbered, numbers, distinct_after, in_first_places}
-use Rattle.office_history.specs.Histories.{History, Change, Deposit, with_changes, installed_in, no_policy, policy, years_in, years_of, collection_in, deposit_in, deposits, deposit_numbered, destroyed_in, destruction_day, kept_numbers, due, Hold, Target, OnDeposit, OnCollection, OnClass, reaches, is_live, hold_in, holds, hold_numbered, released_in, release_day}
-use Rattle.office_history.specs.Stocks.{files_of, Stock, stock}
-use Rattle.office_history.specs.Pictures.{class_in, class_row, caller_row, rule_rows, file_row, file_rows, row_by_release, deposit_row, row_of_deposit, due_number, due_row, row_of_due, picture}
+use Rattle.office_history.proofs.Common.{◌≡◌, ℕ, zero, suc, ℤ, Bool, true, false, List, [], ◌∷◌, ◌++◌, length, map, filter, Option, Some, None, option_map, unwrap_or, slice_get, is_none, is_some, refl, sym, ap, ◌∙◌, pos, arith, ◌&&◌, bytes_eq, sum, filter_map, flat_map, list_any, cons_option, option_or, option_map_or, map-append, length-map, filter_map-append, same_Some, slice_get-map, Date, File, payload_files, payload_bytes, Description, due_of, Never, DepositRow, first_said, last_said, item_numbered, numbers, distinct_after, in_first_places, History, Change, Deposit, with_changes, installed_in, no_policy, policy, years_in, years_of, collection_in, deposit_in, deposits, deposit_numbered, destroyed_in, destruction_day, kept_numbers, due, Hold, Target, OnDeposit, reaches, is_live, hold_in, holds, hold_numbered, released_in, release_day, files_of, Stock, stock, class_in, class_row, caller_row, rule_rows, file_row, file_rows, row_by_release, row_by_gone, deposit_row, row_of_deposit, due_number, due_row, row_of_due, picture, is_nothing, by_Bool}
 use Rattle.office_history.proofs.HistoryLemmas.{deposits_grown, holds_grown}
-use Rattle.bag_text.proofs.ResultLemmas.{is_nothing}
 
 -- what is known of a deposit whose bag may be gone
 pub record Outline : Type 0 where
   pub day : Date
-  pub collection : List ℕ
-  pub class : List ℕ
-  pub accession : List ℕ
-  pub closed : Date
+  pub description : Description
   pub files : ℕ
   pub bytes : ℕ
 
 abbrev pub outline : Date × Deposit → Outline
 outline found = record {
   day = found.0;
-  collection = found.1.collection;
-  class = found.1.class;
-  accession = found.1.accession;
-  closed = found.1.closed;
+  description = found.1.description;
   files = payload_files found.1.bag;
   bytes = payload_bytes found.1.bag;
 }
@@ -87,17 +63,8 @@ first_said-append says (x ∷ xs) ys = ap (option_or (says x)) (first_said-appen
 -- what is kept of each text once depends, with more texts, on what was kept alone
 pub distinct_after-append : (seen xs ys : List (List ℕ)) → distinct_after seen (xs ++ ys) ≡ distinct_after seen (distinct_after seen xs ++ ys)
 distinct_after-append seen [] ys = refl
-distinct_after-append seen (x ∷ xs) ys = by (list_any (bytes_eq x) seen) refl (distinct_after-append seen xs ys) (distinct_after-append (x ∷ seen) xs ys)
-  where
-    by : (b : Bool) → list_any (bytes_eq x) seen ≡ b
-        → distinct_after seen (xs ++ ys) ≡ distinct_after seen (distinct_after seen xs ++ ys)
-        → distinct_after (x ∷ seen) (xs ++ ys) ≡ distinct_after (x ∷ seen) (distinct_after (x ∷ seen) xs ++ ys)
-        → cond b (distinct_after seen (xs ++ ys)) (x ∷ distinct_after (x ∷ seen) (xs ++ ys))
-        ≡ distinct_after seen (cond b (distinct_after seen xs) (x ∷ distinct_after (x ∷ seen) xs) ++ ys)
-    by true e within behind = within
-    by false e within behind =
-        ap (λ zs. x ∷ zs) behind
-        ∙ ap (λ b. cond b (distinct_after seen (distinct_after (x ∷ seen) xs ++ ys)) (x ∷ distinct_after (x ∷ seen) (distinct_after (x ∷ seen) xs ++ ys))) (sym e)
+distinct_after-append seen (x ∷ xs) ys =
+    by_Bool (list_any (bytes_eq x) seen) (λ before. rw before (distinct_after-append seen xs ys)) (λ new. rw (new, new) (ap (λ zs. x ∷ zs) (distinct_after-append (x ∷ seen) xs ys)))
 
 -- ---- longer histories
 
@@ -125,10 +92,9 @@ not_gone_before (Some day) b e = absurd cc
 same_bag_at : (xs ys more : List (Date × Deposit)) (i : ℕ) → length xs ≡ length ys → bag_in (slice_get xs i) ≡ bag_in (slice_get ys i)
     → bag_in (slice_get (xs ++ more) i) ≡ bag_in (slice_get (ys ++ more) i)
 same_bag_at [] [] more i len e = refl
-same_bag_at [] (y ∷ ys) more i len e = absurd (omega (arith, len))
-same_bag_at (x ∷ xs) [] more i len e = absurd (omega (arith, len))
 same_bag_at (x ∷ xs) (y ∷ ys) more zero len e = e
 same_bag_at (x ∷ xs) (y ∷ ys) more (suc i) len e = same_bag_at xs ys more i (omega (arith, len)) e
+same_bag_at _ _ more i len e = absurd (omega (arith, len))
 
 same_bag_numbered : (xs ys more : List (Date × Deposit)) (n : ℕ) → length xs ≡ length ys → bag_in (item_numbered xs n) ≡ bag_in (item_numbered ys n)
     → bag_in (item_numbered (xs ++ more) n) ≡ bag_in (item_numbered (ys ++ more) n)
@@ -176,12 +142,11 @@ same_outline h k a n = sym (numbered-map outline (deposits h) n) ∙ ap (λ os. 
 -- a deposit is its outline and its bag
 whole : (x y : Option (Date × Deposit)) → option_map outline x ≡ option_map outline y → bag_in x ≡ bag_in y → x ≡ y
 whole None None e bags = refl
-whole None (Some y) e bags = absurd cc
-whole (Some x) None e bags = absurd cc
 whole (Some x) (Some y) e bags =
     let s : outline x ≡ outline y = same_Some _ _ e in
-    let d : x.1 ≡ y.1 = λ i. record { collection = (s i).collection; class = (s i).class; accession = (s i).accession; closed = (s i).closed; bag = bags i } in
+    let d : x.1 ≡ y.1 = λ i. record { description = (s i).description; bag = bags i } in
     λ i. Some ((s i).day, d i)
+whole _ _ e bags = absurd cc
 
 pub same_found : (h k : History) → Alike h k → (n : ℕ) → destruction_day h n ≡ None → deposit_numbered h n ≡ deposit_numbered k n
 same_found h k a n e = whole (deposit_numbered h n) (deposit_numbered k n) (same_outline h k a n) (a.same_bags n e)
@@ -194,32 +159,20 @@ same_kept h k a = λ i. filter (λ n. is_none (a.same_gone n i)) (numbers (same_
 -- what is gathered of what a filter keeps is asked of that alone
 pub gathered_of_kept : {A B : Type 0} (p : A → Bool) (f g : A → List B) (xs : List A) → ((x : A) → p x ≡ true → f x ≡ g x) → flat_map f (filter p xs) ≡ flat_map g (filter p xs)
 gathered_of_kept p f g [] same = refl
-gathered_of_kept p f g (x ∷ xs) same = by (p x) refl (gathered_of_kept p f g xs same)
-  where
-    by : (b : Bool) → p x ≡ b → flat_map f (filter p xs) ≡ flat_map g (filter p xs) → flat_map f (cond b (x ∷ filter p xs) (filter p xs)) ≡ flat_map g (cond b (x ∷ filter p xs) (filter p xs))
-    by true e rest = λ i. same x e i ++ rest i
-    by false e rest = rest
+gathered_of_kept p f g (x ∷ xs) same =
+    let rest = gathered_of_kept p f g xs same in by_Bool (p x) (λ passes. rw passes (λ i. same x passes i ++ rest i)) (λ fails. rw fails rest)
 
 pub mapped_of_kept : {A B : Type 0} (p : A → Bool) (f g : A → Option B) (xs : List A) → ((x : A) → p x ≡ true → f x ≡ g x) → filter_map f (filter p xs) ≡ filter_map g (filter p xs)
 mapped_of_kept p f g [] same = refl
-mapped_of_kept p f g (x ∷ xs) same = by (p x) refl (mapped_of_kept p f g xs same)
-  where
-    by : (b : Bool) → p x ≡ b → filter_map f (filter p xs) ≡ filter_map g (filter p xs) → filter_map f (cond b (x ∷ filter p xs) (filter p xs)) ≡ filter_map g (cond b (x ∷ filter p xs) (filter p xs))
-    by true e rest = λ i. cons_option (same x e i) (rest i)
-    by false e rest = rest
+mapped_of_kept p f g (x ∷ xs) same =
+    let rest = mapped_of_kept p f g xs same in by_Bool (p x) (λ passes. rw passes (λ i. cons_option (same x passes i) (rest i))) (λ fails. rw fails rest)
+
+-- the deposit of an outline, without its bag
+abbrev bare : Outline → Deposit
+bare o = record { description = o.description; bag = [] }
 
 abbrev row_from : ℕ → Option Date → Outline → DepositRow
-row_from n day o = record {
-  number = pos n;
-  accession = o.accession;
-  collection = o.collection;
-  class = o.class;
-  closed = epoch_day o.closed;
-  deposited = epoch_day o.day;
-  files = pos o.files;
-  bytes = pos o.bytes;
-  gone = option_map epoch_day day;
-}
+row_from n day o = record (row_by_gone n day (o.day, bare o)) { files = pos o.files; bytes = pos o.bytes }
 
 -- a row is made of the outline
 pub row_of_outline : (h : History) (n : ℕ) (found : Option (Date × Deposit)) → option_map (deposit_row h n) found ≡ option_map (row_from n (destruction_day h n)) (option_map outline found)
@@ -240,13 +193,9 @@ same_file_rows h k a =
 
 -- ---- what is kept of deposits says nothing of their bags
 
-abbrev bare : Outline → Deposit
-bare o = record { collection = o.collection; class = o.class; accession = o.accession; closed = o.closed; bag = [] }
-
 reaches_bare : (target : Target) (n : ℕ) (found : Date × Deposit) → reaches target n found.1 ≡ reaches target n (bare (outline found))
 reaches_bare (OnDeposit m) n found = refl
-reaches_bare (OnCollection name) n found = refl
-reaches_bare (OnClass name) n found = refl
+reaches_bare _ n found = refl
 
 covers_bare : (o : Option (Date × Hold)) (n : ℕ) (found : Date × Deposit)
     → option_map_or (λ hold. reaches hold.1.target n found.1) o false ≡ option_map_or (λ hold. reaches hold.1.target n (bare (outline found))) o false
@@ -267,7 +216,7 @@ due_of_outline h n (Some found) = ap Some (due_row_bare h n found)
 same_due : (h k : History) → Alike h k → (n : ℕ) (o : Outline) → due_row h n (o.day, bare o) ≡ due_row k n (o.day, bare o)
 same_due h k a n o = λ i. record {
   number = pos n;
-  due = due_number (option_map_or (due_of o.closed) (a.same_years o.class i) Never);
+  due = due_number (option_map_or (due_of o.description.closed) (a.same_years o.description.class i) Never);
   holds = pos (length (filter (λ m. is_none (a.same_released m i) && option_map_or (λ hold. reaches hold.1.target n (bare o)) (item_numbered (a.same_holds i) m) false) (numbers (length (a.same_holds i)))));
 }
 

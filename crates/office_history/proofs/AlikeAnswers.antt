@@ -1,36 +1,11 @@
 -- Histories that agree in all that the office decides by answer alike, and change alike.
-use Rattle.std.proofs.Common.{◌≡◌, ℕ, ◌+◌, ◌&&◌, ◌||◌, Bool, true, false, List, [], ◌∷◌, length, map, filter, Option, Some, None, option_map, slice_get, is_none, refl, sym, ap, subst, ◌∙◌, nat_le, true≢false, cond, if◌then◌else◌}
-use Rattle.std.specs.Prelude.{position, bytes_eq, not, is_some}
-use Rattle.std.specs.List.{filter_map, list_any, position_from}
-use Rattle.std.specs.Option.{option_map_or}
-use Rattle.std.proofs.lemmas.Option.{same_Some}
+use Rattle.office_history.proofs.FirstLemmas.{◌≡◌, ℕ, ◌+◌, ◌&&◌, ◌||◌, Bool, true, false, List, [], ◌∷◌, length, map, filter, Option, Some, None, option_map, slice_get, is_none, refl, sym, ap, subst, ◌∙◌, nat_le, cond, if◌then◌else◌, position, bytes_eq, not, is_some, filter_map, list_any, position_from, option_map_or, same_Some, bytes_eq-Decides, and-true, Date, set_text, content_at, first_some, answer_if, PolicyValue, role_of, decision_of, due_of, Action, Answer, Never, Refusal, NoSuch, Gone, Taken, Released, Full, Request, DefineClass, DefineCollection, Record, Holds, DownloadBag, DownloadFile, Audit, HoldDeposit, HoldCollection, HoldClass, Release, Dispose, DueList, item_numbered, numbers, distinct_after, in_first_places, History, Change, DefinedCollection, Target, OnDeposit, OnCollection, OnClass, Deposit, Hold, with_changes, policy, has_collection, collection_in, deposits, deposit_numbered, accession_of, destruction_day, due, reaches, live_holds, has_accession, report_on, refusal_in, denial, denial_at, closed_ahead_refusal, bad_bag, held_refusal, not_due_refusal, full_of_holds, no_file, of_deposit, of_hold, release_denial_of, release_denial, refusal, Wanted, record_of, is_selected, listed_record, listed_records, due_list, live_hold, told_holds, audit_report, told_of, file_answer, allowed_answer, allowed_change, answer_unless, answer, changes_unless, change, after, Outline, outline, Alike, alike_grown, same_count, same_outline, same_found, same_kept, mapped_of_kept, is_nothing, by_Option, arith}
 use Rattle.std.proofs.lemmas.Iterator.Adapters.{position_from-zero}
-use Rattle.std.proofs.lemmas.Slice.Eq.{bytes_eq-Decides}
-use Rattle.std.proofs.Math.Bool.{and-true}
-use Rattle.jiff.specs.Types.{Date}
-use Rattle.bag_text.specs.TransferForm.{set_text, content_at}
-use Rattle.office_core.specs.FirstOf.{first_some, answer_if}
-use Rattle.office_core.specs.Policies.{PolicyValue, role_of}
-use Rattle.office_core.specs.Rules.{decision_of}
-use Rattle.office_core.specs.RetentionReading.{due_of}
-use Rattle.office_core.specs.declared.action.Action.{Action}
 use Rattle.office_core.specs.declared.action.Action.TheVariants as acts
-use Rattle.office_core.specs.declared.answer.Answer.{Answer}
 use Rattle.office_core.specs.declared.answer.Answer.TheVariants as answers
-use Rattle.office_core.specs.declared.retention.Due.TheVariants.{Never}
-use Rattle.office_core.specs.declared.refusal.Refusal.{Refusal}
-use Rattle.office_core.specs.declared.refusal.Refusal.TheVariants.{NoSuch, Gone, Taken, Released, Full}
 use Rattle.office_core.specs.declared.refusal.Subject.TheVariants as subjects
-use Rattle.office_core.specs.declared.request.Request.{Request}
-use Rattle.office_core.specs.declared.request.Request.TheVariants.{DefineClass, DefineCollection, Deposit as MakeDeposit, List as ListDeposits, Record, Holds, DownloadBag, DownloadFile, Audit, HoldDeposit, HoldCollection, HoldClass, Release, Dispose, DueList}
-use Rattle.office_history.specs.Lists.{item_numbered, numbers, distinct_after, in_first_places}
-use Rattle.office_history.specs.Histories.{History, Change, DefinedCollection, Target, OnDeposit, OnCollection, OnClass, Deposit, Hold, with_changes, policy, has_collection, collection_in, deposits, deposit_numbered, accession_of, destruction_day, due, reaches, live_holds, has_accession}
-use Rattle.office_history.specs.Bags.{report_on}
+use Rattle.office_core.specs.declared.request.Request.TheVariants.{Deposit as MakeDeposit, List as ListDeposits}
 use Rattle.office_core.specs.Verdicts as deciding
-use Rattle.office_history.specs.Refusals.{refusal_in, denial, denial_at, closed_ahead_refusal, bad_bag, held_refusal, not_due_refusal, full_of_holds, no_file, of_deposit, of_hold, release_denial_of, release_denial, refusal}
-use Rattle.office_history.specs.Answers.{Wanted, record_of, is_asked, listed_record, listed_records, due_list, live_hold, told_holds, audit_report, told_of, file_answer, allowed_answer, allowed_change, answer_unless, answer, changes_unless, change, after}
-use Rattle.office_history.proofs.Alike.{Outline, outline, Alike, alike_grown, same_count, same_outline, same_found, same_kept, mapped_of_kept}
-use Rattle.bag_text.proofs.ResultLemmas.{is_nothing}
 
 -- ---- what the rules say
 
@@ -39,18 +14,12 @@ same_denied h k a day caller action collection class =
     ap (λ (p : PolicyValue). refusal_in (deciding.denial_verdict (decision_of p.rules (record { role = role_of p caller; action = action; collection = collection; class = class; day = day })))) a.same_policy
 
 same_denied_at : (h k : History) → Alike h k → (day : Date) (caller : List ℕ) (action : Action) (deposit : Deposit) → denial_at h day caller action deposit ≡ denial_at k day caller action deposit
-same_denied_at h k a day caller action deposit = same_denied h k a day caller action (Some deposit.collection) (Some deposit.class)
+same_denied_at h k a day caller action deposit = same_denied h k a day caller action (Some deposit.description.collection) (Some deposit.description.class)
 
 -- ---- collections and accessions
 
 once_among : (b c a s : Bool) → (c ≡ true → s ≡ b) → cond b (a && not s) (c || (a && not (c || s))) ≡ ((c || a) && not s)
-once_among true true true true h = refl
-once_among true true false true h = refl
-once_among true true a false h = absurd (true≢false (sym (h refl)))
-once_among true false a s h = refl
-once_among false true a true h = absurd (true≢false (h refl))
-once_among false true a false h = refl
-once_among false false a s h = refl
+once_among b c a s h = grind (arith, h)
 
 -- a text is among those kept once where it is among all, and was not seen before
 among_distinct : (text : List ℕ) (seen texts : List (List ℕ)) → list_any (bytes_eq text) (distinct_after seen texts) ≡ (list_any (bytes_eq text) texts && not (list_any (bytes_eq text) seen))
@@ -76,7 +45,7 @@ same_collection h k a name =
     ∙ among_first_places name (filter_map collection_in k.changes)
 
 abbrev has_outline : List ℕ → Outline → Bool
-has_outline accession o = bytes_eq o.accession accession
+has_outline accession o = bytes_eq o.description.accession accession
 
 place_of_outline : (accession : List ℕ) (n : ℕ) (ds : List (Date × Deposit)) → position_from (has_accession accession) n ds ≡ position_from (has_outline accession) n (map outline ds)
 place_of_outline accession n [] = refl
@@ -98,7 +67,7 @@ same_live h k a n deposit = λ i.
     (numbers (length (a.same_holds i)))
 
 same_due : (h k : History) → Alike h k → (deposit : Deposit) → due h deposit ≡ due k deposit
-same_due h k a deposit = ap (λ years. option_map_or (due_of deposit.closed) years Never) (a.same_years deposit.class)
+same_due h k a deposit = ap (λ years. option_map_or (due_of deposit.description.closed) years Never) (a.same_years deposit.description.class)
 
 same_full_of_holds : (h k : History) → Alike h k → full_of_holds h ≡ full_of_holds k
 same_full_of_holds h k a = λ i. answer_if (nat_le (a.same_max_holds i) (length (a.same_holds i))) Full
@@ -106,12 +75,12 @@ same_full_of_holds h k a = λ i. answer_if (nat_le (a.same_max_holds i) (length 
 -- ---- the refusals of a request that names a deposit: whether it is denied, whether it is gone, and the rest
 
 abbrev denied_outline : PolicyValue → Date → List ℕ → Action → Outline → Option Refusal
-denied_outline p day caller action o = refusal_in (deciding.denial_verdict (decision_of p.rules (record { role = role_of p caller; action = action; collection = Some o.collection; class = Some o.class; day = day })))
+denied_outline p day caller action o = refusal_in (deciding.denial_verdict (decision_of p.rules (record { role = role_of p caller; action = action; collection = Some o.description.collection; class = Some o.description.class; day = day })))
 
 abbrev row : PolicyValue → Date → List ℕ → Action → Option Date → Option (Date × Deposit) → (Deposit → List (Option Refusal)) → Option Refusal
 row p day caller action gone there rest =
     first_some (of_deposit there (λ d.
-    refusal_in (deciding.denial_verdict (decision_of p.rules (record { role = role_of p caller; action = action; collection = Some d.collection; class = Some d.class; day = day })))
+    refusal_in (deciding.denial_verdict (decision_of p.rules (record { role = role_of p caller; action = action; collection = Some d.description.collection; class = Some d.description.class; day = day })))
     ∷ refusal_in (deciding.gone_verdict gone)
     ∷ rest d))
 
@@ -125,11 +94,10 @@ same_row_of : (p : PolicyValue) (day : Date) (caller : List ℕ) (action : Actio
     → row p day caller action gone x r ≡ row p day caller action gone y s
 same_row_of p day caller action None x y r s e same more = λ i. row p day caller action None (same refl i) (λ d. more refl d i)
 same_row_of p day caller action (Some on) None None r s e same more = refl
-same_row_of p day caller action (Some on) None (Some y) r s e same more = absurd cc
-same_row_of p day caller action (Some on) (Some x) None r s e same more = absurd cc
 same_row_of p day caller action (Some on) (Some x) (Some y) r s e same more =
     cut (denied_outline p day caller action (outline x)) (Gone on) (r x.1) (s y.1)
     ∙ ap (λ (o : Outline). first_some (denied_outline p day caller action o ∷ Some (Gone on) ∷ s y.1)) (same_Some (outline x) (outline y) e)
+same_row_of p day caller action (Some on) _ _ r s e same more = absurd cc
 
 same_row_at : (h k : History) → Alike h k → (day : Date) (caller : List ℕ) (action : Action) (n : ℕ) (r s : Deposit → List (Option Refusal))
     → (destruction_day h n ≡ None → (d : Deposit) → r d ≡ s d)
@@ -142,9 +110,8 @@ same_row_at h k a day caller action n r s more =
 
 release_of_outline : (h : History) (day : Date) (caller : List ℕ) (x y : Option (Date × Deposit)) → option_map outline x ≡ option_map outline y → release_denial_of h day caller x ≡ release_denial_of h day caller y
 release_of_outline h day caller None None e = refl
-release_of_outline h day caller None (Some y) e = absurd cc
-release_of_outline h day caller (Some x) None e = absurd cc
-release_of_outline h day caller (Some x) (Some y) e = ap (λ (o : Outline). denial h day caller acts.Release (Some o.collection) (Some o.class)) (same_Some (outline x) (outline y) e)
+release_of_outline h day caller (Some x) (Some y) e = ap (λ (o : Outline). denial h day caller acts.Release (Some o.description.collection) (Some o.description.class)) (same_Some (outline x) (outline y) e)
+release_of_outline h day caller _ _ e = absurd cc
 
 release_by_policy : (h k : History) → Alike h k → (day : Date) (caller : List ℕ) (x : Option (Date × Deposit)) → release_denial_of h day caller x ≡ release_denial_of k day caller x
 release_by_policy h k a day caller None = refl
@@ -162,13 +129,13 @@ same_release h k a day caller (OnClass name) = same_denied h k a day caller acts
 pub same_refusal : (h k : History) → Alike h k → (day : Date) (caller : List ℕ) (request : Request) → refusal h day caller request ≡ refusal k day caller request
 same_refusal h k a day caller (DefineClass name years) = λ i. first_some (same_denied h k a day caller acts.Class None (Some name) i ∷ [])
 same_refusal h k a day caller (DefineCollection name) = λ i. first_some (same_denied h k a day caller acts.Collection (Some name) None i ∷ [])
-same_refusal h k a day caller (MakeDeposit collection class accession closed bag) = λ i.
+same_refusal h k a day caller (MakeDeposit description bag) = λ i.
     first_some (
-    answer_if (not (same_collection h k a collection i)) (NoSuch subjects.Collection)
-    ∷ answer_if (not (is_some (a.same_years class i))) (NoSuch subjects.Class)
-    ∷ same_denied h k a day caller acts.Deposit (Some collection) (Some class) i
-    ∷ option_map Taken (same_accession h k a accession i)
-    ∷ closed_ahead_refusal day closed
+    answer_if (not (same_collection h k a description.collection i)) (NoSuch subjects.Collection)
+    ∷ answer_if (not (is_some (a.same_years description.class i))) (NoSuch subjects.Class)
+    ∷ same_denied h k a day caller acts.Deposit (Some description.collection) (Some description.class) i
+    ∷ option_map Taken (same_accession h k a description.accession i)
+    ∷ closed_ahead_refusal day description.closed
     ∷ bad_bag bag.now
     ∷ answer_if (nat_le (a.same_max_deposits i) (same_count h k a i)) Full
     ∷ [])
@@ -211,7 +178,7 @@ same_told_holds h k a n deposit = λ i.
 same_listed : (h k : History) → Alike h k → (day : Date) (caller : List ℕ) (wanted : Wanted) (n : ℕ) → destruction_day h n ≡ None → listed_record h day caller wanted n ≡ listed_record k day caller wanted n
 same_listed h k a day caller wanted n e = λ i.
     option_map_or (λ (found : Date × Deposit).
-    if is_asked wanted.collection found.1.collection && is_asked wanted.class found.1.class && is_none (same_denied_at h k a day caller acts.List found.1 i)
+    if is_selected wanted.collection found.1.description.collection && is_selected wanted.class found.1.description.class && is_none (same_denied_at h k a day caller acts.List found.1 i)
     then Some (same_record h k a n found i) else None)
     (same_found h k a n e i) None
 
@@ -228,11 +195,7 @@ same_due_list h k a day caller = λ i. filter (λ n. is_none (same_refusal h k a
 row_stops : (p : PolicyValue) (day : Date) (caller : List ℕ) (action : Action) (on : Date) (there : Option (Date × Deposit)) (r : Deposit → List (Option Refusal)) (x y : Answer)
     → answer_unless (row p day caller action (Some on) there r) x ≡ answer_unless (row p day caller action (Some on) there r) y
 row_stops p day caller action on None r x y = refl
-row_stops p day caller action on (Some found) r x y = stops (denied_outline p day caller action (outline found))
-  where
-    stops : (first : Option Refusal) → answer_unless (first_some (first ∷ Some (Gone on) ∷ r found.1)) x ≡ answer_unless (first_some (first ∷ Some (Gone on) ∷ r found.1)) y
-    stops None = refl
-    stops (Some why) = refl
+row_stops p day caller action on (Some found) r x y = by_Option (denied_outline p day caller action (outline found)) (λ none. rw none refl) (λ why is. rw is refl)
 
 unless_gone : (p : PolicyValue) (day : Date) (caller : List ℕ) (action : Action) (gone : Option Date) (there : Option (Date × Deposit)) (r : Deposit → List (Option Refusal)) (x y : Answer) → (gone ≡ None → x ≡ y)
     → answer_unless (row p day caller action gone there r) x ≡ answer_unless (row p day caller action gone there r) y
@@ -248,8 +211,8 @@ answer_at h k a day caller action n r x y same =
 pub same_answer : (h k : History) → Alike h k → (day : Date) (caller : List ℕ) (request : Request) → answer h day caller request ≡ answer k day caller request
 same_answer h k a day caller (DefineClass name years) = ap (λ why. answer_unless why (answers.Class name years)) (same_refusal h k a day caller (DefineClass name years))
 same_answer h k a day caller (DefineCollection name) = ap (λ why. answer_unless why (answers.Collection name)) (same_refusal h k a day caller (DefineCollection name))
-same_answer h k a day caller (MakeDeposit collection class accession closed bag) = λ i.
-    answer_unless (same_refusal h k a day caller (MakeDeposit collection class accession closed bag) i) (answers.Deposited (same_count h k a i + 1))
+same_answer h k a day caller (MakeDeposit description bag) = λ i.
+    answer_unless (same_refusal h k a day caller (MakeDeposit description bag) i) (answers.Deposited (same_count h k a i + 1))
 same_answer h k a day caller (ListDeposits collection class) = ap answers.List (same_list h k a day caller (record { collection = collection; class = class }))
 same_answer h k a day caller (Record n) =
     answer_at h k a day caller acts.Record n (λ d. []) (allowed_answer h day caller (Record n)) (allowed_answer k day caller (Record n))
@@ -277,20 +240,7 @@ same_answer h k a day caller DueList = ap (answers.DueList day) (same_due_list h
 
 same_allowed_change : (h k : History) → Alike h k → (day : Date) (request : Request) → allowed_change h day request ≡ allowed_change k day request
 same_allowed_change h k a day (DefineCollection name) = ap (λ there. if there then [] else DefinedCollection day name ∷ []) (same_collection h k a name)
-same_allowed_change h k a day (DefineClass name years) = refl
-same_allowed_change h k a day (MakeDeposit collection class accession closed bag) = refl
-same_allowed_change h k a day (ListDeposits collection class) = refl
-same_allowed_change h k a day (Record n) = refl
-same_allowed_change h k a day (Holds n) = refl
-same_allowed_change h k a day (DownloadBag n) = refl
-same_allowed_change h k a day (DownloadFile n path) = refl
-same_allowed_change h k a day (Audit n) = refl
-same_allowed_change h k a day (HoldDeposit n matter) = refl
-same_allowed_change h k a day (HoldCollection name matter) = refl
-same_allowed_change h k a day (HoldClass name matter) = refl
-same_allowed_change h k a day (Release j) = refl
-same_allowed_change h k a day (Dispose n) = refl
-same_allowed_change h k a day DueList = refl
+same_allowed_change h k a day _ = refl
 
 same_change : (h k : History) → Alike h k → (day : Date) (caller : List ℕ) (request : Request) → change h day caller request ≡ change k day caller request
 same_change h k a day caller request = λ i. changes_unless (same_refusal h k a day caller request i) (same_allowed_change h k a day request i)

@@ -1,25 +1,7 @@
 -- What is known of a history where an answer was given: which hold was placed, which was released, what is told.
-use Rattle.std.proofs.Common.{◌≡◌, ℕ, zero, suc, ◌+◌, List, [], ◌∷◌, ◌++◌, length, Option, Some, None, slice_get, refl, sym, ap, ◌∙◌, length-append, arith, ◌≤◌}
-use Rattle.std.specs.List.{filter_map, cons_option}
-use Rattle.std.specs.Option.{option_or, option_map_or}
-use Rattle.std.proofs.lemmas.Bool.Decides.{Decides-eqb}
-use Rattle.std.proofs.lemmas.Option.{same_Some}
-use Rattle.jiff.specs.Types.{Date}
-use Rattle.bag_text.specs.TransferForm.{set_text, content_at}
-use Rattle.office_core.specs.declared.answer.Answer.{Answer}
+use Rattle.office_history.proofs.FirstLemmas.{◌≡◌, ℕ, zero, suc, ◌+◌, List, [], ◌∷◌, ◌++◌, length, Option, Some, None, slice_get, refl, sym, ap, ◌∙◌, length-append, arith, ◌≤◌, filter_map, cons_option, option_or, Decides-eqb, same_Some, Date, set_text, content_at, Answer, Refusal, Request, Record, Holds, DownloadBag, DownloadFile, Audit, HoldDeposit, HoldCollection, HoldClass, Release, DueList, first_said, item_numbered, History, Change, PlacedHold, ReleasedHold, Deposit, Hold, OnDeposit, OnCollection, OnClass, with_changes, deposit_numbered, hold_in, holds, hold_numbered, release_day, released_in, live_holds, report_on, refusal, answer, answer_unless, allowed_answer, told_of, file_answer, record_of, told_hold, told_holds, audit_report, change, changes_unless, allowed_change, after, numbered_last, holds_grown, releasable, by_Option}
 use Rattle.office_core.specs.declared.answer.Answer.TheVariants as answers
 use Rattle.office_core.specs.declared.answer.LiveHold.{LiveHold}
-use Rattle.office_core.specs.declared.refusal.Refusal.{Refusal}
-use Rattle.office_core.specs.declared.request.Request.{Request}
-use Rattle.office_core.specs.declared.request.Request.TheVariants.{DefineClass, DefineCollection, Deposit as MakeDeposit, List as ListDeposits, Record, Holds, DownloadBag, DownloadFile, Audit, HoldDeposit, HoldCollection, HoldClass, Release, Dispose, DueList}
-use Rattle.office_history.specs.Lists.{first_said, item_numbered}
-use Rattle.office_history.specs.Histories.{History, Change, PlacedHold, ReleasedHold, Deposit, Hold, OnDeposit, OnCollection, OnClass, with_changes, deposit_numbered, hold_in, holds, hold_numbered, release_day, released_in, live_holds}
-use Rattle.office_history.specs.Bags.{report_on}
-use Rattle.office_history.specs.Refusals.{refusal}
-use Rattle.office_history.specs.Answers.{answer, answer_unless, allowed_answer, told_of, file_answer, record_of, told_hold, told_holds, live_hold, audit_report, change, changes_unless, allowed_change, after}
-use Rattle.office_history.proofs.ListLemmas.{numbered_last}
-use Rattle.office_history.proofs.HistoryLemmas.{holds_grown}
-use Rattle.office_history.proofs.Accepted.{releasable}
 use Rattle.office_history.proofs.LawLemmas.{unrefused}
 use Rattle.office_history.proofs.OnceLemmas.{not_among_live}
 
@@ -44,18 +26,12 @@ allowed_hold : (h : History) (day : Date) (caller : List ℕ) (request : Request
 allowed_hold h day caller (HoldDeposit n matter) k e = record { next_number = (let same : answers.HoldPlaced (length (holds h) + 1) ≡ answers.HoldPlaced k = e in cc); hold = record { target = OnDeposit n; matter = matter }; placed = refl }
 allowed_hold h day caller (HoldCollection name matter) k e = record { next_number = (let same : answers.HoldPlaced (length (holds h) + 1) ≡ answers.HoldPlaced k = e in cc); hold = record { target = OnCollection name; matter = matter }; placed = refl }
 allowed_hold h day caller (HoldClass name matter) k e = record { next_number = (let same : answers.HoldPlaced (length (holds h) + 1) ≡ answers.HoldPlaced k = e in cc); hold = record { target = OnClass name; matter = matter }; placed = refl }
-allowed_hold h day caller (DefineClass name years) k e = absurd cc
-allowed_hold h day caller (DefineCollection name) k e = absurd cc
-allowed_hold h day caller (MakeDeposit collection class accession closed bag) k e = absurd cc
-allowed_hold h day caller (ListDeposits collection class) k e = absurd cc
 allowed_hold h day caller (Record n) k e = absurd (told_no_number (deposit_numbered h n) (λ d. answers.Record (record_of h n d)) k (λ d. λ wrong. absurd cc) e)
 allowed_hold h day caller (Holds n) k e = absurd (told_no_number (deposit_numbered h n) (λ d. answers.Holds (told_holds h n d.1)) k (λ d. λ wrong. absurd cc) e)
 allowed_hold h day caller (DownloadBag n) k e = absurd (told_no_number (deposit_numbered h n) (λ d. answers.Bag (set_text d.1.bag)) k (λ d. λ wrong. absurd cc) e)
 allowed_hold h day caller (DownloadFile n path) k e = absurd (told_no_number (deposit_numbered h n) (λ d. file_answer (content_at d.1.bag path.now)) k (λ d. file_no_number (content_at d.1.bag path.now) k) e)
 allowed_hold h day caller (Audit n) k e = absurd (told_no_number (deposit_numbered h n) (λ d. answers.Audit n (audit_report (report_on d.1.bag))) k (λ d. λ wrong. absurd cc) e)
-allowed_hold h day caller (Release j) k e = absurd cc
-allowed_hold h day caller (Dispose n) k e = absurd cc
-allowed_hold h day caller DueList k e = absurd cc
+allowed_hold h day caller _ k e = absurd cc
 
 pub was_placed : (h : History) (day : Date) (caller : List ℕ) (request : Request) (k : ℕ) → answer h day caller request ≡ answers.HoldPlaced k → WasPlaced h day (change h day caller request) k
 was_placed h day caller request k e =
@@ -70,27 +46,24 @@ holds_after h day changes hold e = ap (λ (c : List Change). holds (with_changes
 pub more_holds : (h : History) (more : List Change) → length (holds h) ≤ length (holds (with_changes h more))
 more_holds h more = rw (holds_grown h more, length-append (holds h) (filter_map hold_in more)) (omega arith)
 
+-- a hold that was answered with a number has that number
+hold_there : (h : History) (day : Date) (caller : List ℕ) (request : Request) (hold : Hold) (k : ℕ) → answer_unless (refusal h day caller request) (answers.HoldPlaced (length (holds h) + 1)) ≡ answers.HoldPlaced k
+    → item_numbered (holds (with_changes h (changes_unless (refusal h day caller request) (PlacedHold day hold ∷ [])))) k ≡ Some (day, hold)
+hold_there h day caller request hold k e =
+    let r = unrefused (refusal h day caller request) (answers.HoldPlaced (length (holds h) + 1)) (answers.HoldPlaced k) e (λ r. λ wrong. absurd cc) in
+    let next : length (holds h) + 1 ≡ k = (let same = r.1 in cc) in
+    ap (λ ds. item_numbered ds k) (holds_after h day (changes_unless (refusal h day caller request) (PlacedHold day hold ∷ [])) hold (ap (λ why. changes_unless why (PlacedHold day hold ∷ [])) r.0))
+    ∙ ap (λ m. item_numbered (holds h ++ (day, hold) ∷ []) m) (sym next) ∙ numbered_last (holds h) (day, hold)
+
 -- the hold of a collection that was answered with a number has that number
 pub collection_hold : (h : History) (day : Date) (caller name matter : List ℕ) (k : ℕ) → answer h day caller (HoldCollection name matter) ≡ answers.HoldPlaced k
     → hold_numbered (after h day caller (HoldCollection name matter)) k ≡ Some (day, record { target = OnCollection name; matter = matter })
-collection_hold h day caller name matter k e =
-    let r = unrefused (refusal h day caller (HoldCollection name matter)) (answers.HoldPlaced (length (holds h) + 1)) (answers.HoldPlaced k) e (λ r. λ wrong. absurd cc) in
-    let next : length (holds h) + 1 ≡ k = (let same = r.1 in cc) in
-    let hold : Hold = record { target = OnCollection name; matter = matter } in
-    let made : change h day caller (HoldCollection name matter) ≡ PlacedHold day hold ∷ [] = ap (λ why. changes_unless why (PlacedHold day hold ∷ [])) r.0 in
-    ap (λ ds. item_numbered ds k) (holds_after h day (change h day caller (HoldCollection name matter)) hold made)
-    ∙ ap (λ m. item_numbered (holds h ++ (day, hold) ∷ []) m) (sym next) ∙ numbered_last (holds h) (day, hold)
+collection_hold h day caller name matter k e = hold_there h day caller (HoldCollection name matter) (record { target = OnCollection name; matter = matter }) k e
 
 -- and so has the hold of a class
 pub class_hold : (h : History) (day : Date) (caller name matter : List ℕ) (k : ℕ) → answer h day caller (HoldClass name matter) ≡ answers.HoldPlaced k
     → hold_numbered (after h day caller (HoldClass name matter)) k ≡ Some (day, record { target = OnClass name; matter = matter })
-class_hold h day caller name matter k e =
-    let r = unrefused (refusal h day caller (HoldClass name matter)) (answers.HoldPlaced (length (holds h) + 1)) (answers.HoldPlaced k) e (λ r. λ wrong. absurd cc) in
-    let next : length (holds h) + 1 ≡ k = (let same = r.1 in cc) in
-    let hold : Hold = record { target = OnClass name; matter = matter } in
-    let made : change h day caller (HoldClass name matter) ≡ PlacedHold day hold ∷ [] = ap (λ why. changes_unless why (PlacedHold day hold ∷ [])) r.0 in
-    ap (λ ds. item_numbered ds k) (holds_after h day (change h day caller (HoldClass name matter)) hold made)
-    ∙ ap (λ m. item_numbered (holds h ++ (day, hold) ∷ []) m) (sym next) ∙ numbered_last (holds h) (day, hold)
+class_hold h day caller name matter k e = hold_there h day caller (HoldClass name matter) (record { target = OnClass name; matter = matter }) k e
 
 -- ---- holds that were released
 
@@ -125,49 +98,28 @@ mapped_from {A = A} {B = B} f (x ∷ xs) i y e = by_first (f x) refl i e (λ j a
     by_first (Some z) is (suc l) e later = let found = later l e in (suc found.0, found.1, found.2, found.3)
 
 told_number : (h : History) (k : ℕ) (hold : LiveHold) → told_hold h k ≡ Some hold → k ≡ hold.number
-told_number h k hold e = by_hold (hold_numbered h k) e
-  where
-    by_hold : (there : Option (Date × Hold)) → option_map_or (λ found. Some (live_hold k found)) there None ≡ Some hold → k ≡ hold.number
-    by_hold None e = absurd cc
-    by_hold (Some found) e = ap (λ (x : LiveHold). x.number) (same_Some _ _ e)
+told_number h k hold e =
+    by_Option (hold_numbered h k) (λ none. absurd (let told = rw none at e in cc)) (λ found is. ap (λ (x : LiveHold). x.number) (same_Some _ _ (rw is at e)))
 
 -- a hold that was released is in no list of holds that is answered
 pub not_told : (h : History) (day on : Date) (caller : List ℕ) (k n place : ℕ) (given : List LiveHold) (hold : LiveHold)
     → release_day h k ≡ Some on → answer h day caller (Holds n) ≡ answers.Holds given → slice_get given place ≡ Some hold → hold.number ≡ k → ⊥
 not_told h day on caller k n place given hold dead e at same =
     let r = unrefused (refusal h day caller (Holds n)) (allowed_answer h day caller (Holds n)) (answers.Holds given) e (λ r. λ wrong. absurd cc) in
-    by_deposit (deposit_numbered h n) r.1
-  where
-    by_deposit : (there : Option (Date × Deposit)) → told_of there (λ found. answers.Holds (told_holds h n found.1)) ≡ answers.Holds given → ⊥
-    by_deposit None e = absurd cc
-    by_deposit (Some found) e =
-        let is : told_holds h n found.1 ≡ given = cc in
-        let from = mapped_from (told_hold h) (live_holds h n found.1) place hold (ap (λ hs. slice_get hs place) is ∙ at) in
-        not_among_live h k from.0 n on found.1 dead (from.2 ∙ ap Some (told_number h from.1 hold from.3 ∙ same))
+    by_Option (deposit_numbered h n) (λ none. let told = rw none at r.1 in cc)
+    (λ found there.
+    let told = rw there at r.1 in
+    let is : told_holds h n found.1 ≡ given = cc in
+    let from = mapped_from (told_hold h) (live_holds h n found.1) place hold (ap (λ hs. slice_get hs place) is ∙ at) in
+    not_among_live h k from.0 n on found.1 dead (from.2 ∙ ap Some (told_number h from.1 hold from.3 ∙ same)))
 
 -- ---- refusals
 
 told_refused : (h : History) (day : Date) (caller : List ℕ) (request : Request) (why : Refusal) → allowed_answer h day caller request ≡ answers.Refused why → allowed_change h day request ≡ []
-told_refused h day caller (DefineClass name years) why e = absurd cc
-told_refused h day caller (DefineCollection name) why e = absurd cc
-told_refused h day caller (MakeDeposit collection class accession closed bag) why e = absurd cc
-told_refused h day caller (HoldDeposit n matter) why e = absurd cc
-told_refused h day caller (HoldCollection name matter) why e = absurd cc
-told_refused h day caller (HoldClass name matter) why e = absurd cc
-told_refused h day caller (Release k) why e = absurd cc
-told_refused h day caller (Dispose n) why e = absurd cc
-told_refused h day caller (ListDeposits collection class) why e = refl
-told_refused h day caller (Record n) why e = refl
-told_refused h day caller (Holds n) why e = refl
-told_refused h day caller (DownloadBag n) why e = refl
-told_refused h day caller (DownloadFile n path) why e = refl
-told_refused h day caller (Audit n) why e = refl
-told_refused h day caller DueList why e = refl
+told_refused h day caller DueList why e = cc
+told_refused h day caller _ why e = cc
 
 -- an answer that is a refusal makes no change
 pub refused_change : (h : History) (day : Date) (caller : List ℕ) (request : Request) (why : Refusal) → answer h day caller request ≡ answers.Refused why → change h day caller request ≡ []
-refused_change h day caller request why e = by_refusal (refusal h day caller request) e
-  where
-    by_refusal : (r : Option Refusal) → answer_unless r (allowed_answer h day caller request) ≡ answers.Refused why → changes_unless r (allowed_change h day request) ≡ []
-    by_refusal None e = told_refused h day caller request why e
-    by_refusal (Some r) e = refl
+refused_change h day caller request why e =
+    by_Option (refusal h day caller request) (λ none. rw none (told_refused h day caller request why (rw none at e))) (λ r is. rw is refl)

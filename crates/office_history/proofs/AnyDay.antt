@@ -1,22 +1,9 @@
 -- Where no rule of the policy has days, denials and answers are the same on every day of the office.
-use Rattle.std.proofs.Common.{◌≡◌, ◌&&◌, List, [], ◌∷◌, Option, Some, None, is_none, ap, ℕ, if◌then◌else◌}
-use Rattle.std.specs.List.{AllByRecursion, filter_map}
-use Rattle.jiff.specs.Types.{Date}
-use Rattle.office_core.specs.Days.{IsDay}
-use Rattle.office_core.specs.FirstOf.{first_some}
-use Rattle.office_core.specs.Policies.{role_of}
-use Rattle.office_core.specs.Rules.{Question, HasNoDays, asked_on, decision_of}
+use Rattle.office_history.proofs.Common.{◌≡◌, ◌&&◌, List, [], ◌∷◌, Option, Some, None, is_none, ap, ℕ, if◌then◌else◌, AllByRecursion, filter_map, Date, IsDay, first_some, role_of, Question, HasNoDays, asked_on, decision_of, Action, Request, Record, Holds, DownloadBag, DownloadFile, Audit, Decision, Rule, History, policy, deposit_numbered, kept_numbers, refusal_in, denial, gone_refusal, no_file, of_deposit, record_of, of_number, is_selected, allowed_answer, answer_unless, answer, OnlyReads}
 use Rattle.office_core.specs.Verdicts as deciding
-use Rattle.office_core.specs.declared.action.Action.{Action}
 use Rattle.office_core.specs.declared.action.Action.TheVariants as acts
 use Rattle.office_core.specs.declared.answer.Answer.TheVariants as answers
-use Rattle.office_core.specs.declared.request.Request.{Request}
-use Rattle.office_core.specs.declared.request.Request.TheVariants.{DefineClass, DefineCollection, Deposit as MakeDeposit, List as ListDeposits, Record, Holds, DownloadBag, DownloadFile, Audit, HoldDeposit, HoldCollection, HoldClass, Release, Dispose, DueList}
-use Rattle.office_core.specs.declared.rule.Decision.{Decision}
-use Rattle.office_core.specs.declared.rule.Rule.{Rule}
-use Rattle.office_history.specs.Histories.{History, policy, deposit_numbered, kept_numbers}
-use Rattle.office_history.specs.Refusals.{refusal_in, denial, gone_refusal, no_file, of_deposit}
-use Rattle.office_history.specs.Answers.{record_of, of_number, is_asked, allowed_answer, answer_unless, answer, OnlyReads}
+use Rattle.office_core.specs.declared.request.Request.TheVariants.{List as ListDeposits}
 
 -- rules that have no days decide alike on all days of the office
 abbrev pub DecidesAlike : Type 0
@@ -34,24 +21,16 @@ denies_alike decides h day other none in_day in_other caller action collection c
 pub answers_alike : (h : History) (day other : Date) (caller : List ℕ) → DeniesAlike h day other caller → (request : Request) → OnlyReads request → answer h day caller request ≡ answer h other caller request
 answers_alike h day other caller same (ListDeposits collection class) reads = λ i.
     answers.List (filter_map (λ n. of_number h (λ found.
-    if is_asked collection found.1.collection && is_asked class found.1.class && is_none (same acts.List (Some found.1.collection) (Some found.1.class) i)
+    if is_selected collection found.1.description.collection && is_selected class found.1.description.class && is_none (same acts.List (Some found.1.description.collection) (Some found.1.description.class) i)
     then Some (record_of h n found) else None) n) (kept_numbers h))
 answers_alike h day other caller same (Record n) reads = λ i.
-    answer_unless (first_some (of_deposit (deposit_numbered h n) (λ d. same acts.Record (Some d.collection) (Some d.class) i ∷ gone_refusal h n ∷ []))) (allowed_answer h day caller (Record n))
+    answer_unless (first_some (of_deposit (deposit_numbered h n) (λ d. same acts.Record (Some d.description.collection) (Some d.description.class) i ∷ gone_refusal h n ∷ []))) (allowed_answer h day caller (Record n))
 answers_alike h day other caller same (Holds n) reads = λ i.
-    answer_unless (first_some (of_deposit (deposit_numbered h n) (λ d. same acts.Holds (Some d.collection) (Some d.class) i ∷ gone_refusal h n ∷ []))) (allowed_answer h day caller (Holds n))
+    answer_unless (first_some (of_deposit (deposit_numbered h n) (λ d. same acts.Holds (Some d.description.collection) (Some d.description.class) i ∷ gone_refusal h n ∷ []))) (allowed_answer h day caller (Holds n))
 answers_alike h day other caller same (DownloadBag n) reads = λ i.
-    answer_unless (first_some (of_deposit (deposit_numbered h n) (λ d. same acts.Download (Some d.collection) (Some d.class) i ∷ gone_refusal h n ∷ []))) (allowed_answer h day caller (DownloadBag n))
+    answer_unless (first_some (of_deposit (deposit_numbered h n) (λ d. same acts.Download (Some d.description.collection) (Some d.description.class) i ∷ gone_refusal h n ∷ []))) (allowed_answer h day caller (DownloadBag n))
 answers_alike h day other caller same (DownloadFile n path) reads = λ i.
-    answer_unless (first_some (of_deposit (deposit_numbered h n) (λ d. same acts.Download (Some d.collection) (Some d.class) i ∷ gone_refusal h n ∷ no_file d path.now ∷ []))) (allowed_answer h day caller (DownloadFile n path))
+    answer_unless (first_some (of_deposit (deposit_numbered h n) (λ d. same acts.Download (Some d.description.collection) (Some d.description.class) i ∷ gone_refusal h n ∷ no_file d path.now ∷ []))) (allowed_answer h day caller (DownloadFile n path))
 answers_alike h day other caller same (Audit n) reads = λ i.
-    answer_unless (first_some (of_deposit (deposit_numbered h n) (λ d. same acts.Audit (Some d.collection) (Some d.class) i ∷ gone_refusal h n ∷ []))) (allowed_answer h day caller (Audit n))
-answers_alike h day other caller same (DefineClass name years) reads = absurd reads
-answers_alike h day other caller same (DefineCollection name) reads = absurd reads
-answers_alike h day other caller same (MakeDeposit collection class accession closed bag) reads = absurd reads
-answers_alike h day other caller same (HoldDeposit n matter) reads = absurd reads
-answers_alike h day other caller same (HoldCollection name matter) reads = absurd reads
-answers_alike h day other caller same (HoldClass name matter) reads = absurd reads
-answers_alike h day other caller same (Release k) reads = absurd reads
-answers_alike h day other caller same (Dispose n) reads = absurd reads
-answers_alike h day other caller same DueList reads = absurd reads
+    answer_unless (first_some (of_deposit (deposit_numbered h n) (λ d. same acts.Audit (Some d.description.collection) (Some d.description.class) i ∷ gone_refusal h n ∷ []))) (allowed_answer h day caller (Audit n))
+answers_alike h day other caller same _ reads = absurd reads

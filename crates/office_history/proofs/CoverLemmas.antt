@@ -1,29 +1,10 @@
 -- The live holds that cover a deposit: each is one of the list, whatever it names, and the least comes first.
-use Rattle.std.proofs.Common.{◌≡◌, ◌≤◌, ◌<◌, ℕ, zero, suc, ◌+◌, Bool, true, false, ◌&&◌, List, [], ◌∷◌, length, filter, cond, Option, Some, None, slice_get, is_none, refl, sym, ap, ◌∙◌, inl, inr, arith, true≢false}
-use Rattle.std.specs.List.{range_with_len}
-use Rattle.std.specs.Option.{option_map_or}
-use Rattle.std.proofs.lemmas.Bool.{and_parts}
-use Rattle.std.proofs.lemmas.Option.{same_Some, slice_get_within}
-use Rattle.jiff.specs.Types.{Date}
-use Rattle.bag_text.proofs.ElementLemmas.{Has, has_filter, filter_has}
-use Rattle.bag_text.proofs.ResultLemmas.{is_nothing}
-use Rattle.office_core.specs.FirstOf.{first_some}
-use Rattle.office_core.specs.Verdicts.{gone_verdict, hold_verdict}
+use Rattle.office_history.proofs.FirstLemmas.{◌≡◌, ◌≤◌, ◌<◌, ℕ, zero, suc, ◌+◌, Bool, true, ◌&&◌, List, [], ◌∷◌, length, filter, Option, Some, None, slice_get, is_none, refl, sym, ap, ◌∙◌, inl, inr, arith, true≢false, range_with_len, and_parts, same_Some, slice_get_within, Date, Has, has_filter, filter_has, is_nothing, first_some, gone_verdict, hold_verdict, Held, Dispose, item_numbered, numbers, History, OnCollection, OnClass, Deposit, Hold, deposit_numbered, destruction_day, holds, hold_numbered, release_day, is_live, covers, live_holds, least_hold, refusal_in, denial_at, not_due_refusal, of_deposit, disposal_refusals, refusal, at_or_above, has_at, numbered_has, by_Bool, by_Option}
 use Rattle.office_core.specs.declared.action.Action.TheVariants as acts
-use Rattle.office_core.specs.declared.refusal.Refusal.TheVariants.{Held}
-use Rattle.office_core.specs.declared.request.Request.TheVariants.{Dispose}
-use Rattle.office_history.specs.Lists.{item_numbered, numbers}
-use Rattle.office_history.specs.Histories.{History, OnCollection, OnClass, Deposit, Hold, deposit_numbered, destruction_day, holds, hold_numbered, release_day, reaches, is_live, covers, live_holds, least_hold}
-use Rattle.office_history.specs.Refusals.{refusal_in, denial_at, not_due_refusal, of_deposit, disposal_refusals, refusal}
-use Rattle.office_history.proofs.MemberLemmas.{at_or_above, has_at, numbered_has}
 
 -- a hold that covers a deposit was placed
-was_placed : (h : History) (k n : ℕ) (deposit : Deposit) → covers h k n deposit ≡ true → (found : Date × Hold) × (hold_numbered h k ≡ Some found)
-was_placed h k n deposit e = by (hold_numbered h k) refl e
-  where
-    by : (o : Option (Date × Hold)) → hold_numbered h k ≡ o → option_map_or (λ hold. reaches hold.1.target n deposit) o false ≡ true → (found : Date × Hold) × (hold_numbered h k ≡ Some found)
-    by None is e = absurd cc
-    by (Some found) is e = (found, is)
+pub was_placed : (h : History) (k n : ℕ) (deposit : Deposit) → covers h k n deposit ≡ true → (found : Date × Hold) × (hold_numbered h k ≡ Some found)
+was_placed h k n deposit e = by_Option (hold_numbered h k) (λ none. absurd (let wrong = rw none at e in cc)) (λ found is. (found, is))
 
 -- a hold that covers a deposit, and was not released, is one of the live ones
 pub among_live : (h : History) (k n : ℕ) (deposit : Deposit) → release_day h k ≡ None → covers h k n deposit ≡ true → Has (live_holds h n deposit) k
@@ -43,16 +24,12 @@ live_covers h k n deposit found =
 -- of numbers in a row, the first that passes is the least
 first_least : (test : ℕ → Bool) (len start k m : ℕ) → slice_get (filter test (range_with_len start len)) 0 ≡ Some k → start ≤ m → m < start + len → test m ≡ true → k ≤ m
 first_least test zero start k m e low high passes = absurd cc
-first_least test (suc len) start k m e low high passes = by (test start) refl e (λ e above. first_least test len (start + 1) k m e above (omega (arith, high)) passes)
-  where
-    by : (t : Bool) → test start ≡ t → slice_get (cond t (start ∷ filter test (range_with_len (start + 1) len)) (filter test (range_with_len (start + 1) len))) 0 ≡ Some k
-        → (slice_get (filter test (range_with_len (start + 1) len)) 0 ≡ Some k → start + 1 ≤ m → k ≤ m) → k ≤ m
-    by true is e more = let same : start ≡ k = same_Some _ _ e in omega (arith, same, low)
-    by false is e more =
-        elim (at_or_above start m low) [
-          | inl same ↦ absurd (true≢false (sym passes ∙ ap test (sym same) ∙ is))
-          | inr above ↦ more e above
-        ]
+first_least test (suc len) start k m e low high passes =
+    by_Bool (test start) (λ is. let same : start ≡ k = same_Some _ _ (rw is at e) in omega (arith, same, low))
+    (λ is. elim (at_or_above start m low) [
+      | inl same ↦ absurd (true≢false (sym passes ∙ ap test (sym same) ∙ is))
+      | inr above ↦ first_least test len (start + 1) k m (rw is at e) above (omega (arith, high)) passes
+    ])
 
 number_within : {A : Type 0} (xs : List A) (n : ℕ) (x : A) → item_numbered xs n ≡ Some x → (1 ≤ n) × (n < 1 + length xs)
 number_within xs zero x e = absurd cc

@@ -1,24 +1,13 @@
 -- Worked rows of the definitions, by computing. Days are any days.
-use Rattle.std.proofs.Common.{◌≡◌, ℕ, List, [], ◌∷◌, Some, None, codes, refl}
-use Rattle.std.specs.Prelude.{pos, neg_ℤ}
-use Rattle.jiff.specs.Types.{Date}
-use Rattle.jiff.specs.Words.{epoch_day}
-use Rattle.office_core.specs.RetentionReading.{due_of}
-use Rattle.office_core.specs.declared.refusal.Refusal.TheVariants.{NoSuch, DeniedByDefault, Taken}
+use Rattle.office_history.proofs.Common.{◌≡◌, ℕ, List, [], ◌∷◌, Some, None, codes, refl, pos, neg_ℤ, Date, epoch_day, due_of, NoSuch, DeniedByDefault, Taken, Dispose, Allow, Deny, History, Change, Installed, DefinedClass, DefinedCollection, Deposited, PlacedHold, ReleasedHold, Destroyed, Deposit, OnDeposit, OnCollection, OnClass, destruction_day, kept_numbers, due, live_holds, refusal, taken_refusal, in_first_places, due_number, picture}
 use Rattle.office_core.specs.declared.refusal.Subject.TheVariants as subjects
-use Rattle.office_core.specs.declared.request.Request.TheVariants.{Dispose}
 use Rattle.office_core.specs.declared.action.Action.TheVariants as acts
 use Rattle.office_core.specs.declared.rule.ActionPattern.TheVariants as asked
-use Rattle.office_core.specs.declared.rule.Effect.TheVariants.{Allow, Deny}
 use Rattle.office_core.specs.declared.rule.Pattern.TheVariants.{Any, Named}
-use Rattle.office_history.specs.Histories.{History, Change, Installed, DefinedClass, DefinedCollection, Deposited, PlacedHold, ReleasedHold, Destroyed, Deposit, OnDeposit, OnCollection, OnClass, destruction_day, kept_numbers, due, live_holds}
-use Rattle.office_history.specs.Refusals.{refusal, taken_refusal}
-use Rattle.office_history.specs.Lists.{in_first_places}
-use Rattle.office_history.specs.Pictures.{due_number, picture}
 
 -- a deposit of the collection `maps` in the class `y1`
 deposited : Date → List ℕ → Deposit
-deposited closed accession = record { collection = codes "maps"; class = codes "y1"; accession = accession; closed = closed; bag = [] }
+deposited closed accession = record { description = record { collection = codes "maps"; class = codes "y1"; accession = accession; closed = closed }; bag = [] }
 
 worked_then : Date → List Change → History
 worked_then day more = record {
@@ -124,7 +113,7 @@ drawn day = record {
       ∷ DefinedClass day (codes "y1") (Some 1)
       ∷ DefinedClass day (codes "y2") None
       ∷ DefinedCollection day (codes "maps")
-      ∷ Deposited day (record { collection = codes "maps"; class = codes "y1"; accession = codes "A-1"; closed = day; bag = record { path = codes "data/a"; content = codes "abc" } ∷ record { path = codes "tag"; content = codes "tt" } ∷ [] })
+      ∷ Deposited day (record (deposited day (codes "A-1")) { bag = record { path = codes "data/a"; content = codes "abc" } ∷ record { path = codes "tag"; content = codes "tt" } ∷ [] })
       ∷ Deposited day (deposited day (codes "A-2"))
       ∷ PlacedHold day (record { target = OnDeposit 1; matter = codes "Case 7" })
       ∷ PlacedHold day (record { target = OnCollection (codes "maps"); matter = codes "Case 8" })

@@ -1,9 +1,5 @@
 -- What longer histories have of shorter ones, and what a request adds.
-use Rattle.std.proofs.Common.{◌≡◌, ℕ, List, ◌++◌, Some}
-use Rattle.std.specs.List.{filter_map}
-use Rattle.std.proofs.lemmas.List.Elements.{filter_map-append}
-use Rattle.jiff.specs.Types.{Date}
-use Rattle.office_history.specs.Histories.{History, Change, Deposit, Hold, with_changes, deposit_in, deposits, deposit_numbered, hold_in, holds, hold_numbered}
+use Rattle.office_history.proofs.Common.{◌≡◌, ℕ, List, ◌++◌, Some, filter_map, filter_map-append, Date, History, Change, Deposit, Hold, with_changes, deposit_in, deposits, deposit_numbered, hold_in, holds, hold_numbered}
 use Rattle.office_history.proofs.ListLemmas.{numbered_front}
 
 pub deposits_grown : (h : History) (more : List Change) → deposits (with_changes h more) ≡ deposits h ++ filter_map deposit_in more

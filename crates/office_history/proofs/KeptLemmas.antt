@@ -1,31 +1,8 @@
 -- Due lists and what is kept, by what stands in the lists; audits of legal histories.
-use Rattle.std.proofs.Common.{◌≡◌, ◌∙◌, ℕ, Bool, false, List, [], ◌∷◌, length, map, Option, Some, None, slice_get, is_none, int_lt, refl, sym, ap, subst, rules}
-use Rattle.std.specs.List.{flat_map}
-use Rattle.std.specs.Prelude.{Contains}
-use Rattle.std.specs.Option.{option_map_or}
-use Rattle.jiff.specs.Types.{Date}
-use Rattle.jiff.specs.Words.{epoch_day}
-use Rattle.bag_text.specs.TransferForm.{File}
-use Rattle.office_core.specs.FirstOf.{first_some, answer_if}
-use Rattle.office_core.specs.Verdicts.{gone_verdict, hold_verdict, due_verdict}
+use Rattle.office_history.proofs.FirstLemmas.{◌≡◌, ◌∙◌, ℕ, Bool, false, List, [], ◌∷◌, length, map, Option, Some, None, slice_get, is_none, int_lt, sym, ap, subst, rules, flat_map, Contains, option_map_or, Date, epoch_day, File, first_some, answer_if, gone_verdict, hold_verdict, due_verdict, NotDue, Refusal, Audit, Dispose, numbers, History, Deposit, deposits, deposit_numbered, destruction_day, kept_numbers, IsDisposable, report_on, refusal_in, denial_at, of_deposit, disposal_refusals, refusal, answer, answer_unless, allowed_answer, audit_report, due_list, files_of, contents, IsKept, none_of, is_nothing, Has, contains_has, has_contains, has_filter, filter_has, has_map, map_has, numbered_has, has_gathered, gathered_has, first_places_have, has_in_places, disposable, by_Option}
 use Rattle.office_core.specs.declared.action.Action.TheVariants as acts
 use Rattle.office_core.specs.declared.answer.Answer.TheVariants as answers
 use Rattle.office_core.specs.declared.answer.AuditReport.{AuditReport}
-use Rattle.office_core.specs.declared.facts.Verdict.TheVariants.{NotDue}
-use Rattle.office_core.specs.declared.refusal.Refusal.{Refusal}
-use Rattle.office_core.specs.declared.request.Request.TheVariants.{Audit, Dispose}
-use Rattle.office_history.specs.Lists.{numbers}
-use Rattle.office_history.specs.Histories.{History, Deposit, deposits, deposit_numbered, destruction_day, kept_numbers}
-use Rattle.office_history.specs.Acceptance.{IsDisposable}
-use Rattle.office_history.specs.Bags.{report_on}
-use Rattle.office_history.specs.Refusals.{refusal_in, denial_at, of_deposit, disposal_refusals, refusal}
-use Rattle.office_history.specs.Answers.{answer, answer_unless, allowed_answer, told_of, audit_report, due_list}
-use Rattle.office_history.specs.Stocks.{files_of, contents, IsKept}
-use Rattle.office_core.proofs.OptionLemmas.{none_of}
-use Rattle.bag_text.proofs.ResultLemmas.{is_nothing}
-use Rattle.bag_text.proofs.ElementLemmas.{Has, contains_has, has_contains, has_filter, filter_has, has_map, map_has}
-use Rattle.office_history.proofs.MemberLemmas.{numbered_has, has_gathered, gathered_has, first_places_have, has_in_places}
-use Rattle.office_history.proofs.Accepted.{disposable}
 use Rattle.office_history.proofs.LawLemmas.{unrefused}
 
 -- ---- due lists
@@ -84,20 +61,16 @@ content_kept h text found =
     let mapped = map_has content all text (has_in_places text (map content all) (contains_has (contents h) text found)) in
     let gathered = gathered_has (files_of h) mapped.0 (kept_numbers h) mapped.1 in
     let passes = filter_has (λ m. is_none (destruction_day h m)) (numbers (length (deposits h))) gathered.0 gathered.1 in
-    by gathered.0 mapped.0 (is_nothing (destruction_day h gathered.0) passes.1) mapped.2 (deposit_numbered h gathered.0) refl gathered.2
-  where
-    by : (n : ℕ) (file : File) → destruction_day h n ≡ None → file.content ≡ text → (o : Option (Date × Deposit)) → deposit_numbered h n ≡ o
-        → Has (option_map_or (λ found. found.1.bag) o []) file → IsKept h text
-    by n file stays same None is has = absurd has
-    by n file stays same (Some found) is has = record {
-      number = n;
+    by_Option (deposit_numbered h gathered.0) (λ none. absurd (rw none at gathered.2))
+    (λ found is. record {
+      number = gathered.0;
       found = found;
-      file = file;
+      file = mapped.0;
       there = is;
-      kept = stays;
-      has_file = has_contains found.1.bag file has;
-      has_content = same;
-    }
+      kept = is_nothing (destruction_day h gathered.0) passes.1;
+      has_file = has_contains found.1.bag mapped.0 (rw is at gathered.2);
+      has_content = mapped.2;
+    })
 
 -- ---- audits
 
@@ -105,9 +78,5 @@ content_kept h text found =
 pub audited : (h : History) (day : Date) (caller : List ℕ) (n m : ℕ) (report : AuditReport) → answer h day caller (Audit n) ≡ answers.Audit m report
     → (m ≡ n) × ((found : Date × Deposit) × (deposit_numbered h n ≡ Some found) × (report ≡ audit_report (report_on found.1.bag)))
 audited h day caller n m report e =
-    by (deposit_numbered h n) refl (unrefused (refusal h day caller (Audit n)) (allowed_answer h day caller (Audit n)) (answers.Audit m report) e (λ r. λ wrong. absurd cc)).1
-  where
-    by : (o : Option (Date × Deposit)) → deposit_numbered h n ≡ o → told_of o (λ found. answers.Audit n (audit_report (report_on found.1.bag))) ≡ answers.Audit m report
-        → (m ≡ n) × ((found : Date × Deposit) × (deposit_numbered h n ≡ Some found) × (report ≡ audit_report (report_on found.1.bag)))
-    by None is e = absurd cc
-    by (Some found) is e = (cc, (found, is, cc))
+    let r = unrefused (refusal h day caller (Audit n)) (allowed_answer h day caller (Audit n)) (answers.Audit m report) e (λ r. λ wrong. absurd cc) in
+    by_Option (deposit_numbered h n) (λ none. absurd (let told = rw none at r.1 in cc)) (λ found is. let told = rw is at r.1 in (cc, (found, is, cc)))

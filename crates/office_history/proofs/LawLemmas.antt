@@ -1,36 +1,16 @@
 -- What holds and classes do over time, and what is served of a deposit.
-use Rattle.std.proofs.Common.{◌≡◌, ◌≢◌, ℕ, ◌+◌, true, List, [], ◌∷◌, ◌++◌, Option, Some, None, Result, Ok, Err, length, refl, sym, ap, subst, ◌∙◌, inl, inr, append_assoc}
-use Rattle.std.specs.List.{filter_map}
-use Rattle.std.proofs.lemmas.Slice.Eq.{bytes_eq-Decides}
-use denote.Ref.{Bor}
-use Rattle.jiff.specs.Types.{Date}
-use Rattle.bag_text.specs.TransferForm.{File, set_text, content_at}
-use Rattle.bag_text.specs.TransferReading.{set_of}
-use Rattle.bag_text.specs.declared.set_fault.SetFault.{SetFault}
-use Rattle.office_core.specs.RetentionReading.{due_of}
-use Rattle.office_core.specs.declared.answer.Answer.{Answer}
+use Rattle.office_history.proofs.FirstLemmas.{◌≡◌, ◌≢◌, ℕ, ◌+◌, true, List, [], ◌∷◌, ◌++◌, Option, Some, None, Result, Ok, Err, length, refl, sym, ap, subst, ◌∙◌, inl, inr, append_assoc, filter_map, bytes_eq-Decides, Bor, Date, File, set_text, content_at, set_of, SetFault, Description, due_of, Answer, Refusal, DownloadBag, DownloadFile, item_numbered, History, Change, DefinedClass, OnCollection, OnClass, Deposit, with_changes, deposit_in, deposits, deposit_numbered, hold_numbered, release_day, released_in, covers, years_in, due, bag_of, valid_bag, if_valid, report_on, Report, refusal, answer, answer_unless, allowed_answer, told_of, change, changes_unless, deposit_change, after, Item, IsFailure, Step, Run, IsLater, first_said_front, last_said_last, numbered_last, grown_by_none, depositable, deposits_grown, deposit_stays, by_Option}
 use Rattle.office_core.specs.declared.answer.Answer.TheVariants as answers
-use Rattle.office_core.specs.declared.refusal.Refusal.{Refusal}
-use Rattle.office_core.specs.declared.request.Request.TheVariants.{Deposit as MakeDeposit, DownloadBag, DownloadFile}
-use Rattle.office_history.specs.Lists.{item_numbered}
-use Rattle.office_history.specs.Histories.{History, Change, DefinedClass, OnCollection, OnClass, Deposit, with_changes, deposit_in, deposits, deposit_numbered, hold_numbered, release_day, released_in, covers, years_in, due}
-use Rattle.office_history.specs.Bags.{bag_of, valid_bag, if_valid, report_on}
-use Rattle.bag_check.specs.Validity.{Report}
-use Rattle.office_history.specs.Refusals.{refusal}
-use Rattle.office_history.specs.Answers.{answer, answer_unless, allowed_answer, told_of, file_answer, change, changes_unless, deposit_change, after}
-use Rattle.office_history.specs.Runs.{Item, IsFailure, Step, Run, IsLater}
-use Rattle.office_history.proofs.ListLemmas.{first_said_front, last_said_last, numbered_last}
-use Rattle.office_history.proofs.Accepted.{grown_by_none, depositable}
-use Rattle.office_history.proofs.HistoryLemmas.{deposits_grown, deposit_stays}
+use Rattle.office_core.specs.declared.request.Request.TheVariants.{Deposit as MakeDeposit}
 
 -- ---- holds
 
 -- a hold of a collection reaches each of its deposits
-pub covers_collection : (h : History) (k n : ℕ) (day : Date) (name matter : List ℕ) (deposit : Deposit) → hold_numbered h k ≡ Some (day, record { target = OnCollection name; matter = matter }) → deposit.collection ≡ name → covers h k n deposit ≡ true
+pub covers_collection : (h : History) (k n : ℕ) (day : Date) (name matter : List ℕ) (deposit : Deposit) → hold_numbered h k ≡ Some (day, record { target = OnCollection name; matter = matter }) → deposit.description.collection ≡ name → covers h k n deposit ≡ true
 covers_collection h k n day name matter deposit e same = rw (e, same) ((bytes_eq-Decides name name).1 refl)
 
 -- and a hold of a class each deposit of the class
-pub covers_class : (h : History) (k n : ℕ) (day : Date) (name matter : List ℕ) (deposit : Deposit) → hold_numbered h k ≡ Some (day, record { target = OnClass name; matter = matter }) → deposit.class ≡ name → covers h k n deposit ≡ true
+pub covers_class : (h : History) (k n : ℕ) (day : Date) (name matter : List ℕ) (deposit : Deposit) → hold_numbered h k ≡ Some (day, record { target = OnClass name; matter = matter }) → deposit.description.class ≡ name → covers h k n deposit ≡ true
 covers_class h k n day name matter deposit e same = rw (e, same) ((bytes_eq-Decides name name).1 refl)
 
 -- a hold that was released stays so
@@ -40,10 +20,10 @@ released_stays h more k day e = first_said_front (released_in k) h.changes more 
 -- ---- classes
 
 -- what the class was given last counts for each deposit of it, whenever that came
-pub revised_due : (h : History) (day : Date) (name : List ℕ) (years : Option ℕ) (deposit : Deposit) → deposit.class ≡ name → due (with_changes h (DefinedClass day name years ∷ [])) deposit ≡ due_of deposit.closed years
+pub revised_due : (h : History) (day : Date) (name : List ℕ) (years : Option ℕ) (deposit : Deposit) → deposit.description.class ≡ name → due (with_changes h (DefinedClass day name years ∷ [])) deposit ≡ due_of deposit.description.closed years
 revised_due h day name years deposit same =
-    let says : years_in deposit.class (DefinedClass day name years) ≡ Some years = rw (same, (bytes_eq-Decides name name).1 refl) refl in
-    rw (last_said_last (years_in deposit.class) h.changes (DefinedClass day name years) years says) refl
+    let says : years_in deposit.description.class (DefinedClass day name years) ≡ Some years = rw (same, (bytes_eq-Decides name name).1 refl) refl in
+    rw (last_said_last (years_in deposit.description.class) h.changes (DefinedClass day name years) years says) refl
 
 -- ---- runs add to the history
 
@@ -57,9 +37,8 @@ later_still h mid next one rest =
 
 pub run_grows : (items : List Item) (given : List Answer) (h next : History) → Run h items given next → IsLater h next
 run_grows [] [] h next r = ([], r ∙ grown_by_none h)
-run_grows [] (g ∷ given) h next r = absurd r
-run_grows (item ∷ items) [] h next r = absurd r
 run_grows (item ∷ items) (g ∷ given) h next r = later_still h r.0 next (one_item h r.0 item g r.1) (run_grows items given r.0 next r.2)
+run_grows _ _ h next r = absurd r
 
 -- ---- what was deposited
 
@@ -68,12 +47,12 @@ unrefused None given wanted e other = (refl, e)
 unrefused (Some r) given wanted e other = absurd (other r (sym e))
 
 -- what the change of an allowed deposit adds
-pub deposit_adds : (h : History) (day : Date) (caller collection class accession : List ℕ) (closed : Date) (text : Bor (List ℕ)) (bag : List File) → refusal h day caller (MakeDeposit collection class accession closed text) ≡ None → bag_of text.now ≡ Ok bag
-    → deposits (after h day caller (MakeDeposit collection class accession closed text)) ≡ deposits h ++ (day, record { collection = collection; class = class; accession = accession; closed = closed; bag = bag }) ∷ []
-deposit_adds h day caller collection class accession closed text bag e is =
-    deposits_grown h (change h day caller (MakeDeposit collection class accession closed text))
-    ∙ ap (λ (why : Option Refusal). deposits h ++ filter_map deposit_in (changes_unless why (deposit_change day collection class accession closed (bag_of text.now)))) e
-    ∙ ap (λ (r : Result (List File) (List ℕ)). deposits h ++ filter_map deposit_in (deposit_change day collection class accession closed r)) is
+pub deposit_adds : (h : History) (day : Date) (caller : List ℕ) (description : Description) (text : Bor (List ℕ)) (bag : List File) → refusal h day caller (MakeDeposit description text) ≡ None → bag_of text.now ≡ Ok bag
+    → deposits (after h day caller (MakeDeposit description text)) ≡ deposits h ++ (day, record { description = description; bag = bag }) ∷ []
+deposit_adds h day caller description text bag e is =
+    deposits_grown h (change h day caller (MakeDeposit description text))
+    ∙ ap (λ (why : Option Refusal). deposits h ++ filter_map deposit_in (changes_unless why (deposit_change day description (bag_of text.now)))) e
+    ∙ ap (λ (r : Result (List File) (List ℕ)). deposits h ++ filter_map deposit_in (deposit_change day description r)) is
 
 -- the bag that a text gives is read from it
 pub read_of : (text : List ℕ) (bag : List File) → bag_of text ≡ Ok bag → set_of text ≡ Ok bag
@@ -93,17 +72,17 @@ pub record WasDeposited (next : History) (n : ℕ) (text : List ℕ) : Type 0 wh
   pub there : deposit_numbered next n ≡ Some found
   pub read : set_of text ≡ Ok found.1.bag
 
-pub was_deposited : (h next : History) (day : Date) (n : ℕ) (caller collection class accession : List ℕ) (closed : Date) (bag : Bor (List ℕ))
-    → answer h day caller (MakeDeposit collection class accession closed bag) ≡ answers.Deposited n
-    → IsLater (after h day caller (MakeDeposit collection class accession closed bag)) next → WasDeposited next n bag.now
-was_deposited h next day n caller collection class accession closed bag e after_it =
-    let was = unrefused (refusal h day caller (MakeDeposit collection class accession closed bag)) (answers.Deposited (length (deposits h) + 1)) (answers.Deposited n) e (λ r. λ wrong. absurd cc) in
+pub was_deposited : (h next : History) (day : Date) (n : ℕ) (caller : List ℕ) (description : Description) (bag : Bor (List ℕ))
+    → answer h day caller (MakeDeposit description bag) ≡ answers.Deposited n
+    → IsLater (after h day caller (MakeDeposit description bag)) next → WasDeposited next n bag.now
+was_deposited h next day n caller description bag e after_it =
+    let was = unrefused (refusal h day caller (MakeDeposit description bag)) (answers.Deposited (length (deposits h) + 1)) (answers.Deposited n) e (λ r. λ wrong. absurd cc) in
     let number : length (deposits h) + 1 ≡ n = (let same = was.1 in cc) in
-    let allowed = depositable h day caller collection class accession closed bag.now was.0 in
-    let made : Date × Deposit = (day, record { collection = collection; class = class; accession = accession; closed = closed; bag = allowed.0 }) in
-    let mid = after h day caller (MakeDeposit collection class accession closed bag) in
+    let allowed = depositable h day caller description bag.now was.0 in
+    let made : Date × Deposit = (day, record { description = description; bag = allowed.0 }) in
+    let mid = after h day caller (MakeDeposit description bag) in
     let there : deposit_numbered mid n ≡ Some made =
-    ap (λ ds. item_numbered ds n) (deposit_adds h day caller collection class accession closed bag allowed.0 was.0 allowed.1)
+    ap (λ ds. item_numbered ds n) (deposit_adds h day caller description bag allowed.0 was.0 allowed.1)
     ∙ ap (λ m. item_numbered (deposits h ++ made ∷ []) m) (sym number) ∙ numbered_last (deposits h) made in
     record {
       found = made;
@@ -138,8 +117,5 @@ served_form h day caller n found bytes there e =
 pub served_content : (h : History) (day : Date) (caller : List ℕ) (n : ℕ) (path : Bor (List ℕ)) (found : Date × Deposit) (bytes : List ℕ) → deposit_numbered h n ≡ Some found → answer h day caller (DownloadFile n path) ≡ answers.File bytes → content_at found.1.bag path.now ≡ Some bytes
 served_content h day caller n path found bytes there e =
     let told_so = unrefused (refusal h day caller (DownloadFile n path)) (allowed_answer h day caller (DownloadFile n path)) (answers.File bytes) e (λ r. λ wrong. absurd cc) in
-    by (content_at found.1.bag path.now) (ap (λ (o : Option (Date × Deposit)). told_of o (λ d. file_answer (content_at d.1.bag path.now))) (sym there) ∙ told_so.1)
-  where
-    by : (o : Option (List ℕ)) → file_answer o ≡ answers.File bytes → o ≡ Some bytes
-    by None is = absurd cc
-    by (Some content) is = let same : content ≡ bytes = cc in ap Some same
+    let told = rw there at told_so.1 in
+    by_Option (content_at found.1.bag path.now) (λ none. absurd (let wrong = rw none at told in cc)) (λ content is. let same = rw is at told in is ∙ ap Some cc)

@@ -1,22 +1,8 @@
 -- What legal histories have: sound bags, and changes that were allowed at their places. Runs of items in range stay legal.
-use Rattle.std.proofs.Common.{◌≡◌, ℕ, List, [], ◌∷◌, ◌++◌, Result, Ok, Err, refl, sym, ap, subst, ◌∙◌, inl, inr, append-nil}
-use Rattle.std.specs.List.{AllByRecursion}
-use Rattle.jiff.specs.Types.{Date}
-use Rattle.bag_text.specs.TransferForm.{File, IsBag}
-use Rattle.bag_text.specs.TransferReading.{set_of}
-use Rattle.bag_text.specs.declared.set_fault.SetFault.{SetFault}
+use Rattle.office_history.proofs.FirstLemmas.{◌≡◌, ℕ, List, [], ◌∷◌, ◌++◌, Result, Ok, Err, refl, sym, ap, subst, ◌∙◌, inl, inr, append-nil, AllByRecursion, Date, File, IsBag, set_of, SetFault, Report, Valid, Answer, History, Change, Deposit, with_changes, deposits, bag_of, valid_bag, if_valid, report_or_text, IsChange, IsAllowed, Item, IsItem, AreItems, Step, Run, IsLegal, step, IsSound, as_of, split_two, all_append, IsAccepted, legal_by, deposits_by}
 use Rattle.bag_text.specs.declared.declaration.Version.{Version}
-use Rattle.bag_check.specs.Validity.{Report, Valid}
 use Rattle.bag_check.specs.Faults.{Fault}
 use Rattle.bag_check.specs.Judging.{judge}
-use Rattle.office_core.specs.declared.answer.Answer.{Answer}
-use Rattle.office_history.specs.Histories.{History, Change, Deposit, with_changes, deposits}
-use Rattle.office_history.specs.Bags.{bag_of, valid_bag, if_valid, report_or_text}
-use Rattle.office_history.specs.Acceptance.{IsChange, IsAllowed}
-use Rattle.office_history.specs.Runs.{Item, IsItem, AreItems, Step, Run, IsLegal, serve, IsSound, as_of}
-use Rattle.office_history.proofs.ListLemmas.{split_two}
-use Rattle.office_rows.proofs.Order.{all_append}
-use Rattle.office_history.proofs.Accepted.{IsAccepted, legal_by, deposits_by}
 
 -- ---- the bags
 
@@ -45,24 +31,21 @@ abbrev pub HasSoundBag : Date × Deposit → Type 0
 HasSoundBag found = IsSound found.1.bag
 
 pub sound_deposits : Reads → Judges → (h : History) → IsLegal h → AllByRecursion HasSoundBag (deposits h)
-sound_deposits reads judges h legal = legal_by (λ x. AllByRecursion HasSoundBag (deposits x)) (λ a b a_in b_in. tt) more h legal
-  where
-    more : (x : History) (c : Change) → IsLegal x → IsAccepted x c → AllByRecursion HasSoundBag (deposits x) → AllByRecursion HasSoundBag (deposits (with_changes x (c ∷ [])))
-    more x c was ok all =
-        deposits_by (AllByRecursion HasSoundBag) x c ok all
-        (λ day deposit ranged allowed. all_append HasSoundBag (deposits x) ((day, deposit) ∷ []) all (sound_bag reads judges allowed.form deposit.bag allowed.read, tt))
+sound_deposits reads judges h legal =
+    legal_by (λ x. AllByRecursion HasSoundBag (deposits x)) (λ a b a_in b_in. tt) (λ x c was ok all.
+    deposits_by (AllByRecursion HasSoundBag) x c ok all
+    (λ day deposit ranged allowed. all_append HasSoundBag (deposits x) ((day, deposit) ∷ []) all (sound_bag reads judges allowed.form deposit.bag allowed.read, tt))) h legal
 
 -- ---- the changes
-
--- what the last change is, where there is one at most
-one_last : {A : Type 0} (x c : A) (more rest : List A) → x ∷ [] ≡ more ++ c ∷ rest → (more ≡ []) × (x ≡ c)
-one_last x c [] rest e = (refl, (let same : x ≡ c = cc in same))
-one_last x c (y ∷ []) rest e = absurd cc
-one_last x c (y ∷ z ∷ more) rest e = absurd cc
 
 none_last : {A : Type 0} (c : A) (more rest : List A) → [] ≡ more ++ c ∷ rest → ⊥
 none_last c [] rest e = absurd cc
 none_last c (y ∷ more) rest e = absurd cc
+
+-- what the last change is, where there is one at most
+one_last : {A : Type 0} (x c : A) (more rest : List A) → x ∷ [] ≡ more ++ c ∷ rest → (more ≡ []) × (x ≡ c)
+one_last x c [] rest e = (refl, (let same : x ≡ c = cc in same))
+one_last x c (y ∷ more) rest e = absurd (none_last c more rest cc)
 
 -- each change of the history was in range, and allowed at its place
 abbrev pub ChangesStand : History → Type 0
@@ -86,10 +69,9 @@ changes_stand h legal = legal_by ChangesStand (λ a b a_in b_in before rest c e.
 
 step_legal : (h next : History) (item : Item) (given : Answer) → IsItem item → IsLegal h → Step h item given next → IsLegal next
 step_legal h next item given ranged legal (inl failed) = subst IsLegal (sym failed.1) legal
-step_legal h next item given ranged legal (inr served) = subst IsLegal (sym served.1) (serve h item.0 item.1.now item.2 ranged.0 ranged.1 legal)
+step_legal h next item given ranged legal (inr served) = subst IsLegal (sym served.1) (step h item.0 item.1.now item.2 ranged.0 ranged.1 legal)
 
 pub run_legal : (items : List Item) (given : List Answer) (h next : History) → AreItems items → IsLegal h → Run h items given next → IsLegal next
 run_legal [] [] h next ranged legal r = subst IsLegal (sym r) legal
-run_legal [] (g ∷ given) h next ranged legal r = absurd r
-run_legal (item ∷ items) [] h next ranged legal r = absurd r
 run_legal (item ∷ items) (g ∷ given) h next ranged legal r = run_legal items given r.0 next ranged.1 (step_legal h r.0 item g ranged.0 legal r.1) r.2
+run_legal _ _ h next ranged legal r = absurd r

@@ -1,3 +1,4 @@
+pub mod Common
 pub mod ListLemmas
 pub mod MemberLemmas
 pub mod HistoryLemmas
@@ -14,8 +15,9 @@ pub mod LegalReadings
 pub mod VerdictLemmas
 pub mod AnyDay
 pub mod Pictured
-pub mod DisposalFacts
 pub mod RangeLemmas
 pub mod RowLemmas
 pub mod KeptLemmas
 pub mod UndoneLemmas
+pub mod FirstLemmas
+pub mod Lemmas

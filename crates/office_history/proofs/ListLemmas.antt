@@ -1,12 +1,5 @@
 -- Lists: longer lists, and what all items are.
-use Rattle.std.proofs.Common.{◌≡◌, ℕ, zero, suc, List, [], ◌∷◌, ◌++◌, Bool, false, not, cond, ◌+◌, ◌≤◌, length, position, nat_lt, arith, Option, Some, None, slice_get, refl, ap, subst, inl, inr, ◌⊎◌}
-use Rattle.std.specs.List.{AllByRecursion, filter_map, cons_option, position_or_len, prefix_len}
-use Rattle.std.proofs.lemmas.Bool.{cases_Bool}
-use Rattle.std.proofs.lemmas.Bool.Decides.{nat_tests}
-use Rattle.std.specs.Option.{option_or}
-use Rattle.std.proofs.lemmas.Option.{same_Some}
-use Rattle.bag_text.proofs.ElementLemmas.{slice_get-append, slice_get_last}
-use Rattle.office_history.specs.Lists.{first_said, last_said, item_numbered}
+use Rattle.office_history.proofs.Common.{◌≡◌, ℕ, zero, suc, List, [], ◌∷◌, ◌++◌, Bool, false, not, cond, ◌+◌, ◌≤◌, length, position, nat_lt, arith, Option, Some, None, slice_get, refl, ap, subst, inl, inr, ◌⊎◌, AllByRecursion, filter_map, position_or_len, prefix_len, cases_Bool, nat_tests, option_or, same_Some, slice_get-append, slice_get_last, first_said, last_said, item_numbered, by_Bool, by_Option}
 
 -- an item keeps its number in a longer list
 pub numbered_front : {A : Type 0} (xs ys : List A) (n : ℕ) (x : A) → item_numbered xs n ≡ Some x → item_numbered (xs ++ ys) n ≡ Some x
@@ -31,11 +24,8 @@ each P is (item ∷ items) = (is item, each P is items)
 pub all_said : {A B : Type 0} (P : A → Type 0) (Q : B → Type 0) (says : A → Option B) → ((item : A) → P item → (b : B) → says item ≡ Some b → Q b)
     → (items : List A) → AllByRecursion P items → AllByRecursion Q (filter_map says items)
 all_said P Q says so [] all = tt
-all_said {B = B} P Q says so (item ∷ items) all = by (says item) refl (all_said P Q says so items all.1)
-  where
-    by : (o : Option B) → says item ≡ o → AllByRecursion Q (filter_map says items) → AllByRecursion Q (cons_option o (filter_map says items))
-    by None e rest = rest
-    by (Some b) e rest = (so item all.0 b e, rest)
+all_said P Q says so (item ∷ items) all =
+    let rest = all_said P Q says so items all.1 in by_Option (says item) (λ none. rw none rest) (λ b is. rw is (so item all.0 b is, rest))
 
 or_front : {B : Type 0} (o p q : Option B) (b : B) → (p ≡ Some b → q ≡ Some b) → option_or o p ≡ Some b → option_or o q ≡ Some b
 or_front (Some c) p q b k e = e
@@ -50,11 +40,6 @@ first_said_front says (x ∷ xs) ys b e = or_front (says x) (first_said says xs)
 pub last_said_last : {A B : Type 0} (says : A → Option B) (xs : List A) (y : A) (b : B) → says y ≡ Some b → last_said says (xs ++ y ∷ []) ≡ Some b
 last_said_last says [] y b e = rw e refl
 last_said_last says (x ∷ xs) y b e = rw (last_said_last says xs y b e) refl
-
--- an item that says nothing changes nothing
-pub last_said_silent : {A B : Type 0} (says : A → Option B) (xs : List A) (y : A) → says y ≡ None → last_said says (xs ++ y ∷ []) ≡ last_said says xs
-last_said_silent says [] y e = rw e refl
-last_said_silent says (x ∷ xs) y e = ap (λ o. option_or o (says x)) (last_said_silent says xs y e)
 
 -- an item of two lists in a row stands in the first or in the second
 pub split_two : {A : Type 0} (xs ys before : List A) (c : A) (rest : List A) → xs ++ ys ≡ before ++ c ∷ rest
@@ -105,11 +90,7 @@ passes_over p (y ∷ xs) i x le at =
     later (suc k) le miss at rest = rest k le at
 
 no_place : (place count : ℕ) → cond (nat_lt place count) (Some place) None ≡ None → count ≤ place
-no_place place count e =
-    elim (cases_Bool (nat_lt place count)) [
-      | inl within ↦ absurd (let wrong : Some place ≡ None = rw within at e in absurd cc)
-      | inr past ↦ grind (arith, nat_tests, past)
-    ]
+no_place place count e = by_Bool (nat_lt place count) (λ within. absurd (let wrong = rw within at e in cc)) (λ past. grind (arith, nat_tests, past))
 
 -- none passes where there is no first place
 pub none_passes : {A : Type 0} (p : A → Bool) (xs : List A) (i : ℕ) (x : A) → position p xs ≡ None → slice_get xs i ≡ Some x → p x ≡ false

@@ -1,13 +1,5 @@
 -- What stands in lists of numbers, in lists that are gathered, and in lists freed of repetitions.
-use Rattle.std.proofs.Common.{◌≡◌, ℕ, zero, suc, ◌+◌, ◌<◌, ◌≤◌, ◌||◌, Bool, true, false, List, [], ◌∷◌, ◌++◌, length, Some, slice_get, refl, sym, ap, subst, ◌∙◌, inl, inr, ◌⊎◌, arith, true≢false, if◌then◌else◌}
-use Rattle.std.specs.Prelude.{bytes_eq}
-use Rattle.std.specs.List.{AllByRecursion, IsDistinct, flat_map, list_any, range_with_len}
-use Rattle.std.proofs.lemmas.Bool.{or_parts}
-use Rattle.std.proofs.lemmas.Option.{same_Some, slice_get_within}
-use Rattle.std.proofs.lemmas.Slice.Eq.{bytes_eq-Decides}
-use Rattle.bag_text.proofs.OrderLemmas.{other_way}
-use Rattle.bag_text.proofs.ElementLemmas.{Has}
-use Rattle.office_history.specs.Lists.{item_numbered, numbers, distinct_after, in_first_places}
+use Rattle.office_history.proofs.Common.{◌≡◌, ℕ, zero, suc, ◌+◌, ◌<◌, ◌≤◌, ◌||◌, false, List, [], ◌∷◌, ◌++◌, length, Some, slice_get, refl, sym, ap, subst, ◌∙◌, inl, inr, ◌⊎◌, arith, true≢false, bytes_eq, AllByRecursion, IsDistinct, flat_map, list_any, range_with_len, or_parts, same_Some, slice_get_within, bytes_eq-Decides, other_way, Has, item_numbered, numbers, distinct_after, in_first_places, by_Bool}
 
 pub has_at : {A : Type 0} (xs : List A) (i : ℕ) (x : A) → slice_get xs i ≡ Some x → Has xs x
 has_at [] i x e = absurd cc
@@ -25,7 +17,7 @@ at_or_above (suc a) (suc b) le =
     ]
 
 -- the numbers of a row of numbers
-range_has : (start len n : ℕ) → start ≤ n → n < start + len → Has (range_with_len start len) n
+pub range_has : (start len n : ℕ) → start ≤ n → n < start + len → Has (range_with_len start len) n
 range_has start zero n low high = absurd (omega arith)
 range_has start (suc len) n low high =
     elim (at_or_above start n low) [
@@ -49,12 +41,8 @@ weaker x seen (y ∷ ys) all = ((or_parts (bytes_eq y x) _ all.0).1, weaker x se
 
 all_new : (seen texts : List (List ℕ)) → AllByRecursion (IsNew seen) (distinct_after seen texts)
 all_new seen [] = tt
-all_new seen (x ∷ xs) = by (list_any (bytes_eq x) seen) refl (all_new seen xs) (all_new (x ∷ seen) xs)
-  where
-    by : (t : Bool) → list_any (bytes_eq x) seen ≡ t → AllByRecursion (IsNew seen) (distinct_after seen xs) → AllByRecursion (IsNew (x ∷ seen)) (distinct_after (x ∷ seen) xs)
-        → AllByRecursion (IsNew seen) (if t then distinct_after seen xs else x ∷ distinct_after (x ∷ seen) xs)
-    by true e behind after_it = behind
-    by false e behind after_it = (e, weaker x seen (distinct_after (x ∷ seen) xs) after_it)
+all_new seen (x ∷ xs) =
+    by_Bool (list_any (bytes_eq x) seen) (λ before. rw before (all_new seen xs)) (λ new. rw new (new, weaker x seen (distinct_after (x ∷ seen) xs) (all_new (x ∷ seen) xs)))
 
 unlike : (x : List ℕ) (seen texts : List (List ℕ)) → AllByRecursion (IsNew (x ∷ seen)) texts → AllByRecursion (λ y. bytes_eq x y ≡ false) texts
 unlike x seen [] all = tt
@@ -63,48 +51,30 @@ unlike x seen (y ∷ ys) all = (other_way x y (or_parts (bytes_eq y x) _ all.0).
 distinct_once : (seen texts : List (List ℕ)) → IsDistinct bytes_eq (distinct_after seen texts)
 unfolding IsDistinct
 distinct_once seen [] = tt
-distinct_once seen (x ∷ xs) = by (list_any (bytes_eq x) seen) (distinct_once seen xs) (distinct_once (x ∷ seen) xs)
-  where
-    by : (t : Bool) → IsDistinct bytes_eq (distinct_after seen xs) → IsDistinct bytes_eq (distinct_after (x ∷ seen) xs)
-        → IsDistinct bytes_eq (if t then distinct_after seen xs else x ∷ distinct_after (x ∷ seen) xs)
-    by true behind after_it = behind
-    by false behind after_it = (unlike x seen (distinct_after (x ∷ seen) xs) (all_new (x ∷ seen) xs), after_it)
+distinct_once seen (x ∷ xs) =
+    by_Bool (list_any (bytes_eq x) seen) (λ before. rw before (distinct_once seen xs))
+    (λ new. rw new (unlike x seen (distinct_after (x ∷ seen) xs) (all_new (x ∷ seen) xs), distinct_once (x ∷ seen) xs))
 
 pub first_places_once : (texts : List (List ℕ)) → IsDistinct bytes_eq (in_first_places texts)
 first_places_once texts = distinct_once [] texts
 
-seen_or : (x y : List ℕ) (seen : List (List ℕ)) → IsNew seen y → (bytes_eq y x ≡ true) ⊎ IsNew (x ∷ seen) y
-seen_or x y seen new = by (bytes_eq y x) refl
-  where
-    by : (t : Bool) → bytes_eq y x ≡ t → (bytes_eq y x ≡ true) ⊎ IsNew (x ∷ seen) y
-    by true e = inl e
-    by false e = inr (ap (λ b. b || list_any (bytes_eq y) seen) e ∙ new)
-
 distinct_has : (y : List ℕ) (seen texts : List (List ℕ)) → IsNew seen y → Has texts y → Has (distinct_after seen texts) y
 distinct_has y seen [] new found = absurd found
-distinct_has y seen (x ∷ xs) new found =
-    by (list_any (bytes_eq x) seen) refl found (λ rest. distinct_has y seen xs new rest) (λ still rest. distinct_has y (x ∷ seen) xs still rest)
-  where
-    by : (t : Bool) → list_any (bytes_eq x) seen ≡ t → (x ≡ y) ⊎ Has xs y → (Has xs y → Has (distinct_after seen xs) y) → (IsNew (x ∷ seen) y → Has xs y → Has (distinct_after (x ∷ seen) xs) y)
-        → Has (if t then distinct_after seen xs else x ∷ distinct_after (x ∷ seen) xs) y
-    by true e (inl same) behind after_it = absurd (true≢false (sym e ∙ ap (λ z. list_any (bytes_eq z) seen) same ∙ new))
-    by true e (inr rest) behind after_it = behind rest
-    by false e (inl same) behind after_it = inl same
-    by false e (inr rest) behind after_it =
-        elim (seen_or x y seen new) [
-          | inl again ↦ inl (sym ((bytes_eq-Decides y x).0 again))
-          | inr still ↦ inr (after_it still rest)
-        ]
+distinct_has y seen (x ∷ xs) new (inl same) =
+    by_Bool (list_any (bytes_eq x) seen) (λ before. absurd (true≢false (sym before ∙ ap (λ z. list_any (bytes_eq z) seen) same ∙ new))) (λ first. rw first (inl same))
+distinct_has y seen (x ∷ xs) new (inr rest) =
+    by_Bool (list_any (bytes_eq x) seen) (λ before. rw before (distinct_has y seen xs new rest))
+    (λ first. rw first (by_Bool (bytes_eq y x) (λ again. inl (sym ((bytes_eq-Decides y x).0 again)))
+    (λ other. inr (distinct_has y (x ∷ seen) xs (ap (λ b. b || list_any (bytes_eq y) seen) other ∙ new) rest))))
 
 has_distinct : (y : List ℕ) (seen texts : List (List ℕ)) → Has (distinct_after seen texts) y → Has texts y
 has_distinct y seen [] found = absurd found
-has_distinct y seen (x ∷ xs) found = by (list_any (bytes_eq x) seen) found (λ rest. has_distinct y seen xs rest) (λ rest. has_distinct y (x ∷ seen) xs rest)
-  where
-    by : (t : Bool) → Has (if t then distinct_after seen xs else x ∷ distinct_after (x ∷ seen) xs) y
-        → (Has (distinct_after seen xs) y → Has xs y) → (Has (distinct_after (x ∷ seen) xs) y → Has xs y) → (x ≡ y) ⊎ Has xs y
-    by true found behind after_it = inr (behind found)
-    by false (inl same) behind after_it = inl same
-    by false (inr rest) behind after_it = inr (after_it rest)
+has_distinct y seen (x ∷ xs) found =
+    by_Bool (list_any (bytes_eq x) seen) (λ before. inr (has_distinct y seen xs (rw before at found)))
+    (λ first. elim (rw first at found) [
+      | inl same ↦ inl same
+      | inr rest ↦ inr (has_distinct y (x ∷ seen) xs rest)
+    ])
 
 -- a text stands in first places exactly where it stands
 pub first_places_have : (y : List ℕ) (texts : List (List ℕ)) → Has texts y → Has (in_first_places texts) y

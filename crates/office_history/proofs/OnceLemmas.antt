@@ -1,57 +1,32 @@
 -- Numbers and accessions are given once, and released holds are not live.
-use Rattle.std.proofs.Common.{◌≡◌, ◌≤◌, ℕ, zero, suc, ◌+◌, Bool, true, false, ◌&&◌, List, [], ◌∷◌, ◌++◌, length, Option, Some, None, slice_get, position, bytes_eq, refl, sym, ap, ◌∙◌, inl, inr, ◌⊎◌, length-append, arith, if◌then◌else◌, int_lt}
-use Rattle.std.specs.List.{filter_map}
-use Rattle.std.proofs.lemmas.Bool.{and_parts, true≢false}
-use Rattle.std.proofs.lemmas.Slice.Eq.{bytes_eq-Decides}
-use denote.Ref.{Bor}
-use Rattle.jiff.specs.Types.{Date}
-use Rattle.jiff.specs.Words.{epoch_day}
-use Rattle.office_core.specs.Rules.{allows}
-use Rattle.office_core.specs.FirstOf.{first_some, answer_if}
+use Rattle.office_history.proofs.FirstLemmas.{◌≡◌, ◌≤◌, ℕ, zero, suc, ◌+◌, true, false, ◌&&◌, List, [], ◌∷◌, ◌++◌, length, Option, Some, None, slice_get, position, bytes_eq, refl, sym, ap, ◌∙◌, inl, inr, ◌⊎◌, length-append, arith, int_lt, filter_map, and_parts, true≢false, bytes_eq-Decides, Bor, Date, epoch_day, Description, allows, first_some, Decision, Due, On, Never, Held, Dispose, option_map_none, item_numbered, numbers, History, Change, Deposit, with_changes, deposit_in, deposits, deposit_numbered, destruction_day, due, holds, release_day, is_live, covers, live_holds, least_hold, refusal_in, refusal, of_deposit, disposal_refusals, denial_at, gone_refusal, held_refusal, not_due_refusal, answer, IsLegal, numbered_cases, none_passes, filter_has, has_at, deposits_grown, legal_by, deposits_by, by_Bool, by_Option}
 use Rattle.office_core.specs.declared.action.Action.TheVariants as acts
 use Rattle.office_core.specs.declared.answer.Answer.TheVariants as answers
-use Rattle.office_core.specs.declared.rule.Decision.{Decision}
-use Rattle.office_core.specs.declared.retention.Due.{Due}
-use Rattle.office_core.specs.declared.retention.Due.TheVariants.{On, Never}
-use Rattle.office_core.specs.declared.refusal.Refusal.TheVariants.{NoSuch, Held}
-use Rattle.office_core.specs.declared.facts.Verdict.TheVariants.{NotDue, DeniedByRule}
-use Rattle.office_core.specs.declared.refusal.Subject.TheVariants as subjects
 use Rattle.office_core.specs.Verdicts as deciding
-use Rattle.office_core.specs.declared.request.Request.TheVariants.{Deposit as MakeDeposit, Dispose}
-use Rattle.office_core.proofs.OptionLemmas.{option_map_none}
-use Rattle.office_history.specs.Lists.{item_numbered, numbers}
-use Rattle.office_history.specs.Histories.{History, Change, Deposit, with_changes, deposit_in, deposits, deposit_numbered, destruction_day, due, holds, release_day, is_live, covers, live_holds, least_hold}
-use Rattle.office_history.specs.Refusals.{refusal_in, refusal, of_deposit, disposal_refusals, denial_at, gone_refusal, held_refusal, not_due_refusal}
-use Rattle.office_history.specs.Answers.{answer}
-use Rattle.office_history.specs.Runs.{IsLegal}
-use Rattle.office_history.proofs.ListLemmas.{numbered_cases, none_passes}
-use Rattle.bag_text.proofs.ElementLemmas.{filter_has}
-use Rattle.office_history.proofs.MemberLemmas.{has_at}
-use Rattle.office_history.proofs.HistoryLemmas.{deposits_grown}
-use Rattle.office_history.proofs.Accepted.{IsAccepted, legal_by, deposits_by}
+use Rattle.office_core.specs.declared.request.Request.TheVariants.{Deposit as MakeDeposit}
 use Rattle.office_history.proofs.LawLemmas.{unrefused}
 
 -- ---- accessions
 
 -- two deposits of a list with one accession are one
 abbrev pub AreApart : List (Date × Deposit) → Type 0
-AreApart ds = (n m : ℕ) (a b : Date × Deposit) → item_numbered ds n ≡ Some a → item_numbered ds m ≡ Some b → a.1.accession ≡ b.1.accession → n ≡ m
+AreApart ds = (n m : ℕ) (a b : Date × Deposit) → item_numbered ds n ≡ Some a → item_numbered ds m ≡ Some b → a.1.description.accession ≡ b.1.description.accession → n ≡ m
 
 -- no deposit of the list has the accession
-unused : (ds : List (Date × Deposit)) (accession : List ℕ) (n : ℕ) (a : Date × Deposit) → position (λ (d : Date × Deposit). bytes_eq d.1.accession accession) ds ≡ None → item_numbered ds n ≡ Some a → a.1.accession ≡ accession → ⊥
+unused : (ds : List (Date × Deposit)) (accession : List ℕ) (n : ℕ) (a : Date × Deposit) → position (λ (d : Date × Deposit). bytes_eq d.1.description.accession accession) ds ≡ None → item_numbered ds n ≡ Some a → a.1.description.accession ≡ accession → ⊥
 unused ds accession zero a none at same = absurd cc
 unused ds accession (suc place) a none at same =
-    true≢false (sym ((bytes_eq-Decides a.1.accession accession).1 same) ∙ none_passes (λ (d : Date × Deposit). bytes_eq d.1.accession accession) ds place a none at)
+    true≢false (sym ((bytes_eq-Decides a.1.description.accession accession).1 same) ∙ none_passes (λ (d : Date × Deposit). bytes_eq d.1.description.accession accession) ds place a none at)
 
-apart_added : (ds : List (Date × Deposit)) (added : Date × Deposit) → AreApart ds → position (λ (d : Date × Deposit). bytes_eq d.1.accession added.1.accession) ds ≡ None → AreApart (ds ++ added ∷ [])
+apart_added : (ds : List (Date × Deposit)) (added : Date × Deposit) → AreApart ds → position (λ (d : Date × Deposit). bytes_eq d.1.description.accession added.1.description.accession) ds ≡ None → AreApart (ds ++ added ∷ [])
 apart_added ds added apart none n m a b at_n at_m same =
     elim (numbered_cases ds added n a at_n) [
       | inl old_n ↦ elim (numbered_cases ds added m b at_m) [
         | inl old_m ↦ apart n m a b old_n old_m same
-        | inr new_m ↦ absurd (unused ds added.1.accession n a none old_n (same ∙ ap (λ (d : Date × Deposit). d.1.accession) (sym new_m.1)))
+        | inr new_m ↦ absurd (unused ds added.1.description.accession n a none old_n (same ∙ ap (λ (d : Date × Deposit). d.1.description.accession) (sym new_m.1)))
       ]
       | inr new_n ↦ elim (numbered_cases ds added m b at_m) [
-        | inl old_m ↦ absurd (unused ds added.1.accession m b none old_m (sym same ∙ ap (λ (d : Date × Deposit). d.1.accession) (sym new_n.1)))
+        | inl old_m ↦ absurd (unused ds added.1.description.accession m b none old_m (sym same ∙ ap (λ (d : Date × Deposit). d.1.description.accession) (sym new_n.1)))
         | inr new_m ↦ new_n.0 ∙ sym new_m.0
       ]
     ]
@@ -59,9 +34,9 @@ apart_added ds added apart none n m a b at_n at_m same =
 -- ---- numbers
 
 -- a deposit was answered, so it was allowed
-pub was_allowed : (h : History) (day : Date) (caller collection class accession : List ℕ) (closed : Date) (text : Bor (List ℕ)) (n : ℕ) → answer h day caller (MakeDeposit collection class accession closed text) ≡ answers.Deposited n → (refusal h day caller (MakeDeposit collection class accession closed text) ≡ None) × (length (deposits h) + 1 ≡ n)
-was_allowed h day caller collection class accession closed text n e =
-    let r = unrefused (refusal h day caller (MakeDeposit collection class accession closed text)) (answers.Deposited (length (deposits h) + 1)) (answers.Deposited n) e (λ r. λ wrong. absurd cc) in
+pub was_allowed : (h : History) (day : Date) (caller : List ℕ) (description : Description) (text : Bor (List ℕ)) (n : ℕ) → answer h day caller (MakeDeposit description text) ≡ answers.Deposited n → (refusal h day caller (MakeDeposit description text) ≡ None) × (length (deposits h) + 1 ≡ n)
+was_allowed h day caller description text n e =
+    let r = unrefused (refusal h day caller (MakeDeposit description text)) (answers.Deposited (length (deposits h) + 1)) (answers.Deposited n) e (λ r. λ wrong. absurd cc) in
     (r.0, (let same = r.1 in cc))
 
 pub more_deposits : (h : History) (more : List Change) → length (deposits h) ≤ length (deposits (with_changes h more))
@@ -72,11 +47,9 @@ none_apart zero m a b at_n at_m same = absurd cc
 none_apart (suc n) m a b at_n at_m same = absurd cc
 
 pub accessions_apart : (h : History) → IsLegal h → AreApart (deposits h)
-accessions_apart h legal = legal_by (λ x. AreApart (deposits x)) (λ a b a_in b_in. none_apart) more h legal
-  where
-    more : (x : History) (c : Change) → IsLegal x → IsAccepted x c → AreApart (deposits x) → AreApart (deposits (with_changes x (c ∷ [])))
-    more x c was ok apart =
-        deposits_by AreApart x c ok apart (λ day deposit ranged allowed. apart_added (deposits x) (day, deposit) apart (option_map_none _ _ allowed.new_accession))
+accessions_apart h legal =
+    legal_by (λ x. AreApart (deposits x)) (λ a b a_in b_in. none_apart) (λ x c was ok apart.
+    deposits_by AreApart x c ok apart (λ day deposit ranged allowed. apart_added (deposits x) (day, deposit) apart (option_map_none _ _ allowed.new_accession))) h legal
 
 -- ---- released holds
 
@@ -95,23 +68,15 @@ first_is (Some y) os x e = inl e
 
 denied_is_not_held : (d : Option Decision) (k : ℕ) → refusal_in (deciding.denial_verdict d) ≡ Some (Held k) → ⊥
 denied_is_not_held None k e = absurd cc
-denied_is_not_held (Some d) k e = by_effect (allows d.effect) e
-  where
-    by_effect : (t : Bool) → refusal_in (if t then None else Some (DeniedByRule d.rule)) ≡ Some (Held k) → ⊥
-    by_effect true e = absurd cc
-    by_effect false e = absurd cc
+denied_is_not_held (Some d) k e = by_Bool (allows d.effect) (λ allowed. let wrong = rw allowed at e in cc) (λ denied. let wrong = rw denied at e in cc)
 
 gone_is_not_held : (o : Option Date) (k : ℕ) → refusal_in (deciding.gone_verdict o) ≡ Some (Held k) → ⊥
 gone_is_not_held None k e = absurd cc
 gone_is_not_held (Some day) k e = absurd cc
 
 due_is_not_held : (day : Date) (d : Due) (k : ℕ) → refusal_in (deciding.due_verdict day d) ≡ Some (Held k) → ⊥
-due_is_not_held day (On date) k e = by_test (int_lt (epoch_day day) (epoch_day date)) e
-  where
-    by_test : (t : Bool) → refusal_in (answer_if t (NotDue date)) ≡ Some (Held k) → ⊥
-    by_test true e = absurd cc
-    by_test false e = absurd cc
 due_is_not_held day Never k e = absurd cc
+due_is_not_held day (On date) k e = by_Bool (int_lt (epoch_day day) (epoch_day date)) (λ early. let wrong = rw early at e in cc) (λ past. let wrong = rw past at e in cc)
 
 held_by : (ks : Option ℕ) (k : ℕ) → refusal_in (deciding.hold_verdict ks) ≡ Some (Held k) → ks ≡ Some k
 held_by None k e = absurd cc
@@ -136,8 +101,5 @@ held_least h day caller n k found there e =
 
 -- and a hold that was released refuses no disposal
 pub refuses_none : (h : History) (day on : Date) (caller : List ℕ) (k n : ℕ) → release_day h k ≡ Some on → refusal h day caller (Dispose n) ≡ Some (Held k) → ⊥
-refuses_none h day on caller k n dead e = by_deposit (deposit_numbered h n) refl
-  where
-    by_deposit : (there : Option (Date × Deposit)) → deposit_numbered h n ≡ there → ⊥
-    by_deposit None is = let wrong : Some (NoSuch subjects.Deposit) ≡ Some (Held k) = sym (ap (λ (o : Option (Date × Deposit)). first_some (of_deposit o (disposal_refusals h day caller n))) is) ∙ e in cc
-    by_deposit (Some found) is = not_among_live h k 0 n on found.1 dead (held_least h day caller n k found is e)
+refuses_none h day on caller k n dead e =
+    by_Option (deposit_numbered h n) (λ none. let wrong = rw none at e in cc) (λ found is. not_among_live h k 0 n on found.1 dead (held_least h day caller n k found is e))

@@ -1,41 +1,10 @@
 -- What the rows of a legal history tell of it: all that the office decides by.
-use Rattle.std.proofs.Common.{one-add, ◌≡◌, ℕ, zero, suc, ◌+◌, ◌<◌, ◌≤◌, ◌||◌, ℤ, pos, negsuc, Bool, true, false, List, [], ◌∷◌, ◌++◌, length, map, filter, Option, Some, None, option_map, unwrap_or, slice_get, is_none, is_some, refl, sym, ap, subst, ◌∙◌, true≢false, arith, append-nil, cond, if◌then◌else◌}
-use Rattle.std.specs.Prelude.{bytes_eq, codes, unsigned_abs}
-use Rattle.std.specs.List.{AllByRecursion, filter_map, flat_map, list_any, range_with_len, cons_option}
-use Rattle.std.specs.Option.{option_or, option_map_or}
+use Rattle.office_history.proofs.FirstLemmas.{one-add, ◌≡◌, ℕ, zero, suc, ◌+◌, ◌<◌, ◌≤◌, ◌||◌, ℤ, pos, negsuc, Bool, true, false, List, [], ◌∷◌, ◌++◌, length, map, filter, Option, Some, None, option_map, unwrap_or, slice_get, is_none, is_some, refl, sym, ap, subst, ◌∙◌, true≢false, arith, append-nil, cond, if◌then◌else◌, bytes_eq, codes, unsigned_abs, AllByRecursion, filter_map, flat_map, list_any, range_with_len, cons_option, option_or, option_map_or, Decides-int_eq, filter_map-append, same_Some, slice_get-map, slice_get_past, slice_get_within, bytes_eq-Decides, or-true, epoch_day_injective, Date, epoch_day, File, same_date, is_name, IsName, Action, Caller, ActionPattern, Effect, Allow, Deny, Pattern, Rule, CallerRow, RuleRow, ClassRow, OfficeRow, DepositRow, FileRow, HoldRow, Tables, first_said, last_said, item_numbered, numbers, distinct_after, in_first_places, History, Change, DefinedClass, Target, OnDeposit, OnCollection, OnClass, Deposit, Hold, policy, years_in, years_of, deposits, deposit_numbered, destruction_day, holds, hold_numbered, release_day, effect_number, pattern_text, action_pattern_text, caller_row, rule_row, rule_rows, years_number, years_back, class_row, class_in, class_rows, description_of, deposit_row, row_of_deposit, file_row, file_rows, held_deposit, held_collection, held_class, hold_row, row_of_hold, picture, files_of, IsNamed, HasNames, IsLegal, other_way, all_weaker, outline, Alike, or_none, some_behind, by_Bool, by_Option, false_from_ne_true}
 use Rattle.std.specs.Ordering.{int_eq}
-use Rattle.std.proofs.lemmas.Bool.Decides.{Decides-int_eq}
-use Rattle.std.proofs.lemmas.List.Elements.{filter_map-append}
-use Rattle.std.proofs.lemmas.Option.{same_Some, slice_get-map, slice_get_past, slice_get_within}
-use Rattle.std.proofs.lemmas.Slice.Eq.{bytes_eq-Decides}
-use Rattle.std.proofs.Math.Bool.{or-true}
-use Rattle.jiff_core.proofs.DateLemmas.{epoch_day_injective}
-use Rattle.jiff.specs.Types.{Date}
-use Rattle.jiff.specs.Words.{epoch_day}
-use Rattle.bag_text.specs.TransferForm.{File}
-use Rattle.office_core.proofs.DayLemmas.{same_date}
 use Rattle.office_core.specs.Actions.{action_text, action_of}
-use Rattle.office_core.specs.Names.{is_name, IsName}
-use Rattle.office_core.specs.declared.action.Action.{Action}
 use Rattle.office_core.specs.declared.action.Action.TheVariants as acts
-use Rattle.office_core.specs.declared.caller.Caller.{Caller}
-use Rattle.office_core.specs.declared.rule.ActionPattern.{ActionPattern}
 use Rattle.office_core.specs.declared.rule.ActionPattern.TheVariants as action_patterns
-use Rattle.office_core.specs.declared.rule.Effect.{Effect}
-use Rattle.office_core.specs.declared.rule.Effect.TheVariants.{Allow, Deny}
-use Rattle.office_core.specs.declared.rule.Pattern.{Pattern}
 use Rattle.office_core.specs.declared.rule.Pattern.TheVariants as patterns
-use Rattle.office_core.specs.declared.rule.Rule.{Rule}
-use Rattle.office_rows.specs.Rows.{CallerRow, RuleRow, ClassRow, OfficeRow, DepositRow, FileRow, HoldRow, Tables}
-use Rattle.office_history.specs.Lists.{first_said, last_said, item_numbered, numbers, distinct_after, in_first_places}
-use Rattle.office_history.specs.Histories.{History, Change, Installed, DefinedClass, DefinedCollection, Deposited, PlacedHold, ReleasedHold, Destroyed, Target, OnDeposit, OnCollection, OnClass, Deposit, Hold, policy, years_in, years_of, deposits, deposit_numbered, destruction_day, holds, hold_numbered, release_day}
-use Rattle.office_history.specs.Pictures.{effect_number, pattern_text, action_pattern_text, caller_row, rule_row, rule_rows, years_number, years_back, class_row, class_in, class_rows, deposit_row, row_of_deposit, file_row, file_rows, held_deposit, held_collection, held_class, hold_row, row_of_hold, picture}
-use Rattle.office_history.specs.Stocks.{files_of}
-use Rattle.office_core.specs.Policies.{IsNamed, HasNames}
-use Rattle.office_history.specs.Runs.{IsLegal}
-use Rattle.bag_text.proofs.OrderLemmas.{other_way}
-use Rattle.office_rows.proofs.Order.{all_weaker}
-use Rattle.office_history.proofs.Alike.{outline, Alike, or_none, some_behind}
 use Rattle.office_history.proofs.AlikeAnswers.{among_first_places}
 use Rattle.office_history.proofs.LegalReadings.{legal_policy, none_gone, none_released}
 
@@ -43,12 +12,11 @@ use Rattle.office_history.proofs.LegalReadings.{legal_policy, none_gone, none_re
 
 pub same_list : {A : Type 0} (xs ys : List A) → ((i : ℕ) → slice_get xs i ≡ slice_get ys i) → xs ≡ ys
 same_list [] [] e = refl
-same_list [] (y ∷ ys) e = let wrong = e 0 in absurd cc
-same_list (x ∷ xs) [] e = let wrong = e 0 in absurd cc
 same_list (x ∷ xs) (y ∷ ys) e =
     let first : x ≡ y = same_Some _ _ (e 0) in
     let rest : xs ≡ ys = same_list xs ys (λ i. e (suc i)) in
     λ i. first i ∷ rest i
+same_list _ _ e = let wrong = e 0 in absurd cc
 
 pub there_is : {A : Type 0} (xs : List A) (i : ℕ) → i < length xs → (x : A) × (slice_get xs i ≡ Some x)
 there_is [] i lt = absurd (omega (arith, lt))
@@ -96,9 +64,8 @@ same_day a b e = let parts = epoch_day_injective a b e in same_date a b parts.0 
 
 pub same_days : (a b : Option Date) → option_map epoch_day a ≡ option_map epoch_day b → a ≡ b
 same_days None None e = refl
-same_days None (Some b) e = absurd cc
-same_days (Some a) None e = absurd cc
 same_days (Some a) (Some b) e = ap Some (same_day a b (same_Some _ _ e))
+same_days _ _ e = absurd cc
 
 -- ---- deposits
 
@@ -108,35 +75,30 @@ same_row h k version e n =
 
 outline_by_row : (h k : History) (n : ℕ) (x y : Option (Date × Deposit)) → option_map (deposit_row h n) x ≡ option_map (deposit_row k n) y → option_map outline x ≡ option_map outline y
 outline_by_row h k n None None e = refl
-outline_by_row h k n None (Some y) e = absurd cc
-outline_by_row h k n (Some x) None e = absurd cc
 outline_by_row h k n (Some x) (Some y) e =
     let s : deposit_row h n x ≡ deposit_row k n y = same_Some _ _ e in
     let day : x.0 ≡ y.0 = same_day x.0 y.0 (ap (λ (r : DepositRow). r.deposited) s) in
-    let closed : x.1.closed ≡ y.1.closed = same_day x.1.closed y.1.closed (ap (λ (r : DepositRow). r.closed) s) in
+    let closed : x.1.description.closed ≡ y.1.description.closed = same_day x.1.description.closed y.1.description.closed (ap (λ (r : DepositRow). r.closed) s) in
     let one : outline x ≡ outline y = λ i. record {
       day = day i;
-      collection = (s i).collection;
-      class = (s i).class;
-      accession = (s i).accession;
-      closed = closed i;
+      description = description_of (s i) (closed i);
       files = unsigned_abs (s i).files;
       bytes = unsigned_abs (s i).bytes;
     } in
     ap Some one
+outline_by_row h k n _ _ e = absurd cc
 
 gone_by_row : (h k : History) → IsLegal h → IsLegal k → (n : ℕ) (x y : Option (Date × Deposit)) → deposit_numbered h n ≡ x → deposit_numbered k n ≡ y
     → option_map (deposit_row h n) x ≡ option_map (deposit_row k n) y → destruction_day h n ≡ destruction_day k n
 gone_by_row h k legal_h legal_k n None None a b e = none_gone h legal_h n a ∙ sym (none_gone k legal_k n b)
-gone_by_row h k legal_h legal_k n None (Some y) a b e = absurd cc
-gone_by_row h k legal_h legal_k n (Some x) None a b e = absurd cc
 gone_by_row h k legal_h legal_k n (Some x) (Some y) a b e =
     let s : deposit_row h n x ≡ deposit_row k n y = same_Some _ _ e in
     same_days (destruction_day h n) (destruction_day k n) (ap (λ (r : DepositRow). r.gone) s)
+gone_by_row h k legal_h legal_k n _ _ a b e = absurd cc
 
 -- ---- the files of deposits that are kept
 
-abbrev own : ℕ → FileRow → Option File
+abbrev pub own : ℕ → FileRow → Option File
 own n r = if int_eq r.deposit (pos n) then Some (record { path = r.path; content = r.content }) else None
 
 own_files : (n : ℕ) (files : List File) → filter_map (own n) (map (file_row n) files) ≡ files
@@ -149,11 +111,7 @@ other_files n m (f ∷ files) other = λ i. cons_option (cond (other i) (Some f)
 
 -- numbers that differ are different numbers of rows
 pub different : (a b : ℕ) → ¬ (a ≡ b) → int_eq (pos a) (pos b) ≡ false
-different a b apart = by (int_eq (pos a) (pos b)) refl
-  where
-    by : (t : Bool) → int_eq (pos a) (pos b) ≡ t → int_eq (pos a) (pos b) ≡ false
-    by true e = absurd (apart (ap unsigned_abs ((Decides-int_eq (pos a) (pos b)).0 e)))
-    by false e = e
+different a b apart = false_from_ne_true (int_eq (pos a) (pos b)) (λ same. apart (ap unsigned_abs ((Decides-int_eq (pos a) (pos b)).0 same)))
 
 -- the rows of the files of these deposits
 abbrev rows_of : (ℕ → List File) → List ℕ → List FileRow
@@ -165,12 +123,11 @@ own_first files n m numbers = filter_map-append (own n) (map (file_row m) (files
 -- of numbers above, no row is the deposit's
 none_above : (files : ℕ → List File) (p : ℕ → Bool) (n len start : ℕ) → n < start → filter_map (own n) (rows_of files (filter p (range_with_len start len))) ≡ []
 none_above files p n zero start lt = refl
-none_above files p n (suc len) start lt = by (p start) (none_above files p n len (start + 1) (omega (arith, lt)))
-  where
-    by : (b : Bool) → filter_map (own n) (rows_of files (filter p (range_with_len (start + 1) len))) ≡ []
-        → filter_map (own n) (rows_of files (cond b (start ∷ filter p (range_with_len (start + 1) len)) (filter p (range_with_len (start + 1) len)))) ≡ []
-    by true rest = own_first files n start (filter p (range_with_len (start + 1) len)) ∙ (λ i. other_files n start (files start) (different start n (λ same. omega (arith, same, lt))) i ++ rest i)
-    by false rest = rest
+none_above files p n (suc len) start lt =
+    let rest = none_above files p n len (start + 1) (omega (arith, lt)) in
+    by_Bool (p start)
+    (λ passes. rw passes (own_first files n start (filter p (range_with_len (start + 1) len)) ∙ (λ i. other_files n start (files start) (different start n (λ same. omega (arith, same, lt))) i ++ rest i)))
+    (λ fails. rw fails rest)
 
 -- of numbers among which the deposit's is, the deposit's rows are its files
 mine : (files : ℕ → List File) (p : ℕ → Bool) (len j start n : ℕ) → n ≡ start + j → j < len → p n ≡ true → filter_map (own n) (rows_of files (filter p (range_with_len start len))) ≡ files n
@@ -184,15 +141,14 @@ mine files p (suc len) zero start n is lt stays =
     ∙ own_first files n start rest
     ∙ (λ i. own_rows i ++ none_above files p n len (start + 1) (omega (arith, is)) i)
     ∙ append-nil (files n)
-mine files p (suc len) (suc j) start n is lt stays = by (p start) (mine files p len j (start + 1) n (omega (arith, is)) (omega (arith, lt)) stays)
-  where
-    by : (b : Bool) → filter_map (own n) (rows_of files (filter p (range_with_len (start + 1) len))) ≡ files n
-        → filter_map (own n) (rows_of files (cond b (start ∷ filter p (range_with_len (start + 1) len)) (filter p (range_with_len (start + 1) len)))) ≡ files n
-    by true rest = own_first files n start (filter p (range_with_len (start + 1) len)) ∙ (λ i. other_files n start (files start) (different start n (λ same. omega (arith, same, is))) i ++ rest i)
-    by false rest = rest
+mine files p (suc len) (suc j) start n is lt stays =
+    let rest = mine files p len j (start + 1) n (omega (arith, is)) (omega (arith, lt)) stays in
+    by_Bool (p start)
+    (λ passes. rw passes (own_first files n start (filter p (range_with_len (start + 1) len)) ∙ (λ i. other_files n start (files start) (different start n (λ same. omega (arith, same, is))) i ++ rest i)))
+    (λ fails. rw fails rest)
 
 -- the files of a kept deposit, read off the rows
-files_told : (h : History) (n : ℕ) (found : Date × Deposit) → deposit_numbered h n ≡ Some found → destruction_day h n ≡ None → filter_map (own n) (file_rows h) ≡ files_of h n
+pub files_told : (h : History) (n : ℕ) (found : Date × Deposit) → deposit_numbered h n ≡ Some found → destruction_day h n ≡ None → filter_map (own n) (file_rows h) ≡ files_of h n
 files_told h zero found there stays = absurd cc
 files_told h (suc j) found there stays =
     mine (files_of h) (λ m. is_none (destruction_day h m)) (length (deposits h)) j 1 (suc j) (omega arith) (slice_get_within (deposits h) j found there) (ap is_none stays)
@@ -201,10 +157,9 @@ same_files : (h k : History) (version : ℤ) → picture version h ≡ picture v
     → option_map (deposit_row h n) x ≡ option_map (deposit_row k n) y → destruction_day h n ≡ None → destruction_day k n ≡ None → files_of h n ≡ files_of k n
 same_files h k version e n None None a b rows kept_h kept_k =
     ap (λ found. option_map_or (λ f. f.1.bag) found []) a ∙ sym (ap (λ found. option_map_or (λ f. f.1.bag) found []) b)
-same_files h k version e n None (Some y) a b rows kept_h kept_k = absurd cc
-same_files h k version e n (Some x) None a b rows kept_h kept_k = absurd cc
 same_files h k version e n (Some x) (Some y) a b rows kept_h kept_k =
     sym (files_told h n x a kept_h) ∙ ap (λ (t : Tables). filter_map (own n) t.files) e ∙ files_told k n y b kept_k
+same_files h k version e n _ _ a b rows kept_h kept_k = absurd cc
 
 -- ---- holds
 
@@ -217,8 +172,7 @@ target_of None None None = OnCollection []
 target_told : (target : Target) → target_of (held_deposit target) (held_collection target) (held_class target) ≡ target
 unfolding target_of
 target_told (OnDeposit n) = refl
-target_told (OnCollection name) = refl
-target_told (OnClass name) = refl
+target_told _ = refl
 
 same_hold_row : (h k : History) (version : ℤ) → picture version h ≡ picture version k → (n : ℕ) → row_of_hold h n ≡ row_of_hold k n
 same_hold_row h k version e n =
@@ -226,23 +180,21 @@ same_hold_row h k version e n =
 
 hold_by_row : (h k : History) (n : ℕ) (x y : Option (Date × Hold)) → option_map (hold_row h n) x ≡ option_map (hold_row k n) y → x ≡ y
 hold_by_row h k n None None e = refl
-hold_by_row h k n None (Some y) e = absurd cc
-hold_by_row h k n (Some x) None e = absurd cc
 hold_by_row h k n (Some x) (Some y) e =
     let s : hold_row h n x ≡ hold_row k n y = same_Some _ _ e in
     let day : x.0 ≡ y.0 = same_day x.0 y.0 (ap (λ (r : HoldRow). r.placed) s) in
     let target : x.1.target ≡ y.1.target = sym (target_told x.1.target) ∙ ap (λ (r : HoldRow). target_of r.deposit r.collection r.class) s ∙ target_told y.1.target in
     let hold : x.1 ≡ y.1 = λ i. record { target = target i; matter = (s i).matter } in
     λ i. Some (day i, hold i)
+hold_by_row h k n _ _ e = absurd cc
 
 released_by_row : (h k : History) → IsLegal h → IsLegal k → (n : ℕ) (x y : Option (Date × Hold)) → hold_numbered h n ≡ x → hold_numbered k n ≡ y
     → option_map (hold_row h n) x ≡ option_map (hold_row k n) y → release_day h n ≡ release_day k n
 released_by_row h k legal_h legal_k n None None a b e = none_released h legal_h n a ∙ sym (none_released k legal_k n b)
-released_by_row h k legal_h legal_k n None (Some y) a b e = absurd cc
-released_by_row h k legal_h legal_k n (Some x) None a b e = absurd cc
 released_by_row h k legal_h legal_k n (Some x) (Some y) a b e =
     let s : hold_row h n x ≡ hold_row k n y = same_Some _ _ e in
     same_days (release_day h n) (release_day k n) (ap (λ (r : HoldRow). r.released) s)
+released_by_row h k legal_h legal_k n _ _ a b e = absurd cc
 
 -- ---- the policy
 
@@ -260,11 +212,7 @@ abbrev pattern_of : List ℕ → Pattern
 pattern_of text = if bytes_eq text (codes "*") then patterns.Any else patterns.Named text
 
 pub not_star : (only : List ℕ) → IsName only → bytes_eq only (codes "*") ≡ false
-not_star only named = by (bytes_eq only (codes "*")) refl
-  where
-    by : (b : Bool) → bytes_eq only (codes "*") ≡ b → b ≡ false
-    by true e = absurd (let star : is_name (codes "*") ≡ true = subst IsName ((bytes_eq-Decides only (codes "*")).0 e) named in true≢false (sym star))
-    by false e = refl
+not_star only named = false_from_ne_true (bytes_eq only (codes "*")) (λ e. let star : is_name (codes "*") ≡ true = subst IsName ((bytes_eq-Decides only (codes "*")).0 e) named in true≢false (sym star))
 
 pattern_told : (pattern : Pattern) → IsNamed pattern → pattern_of (pattern_text pattern) ≡ pattern
 pattern_told patterns.Any named = refl
@@ -275,16 +223,7 @@ action_pattern_of text = if bytes_eq text (codes "*") then action_patterns.Any e
 
 action_told : (action : Action) → action_pattern_of (action_text action) ≡ action_patterns.Only action
 action_told acts.Class = refl
-action_told acts.Collection = refl
-action_told acts.Deposit = refl
-action_told acts.List = refl
-action_told acts.Record = refl
-action_told acts.Holds = refl
-action_told acts.Download = refl
-action_told acts.Audit = refl
-action_told acts.Hold = refl
-action_told acts.Release = refl
-action_told acts.Dispose = refl
+action_told _ = refl
 
 action_pattern_told : (pattern : ActionPattern) → action_pattern_of (action_pattern_text pattern) ≡ pattern
 action_pattern_told action_patterns.Any = refl
@@ -305,14 +244,13 @@ one_rule place x y named_x named_y e =
 -- and so are the rules
 same_rules : (place : ℕ) (xs ys : List Rule) → AllByRecursion HasNames xs → AllByRecursion HasNames ys → rule_rows place xs ≡ rule_rows place ys → xs ≡ ys
 same_rules place [] [] named_xs named_ys e = refl
-same_rules place [] (y ∷ ys) named_xs named_ys e = absurd cc
-same_rules place (x ∷ xs) [] named_xs named_ys e = absurd cc
 same_rules place (x ∷ xs) (y ∷ ys) named_xs named_ys e =
     let one : rule_row place x ≡ rule_row place y = cc in
     let more : rule_rows (place + 1) xs ≡ rule_rows (place + 1) ys = cc in
     let first : x ≡ y = one_rule place x y named_xs.0 named_ys.0 one in
     let rest : xs ≡ ys = same_rules (place + 1) xs ys named_xs.1 named_ys.1 more in
     λ i. first i ∷ rest i
+same_rules place _ _ named_xs named_ys e = absurd cc
 
 abbrev caller_of : CallerRow → Caller
 caller_of r = record { name = r.name; role = r.role }
@@ -348,27 +286,20 @@ skip years name other rest e (Some y) = ap (λ b. option_or (if b then Some (yea
 
 none_told : (years : List ℕ → Option (Option ℕ)) (name : List ℕ) (names : List (List ℕ)) → years name ≡ None → first_said (row_years name) (rows_by years names) ≡ None
 none_told years name [] none = refl
-none_told years name (other ∷ names) none = by (bytes_eq other name) refl (none_told years name names none)
-  where
-    by : (b : Bool) → bytes_eq other name ≡ b → first_said (row_years name) (rows_by years names) ≡ None → first_said (row_years name) (rows_by years (other ∷ names)) ≡ None
-    by true e rest =
-        ap (λ o. first_said (row_years name) (cons_option (option_map (class_row other) o) (rows_by years names))) (ap years ((bytes_eq-Decides other name).0 e) ∙ none)
-        ∙ rest
-    by false e rest = skip years name other (rows_by years names) e (years other) ∙ rest
+none_told years name (other ∷ names) none =
+    by_Bool (bytes_eq other name)
+    (λ e. ap (λ o. first_said (row_years name) (cons_option (option_map (class_row other) o) (rows_by years names))) (ap years ((bytes_eq-Decides other name).0 e) ∙ none) ∙ none_told years name names none)
+    (λ e. skip years name other (rows_by years names) e (years other) ∙ none_told years name names none)
 
 some_told : (years : List ℕ → Option (Option ℕ)) (name : List ℕ) (y : Option ℕ) (names : List (List ℕ)) → years name ≡ Some y → list_any (bytes_eq name) names ≡ true
     → first_said (row_years name) (rows_by years names) ≡ Some y
 some_told years name y [] is among = absurd (true≢false (sym among))
-some_told years name y (other ∷ names) is among = by (bytes_eq other name) refl (λ further. some_told years name y names is further)
-  where
-    by : (b : Bool) → bytes_eq other name ≡ b → (list_any (bytes_eq name) names ≡ true → first_said (row_years name) (rows_by years names) ≡ Some y)
-        → first_said (row_years name) (rows_by years (other ∷ names)) ≡ Some y
-    by true e rest =
-        ap (λ o. first_said (row_years name) (cons_option (option_map (class_row other) o) (rows_by years names))) (ap years ((bytes_eq-Decides other name).0 e) ∙ is)
-        ∙ (λ i. option_or (if e i then Some (years_told y i) else None) (first_said (row_years name) (rows_by years names)))
-    by false e rest =
-        skip years name other (rows_by years names) e (years other)
-        ∙ rest (sym (ap (λ b. b || list_any (bytes_eq name) names) (other_way name other e)) ∙ among)
+some_told years name y (other ∷ names) is among =
+    by_Bool (bytes_eq other name)
+    (λ e. ap (λ o. first_said (row_years name) (cons_option (option_map (class_row other) o) (rows_by years names))) (ap years ((bytes_eq-Decides other name).0 e) ∙ is)
+    ∙ (λ i. option_or (if e i then Some (years_told y i) else None) (first_said (row_years name) (rows_by years names))))
+    (λ e. skip years name other (rows_by years names) e (years other)
+    ∙ some_told years name y names is (sym (ap (λ b. b || list_any (bytes_eq name) names) (other_way name other e)) ∙ among))
 
 -- a class that has years is among those that were defined
 class_at : (name other : List ℕ) (years y : Option ℕ) (o : Option (Option ℕ)) (among : Bool) (b : Bool) → bytes_eq other name ≡ b → (o ≡ Some y → among ≡ true)
@@ -380,32 +311,20 @@ pub was_defined : (name : List ℕ) (y : Option ℕ) (changes : List Change) →
 was_defined name y [] e = absurd cc
 was_defined name y (DefinedClass day other years ∷ changes) e =
     class_at name other years y (last_said (years_in name) changes) (list_any (bytes_eq name) (filter_map class_in changes)) (bytes_eq other name) refl (was_defined name y changes) e
-was_defined name y (Installed policy ∷ changes) e = was_defined name y changes (sym (or_none _) ∙ e)
-was_defined name y (DefinedCollection day other ∷ changes) e = was_defined name y changes (sym (or_none _) ∙ e)
-was_defined name y (Deposited day deposit ∷ changes) e = was_defined name y changes (sym (or_none _) ∙ e)
-was_defined name y (PlacedHold day hold ∷ changes) e = was_defined name y changes (sym (or_none _) ∙ e)
-was_defined name y (ReleasedHold day j ∷ changes) e = was_defined name y changes (sym (or_none _) ∙ e)
-was_defined name y (Destroyed day n ∷ changes) e = was_defined name y changes (sym (or_none _) ∙ e)
+was_defined name y (_ ∷ changes) e = was_defined name y changes (sym (or_none _) ∙ e)
 
 pub years_read : (h : History) (name : List ℕ) → first_said (row_years name) (class_rows h) ≡ years_of h name
-years_read h name = by (years_of h name) refl
-  where
-    by : (o : Option (Option ℕ)) → years_of h name ≡ o → first_said (row_years name) (class_rows h) ≡ years_of h name
-    by None is = none_told (years_of h) name (in_first_places (filter_map class_in h.changes)) is ∙ sym is
-    by (Some y) is =
-        some_told (years_of h) name y (in_first_places (filter_map class_in h.changes)) is
-        (among_first_places name (filter_map class_in h.changes) ∙ was_defined name y h.changes is)
-        ∙ sym is
+years_read h name =
+    let texts = filter_map class_in h.changes in
+    by_Option (years_of h name) (λ none. none_told (years_of h) name (in_first_places texts) none ∙ sym none)
+    (λ y is. some_told (years_of h) name y (in_first_places texts) is (among_first_places name texts ∙ was_defined name y h.changes is) ∙ sym is)
 
 -- ---- the names of the classes
 
 pub all_distinct : (P : List ℕ → Type 0) (seen xs : List (List ℕ)) → AllByRecursion P xs → AllByRecursion P (distinct_after seen xs)
 all_distinct P seen [] a = tt
-all_distinct P seen (x ∷ xs) a = by (list_any (bytes_eq x) seen) (all_distinct P seen xs a.1) (all_distinct P (x ∷ seen) xs a.1)
-  where
-    by : (b : Bool) → AllByRecursion P (distinct_after seen xs) → AllByRecursion P (distinct_after (x ∷ seen) xs) → AllByRecursion P (cond b (distinct_after seen xs) (x ∷ distinct_after (x ∷ seen) xs))
-    by true within behind = within
-    by false within behind = (a.0, behind)
+all_distinct P seen (x ∷ xs) a =
+    by_Bool (list_any (bytes_eq x) seen) (λ before. rw before (all_distinct P seen xs a.1)) (λ new. rw new (a.0, all_distinct P (x ∷ seen) xs a.1))
 
 abbrev pub HasYears : List Change → List ℕ → Type 0
 HasYears changes name = is_some (last_said (years_in name) changes) ≡ true
@@ -424,21 +343,12 @@ all_have_years (c ∷ changes) = by c (all_weaker (HasYears changes) (HasYears (
       some_behind (last_said (years_in name) changes) (years_in name (DefinedClass day name years)) (ap (λ b. is_some (if b then Some years else None)) ((bytes_eq-Decides name name).1 refl)),
       rest,
     )
-    by (Installed policy) rest = rest
-    by (DefinedCollection day other) rest = rest
-    by (Deposited day deposit) rest = rest
-    by (PlacedHold day hold) rest = rest
-    by (ReleasedHold day j) rest = rest
-    by (Destroyed day n) rest = rest
+    by _ rest = rest
 
 names_told : (years : List ℕ → Option (Option ℕ)) (names : List (List ℕ)) → AllByRecursion (λ name. is_some (years name) ≡ true) names → map (λ (r : ClassRow). r.name) (rows_by years names) ≡ names
 names_told years [] a = refl
-names_told years (name ∷ names) a = by (years name) a.0 (names_told years names a.1)
-  where
-    by : (o : Option (Option ℕ)) → is_some o ≡ true → map (λ (r : ClassRow). r.name) (rows_by years names) ≡ names
-        → map (λ (r : ClassRow). r.name) (cons_option (option_map (class_row name) o) (rows_by years names)) ≡ name ∷ names
-    by None e rest = absurd (true≢false (sym e))
-    by (Some y) e rest = ap (λ ns. name ∷ ns) rest
+names_told years (name ∷ names) a =
+    by_Option (years name) (λ none. absurd (let some = rw none at a.0 in cc)) (λ y is. rw is (ap (λ ns. name ∷ ns) (names_told years names a.1)))
 
 pub names_read : (h : History) → map (λ (r : ClassRow). r.name) (class_rows h) ≡ in_first_places (filter_map class_in h.changes)
 names_read h = names_told (years_of h) (in_first_places (filter_map class_in h.changes)) (all_distinct (HasYears h.changes) [] (filter_map class_in h.changes) (all_have_years h.changes))

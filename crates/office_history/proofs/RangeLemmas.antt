@@ -1,27 +1,6 @@
 -- Each legal history: its limits hold, what is named is there, and its rows are in range.
-use Rattle.std.proofs.Common.{◌≡◌, ◌<◌, ◌≤◌, ◌≤ℤ◌, ℕ, true, List, [], ◌∷◌, ◌++◌, length, length-append, Option, Some, None, IsSome, is_some, refl, sym, ap, subst, ◌∙◌, arith}
-use Rattle.std.specs.Prelude.{bytes_eq}
-use Rattle.std.specs.List.{AllByRecursion, filter_map, list_any}
-use Rattle.std.specs.Option.{option_or}
-use Rattle.std.proofs.lemmas.List.Elements.{filter_map-append}
+use Rattle.office_history.proofs.FirstLemmas.{◌≡◌, ◌<◌, ◌≤◌, ◌≤ℤ◌, ℕ, true, List, [], ◌∷◌, ◌++◌, length, length-append, Option, Some, None, is_some, refl, ap, subst, ◌∙◌, arith, bytes_eq, AllByRecursion, filter_map, list_any, option_or, filter_map-append, or_left, same_Some, cond_some, bytes_eq-Decides, Date, epoch_day, IsDay, IsDescription, IsName, IsYears, first_said, last_said, History, Change, DefinedClass, DefinedCollection, Deposited, PlacedHold, ReleasedHold, Destroyed, Target, OnDeposit, OnCollection, OnClass, Deposit, Hold, with_changes, years_in, years_of, has_class, collection_in, has_collection, deposit_in, deposits, deposit_numbered, destroyed_in, destruction_day, hold_in, holds, released_in, release_day, IsChange, IsHold, IsThere, IsLegal, IsWithin, all_append, all_weaker, deposit_stays, all_said, some_behind, last_said-append, legal_by, deposits_by, holds_by, by_Option}
 use Rattle.std.proofs.lemmas.List.Folds.{list_any-append}
-use Rattle.std.proofs.lemmas.Bool.{or_left}
-use Rattle.std.proofs.lemmas.Option.{same_Some, cond_some}
-use Rattle.std.proofs.lemmas.Slice.Eq.{bytes_eq-Decides}
-use Rattle.jiff.specs.Types.{Date}
-use Rattle.jiff.specs.Words.{epoch_day}
-use Rattle.office_core.specs.Days.{IsDay}
-use Rattle.office_core.specs.Names.{IsName}
-use Rattle.office_core.specs.Requests.{IsYears}
-use Rattle.office_history.specs.Lists.{first_said, last_said}
-use Rattle.office_history.specs.Histories.{History, Change, Installed, DefinedClass, DefinedCollection, Deposited, PlacedHold, ReleasedHold, Destroyed, Target, OnDeposit, OnCollection, OnClass, Deposit, Hold, with_changes, years_in, years_of, has_class, collection_in, has_collection, deposit_in, deposits, deposit_numbered, destroyed_in, destruction_day, hold_in, holds, released_in, release_day}
-use Rattle.office_history.specs.Acceptance.{IsChange, IsDeposit, IsHold, IsThere}
-use Rattle.office_history.specs.Runs.{IsLegal, IsWithin}
-use Rattle.office_rows.proofs.Order.{all_append, all_weaker}
-use Rattle.office_history.proofs.HistoryLemmas.{deposit_stays}
-use Rattle.office_history.proofs.ListLemmas.{all_said}
-use Rattle.office_history.proofs.Alike.{some_behind, last_said-append}
-use Rattle.office_history.proofs.Accepted.{IsAccepted, legal_by, deposits_by, holds_by}
 
 -- ---- the limits
 
@@ -43,7 +22,7 @@ limits_hold h legal =
 -- ---- the day of a deposit
 
 abbrev pub WasClosed : Date × Deposit → Type 0
-WasClosed found = epoch_day found.1.closed ≤ℤ epoch_day found.0
+WasClosed found = epoch_day found.1.description.closed ≤ℤ epoch_day found.0
 
 pub closed_deposits : (h : History) → IsLegal h → AllByRecursion WasClosed (deposits h)
 closed_deposits h legal =
@@ -76,66 +55,36 @@ last_ranged says P so (c ∷ cs) all b e = either P (last_said says cs) (says c)
 
 gone_day : (n : ℕ) → Says (destroyed_in n) IsDay
 gone_day n (Destroyed day m) ranged b e = subst IsDay (cond_some _ day b e).1 ranged
-gone_day n (Installed policy) ranged b e = absurd cc
-gone_day n (DefinedClass day name years) ranged b e = absurd cc
-gone_day n (DefinedCollection day name) ranged b e = absurd cc
-gone_day n (Deposited day deposit) ranged b e = absurd cc
-gone_day n (PlacedHold day hold) ranged b e = absurd cc
-gone_day n (ReleasedHold day k) ranged b e = absurd cc
+gone_day n _ ranged b e = absurd cc
 
 released_day : (k : ℕ) → Says (released_in k) IsDay
 released_day k (ReleasedHold day j) ranged b e = subst IsDay (cond_some _ day b e).1 ranged
-released_day k (Installed policy) ranged b e = absurd cc
-released_day k (DefinedClass day name years) ranged b e = absurd cc
-released_day k (DefinedCollection day name) ranged b e = absurd cc
-released_day k (Deposited day deposit) ranged b e = absurd cc
-released_day k (PlacedHold day hold) ranged b e = absurd cc
-released_day k (Destroyed day n) ranged b e = absurd cc
+released_day k _ ranged b e = absurd cc
 
 -- the years of a class that is there, and its name
 class_years : (name : List ℕ) → Says (years_in name) (λ years. IsName name × IsYears years)
 class_years name (DefinedClass day class years) ranged b e =
     let found = cond_some (bytes_eq class name) years b e in
     (subst IsName ((bytes_eq-Decides class name).0 found.0) ranged.1, subst IsYears found.1 ranged.2)
-class_years name (Installed policy) ranged b e = absurd cc
-class_years name (DefinedCollection day other) ranged b e = absurd cc
-class_years name (Deposited day deposit) ranged b e = absurd cc
-class_years name (PlacedHold day hold) ranged b e = absurd cc
-class_years name (ReleasedHold day k) ranged b e = absurd cc
-class_years name (Destroyed day n) ranged b e = absurd cc
+class_years name _ ranged b e = absurd cc
 
 collection_name : Says collection_in IsName
 collection_name (DefinedCollection day name) ranged b e = subst IsName (same_Some _ _ e) ranged.1
-collection_name (Installed policy) ranged b e = absurd cc
-collection_name (DefinedClass day name years) ranged b e = absurd cc
-collection_name (Deposited day deposit) ranged b e = absurd cc
-collection_name (PlacedHold day hold) ranged b e = absurd cc
-collection_name (ReleasedHold day k) ranged b e = absurd cc
-collection_name (Destroyed day n) ranged b e = absurd cc
+collection_name _ ranged b e = absurd cc
 
 abbrev pub IsDeposited : Date × Deposit → Type 0
-IsDeposited found = IsDay found.0 × IsDeposit found.1
+IsDeposited found = IsDay found.0 × IsDescription found.1.description
 
 deposited_so : Says deposit_in IsDeposited
 deposited_so (Deposited day deposit) ranged b e = subst IsDeposited (same_Some _ _ e) ranged
-deposited_so (Installed policy) ranged b e = absurd cc
-deposited_so (DefinedClass day name years) ranged b e = absurd cc
-deposited_so (DefinedCollection day name) ranged b e = absurd cc
-deposited_so (PlacedHold day hold) ranged b e = absurd cc
-deposited_so (ReleasedHold day k) ranged b e = absurd cc
-deposited_so (Destroyed day n) ranged b e = absurd cc
+deposited_so _ ranged b e = absurd cc
 
 abbrev pub IsPlaced : Date × Hold → Type 0
 IsPlaced found = IsDay found.0 × IsHold found.1
 
 placed_so : Says hold_in IsPlaced
 placed_so (PlacedHold day hold) ranged b e = subst IsPlaced (same_Some _ _ e) ranged
-placed_so (Installed policy) ranged b e = absurd cc
-placed_so (DefinedClass day name years) ranged b e = absurd cc
-placed_so (DefinedCollection day name) ranged b e = absurd cc
-placed_so (Deposited day deposit) ranged b e = absurd cc
-placed_so (ReleasedHold day k) ranged b e = absurd cc
-placed_so (Destroyed day n) ranged b e = absurd cc
+placed_so _ ranged b e = absurd cc
 
 pub gone_days : (h : History) → IsLegal h → (n : ℕ) (day : Date) → destruction_day h n ≡ Some day → IsDay day
 gone_days h legal n = first_ranged (destroyed_in n) IsDay (gone_day n) h.changes (ranged_changes h legal)
@@ -169,37 +118,30 @@ collection_stays h more name e =
 there_stays : (h : History) (more : List Change) (target : Target) → IsThere h target → IsThere (with_changes h more) target
 there_stays h more (OnCollection name) e = collection_stays h more name e
 there_stays h more (OnClass name) e = class_stays h more name e
-there_stays h more (OnDeposit n) e = by (deposit_numbered h n) refl e
-  where
-    by : (o : Option (Date × Deposit)) → deposit_numbered h n ≡ o → IsSome o → IsSome (deposit_numbered (with_changes h more) n)
-    by None is e = absurd cc
-    by (Some found) is e = subst (λ (o : Option (Date × Deposit)). IsSome o) (sym (deposit_stays h more n found is)) e
+there_stays h more (OnDeposit n) e =
+    by_Option (deposit_numbered h n) (λ none. absurd (let some = rw none at e in cc)) (λ found is. rw (deposit_stays h more n found is) refl)
 
 abbrev pub HasPlace : History → Date × Deposit → Type 0
-HasPlace h found = (has_collection h found.1.collection ≡ true) × (has_class h found.1.class ≡ true)
+HasPlace h found = (has_collection h found.1.description.collection ≡ true) × (has_class h found.1.description.class ≡ true)
 
 place_stays : (h : History) (more : List Change) (found : Date × Deposit) → HasPlace h found → HasPlace (with_changes h more) found
-place_stays h more found e = (collection_stays h more found.1.collection e.0, class_stays h more found.1.class e.1)
+place_stays h more found e = (collection_stays h more found.1.description.collection e.0, class_stays h more found.1.description.class e.1)
 
 pub placed_deposits : (h : History) → IsLegal h → AllByRecursion (HasPlace h) (deposits h)
-placed_deposits h legal = legal_by (λ x. AllByRecursion (HasPlace x) (deposits x)) (λ a b a_in b_in. tt) more h legal
-  where
-    more : (x : History) (c : Change) → IsLegal x → IsAccepted x c → AllByRecursion (HasPlace x) (deposits x) → AllByRecursion (HasPlace (with_changes x (c ∷ []))) (deposits (with_changes x (c ∷ [])))
-    more x c was ok all =
-        let still = all_weaker (HasPlace x) (HasPlace (with_changes x (c ∷ []))) (place_stays x (c ∷ [])) (deposits x) all in
-        deposits_by (AllByRecursion (HasPlace (with_changes x (c ∷ [])))) x c ok still
-        (λ day deposit ranged allowed. all_append (HasPlace (with_changes x (c ∷ []))) (deposits x) ((day, deposit) ∷ []) still
-        (place_stays x (c ∷ []) (day, deposit) (allowed.collection, allowed.class), tt))
+placed_deposits h legal =
+    legal_by (λ x. AllByRecursion (HasPlace x) (deposits x)) (λ a b a_in b_in. tt) (λ x c was ok all.
+    let still = all_weaker (HasPlace x) (HasPlace (with_changes x (c ∷ []))) (place_stays x (c ∷ [])) (deposits x) all in
+    deposits_by (AllByRecursion (HasPlace (with_changes x (c ∷ [])))) x c ok still
+    (λ day deposit ranged allowed. all_append (HasPlace (with_changes x (c ∷ []))) (deposits x) ((day, deposit) ∷ []) still
+    (place_stays x (c ∷ []) (day, deposit) (allowed.collection, allowed.class), tt))) h legal
 
 abbrev pub HasTarget : History → Date × Hold → Type 0
 HasTarget h found = IsThere h found.1.target
 
 pub placed_holds : (h : History) → IsLegal h → AllByRecursion (HasTarget h) (holds h)
-placed_holds h legal = legal_by (λ x. AllByRecursion (HasTarget x) (holds x)) (λ a b a_in b_in. tt) more h legal
-  where
-    more : (x : History) (c : Change) → IsLegal x → IsAccepted x c → AllByRecursion (HasTarget x) (holds x) → AllByRecursion (HasTarget (with_changes x (c ∷ []))) (holds (with_changes x (c ∷ [])))
-    more x c was ok all =
-        let still = all_weaker (HasTarget x) (HasTarget (with_changes x (c ∷ []))) (λ found there. there_stays x (c ∷ []) found.1.target there) (holds x) all in
-        holds_by (AllByRecursion (HasTarget (with_changes x (c ∷ [])))) x c ok still
-        (λ day hold ranged allowed. all_append (HasTarget (with_changes x (c ∷ []))) (holds x) ((day, hold) ∷ []) still
-        (there_stays x (c ∷ []) hold.target allowed.there, tt))
+placed_holds h legal =
+    legal_by (λ x. AllByRecursion (HasTarget x) (holds x)) (λ a b a_in b_in. tt) (λ x c was ok all.
+    let still = all_weaker (HasTarget x) (HasTarget (with_changes x (c ∷ []))) (λ found there. there_stays x (c ∷ []) found.1.target there) (holds x) all in
+    holds_by (AllByRecursion (HasTarget (with_changes x (c ∷ [])))) x c ok still
+    (λ day hold ranged allowed. all_append (HasTarget (with_changes x (c ∷ []))) (holds x) ((day, hold) ∷ []) still
+    (there_stays x (c ∷ []) hold.target allowed.there, tt))) h legal

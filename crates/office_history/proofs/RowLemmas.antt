@@ -1,53 +1,16 @@
 -- The rows of a legal history are in range.
-use Rattle.std.proofs.Common.{◌≡◌, ◌≤◌, ◌<ℤ◌, ◌&&◌, ℕ, zero, suc, ◌+◌, ℤ, pos, Bool, true, false, List, [], ◌∷◌, length, map, filter, Option, Some, None, IfSome, IsSome, is_none, is_some, option_map, refl, sym, ap, subst, ◌∙◌, inl, inr, ◌⊎◌, arith, cond}
-use Rattle.std.specs.Prelude.{⊤, Contains, bytes_eq, neg_ℤ}
-use Rattle.std.specs.List.{AllByRecursion, filter_map, flat_map, list_any, range_with_len, cons_option}
-use Rattle.std.specs.Option.{option_map_or}
-use Rattle.std.proofs.lemmas.List.{length-map}
+use Rattle.office_history.proofs.FirstLemmas.{◌≡◌, ◌≤◌, ◌<ℤ◌, ◌&&◌, ℕ, zero, suc, ◌+◌, ℤ, pos, Bool, true, List, [], ◌∷◌, length, map, filter, Option, Some, None, IfSome, is_none, is_some, option_map, refl, sym, ap, subst, ◌∙◌, inl, inr, ◌⊎◌, arith, ⊤, Contains, bytes_eq, neg_ℤ, AllByRecursion, filter_map, flat_map, list_any, range_with_len, cons_option, length-map, bytes_eq-Decides, epoch_day-lt, epoch_day_range, signed_arith, Date, epoch_day, IsBetween, File, Fits, Has, has_contains, any_has, day_number, first_year, last_year, IsDay, IsDayNumber, IsYearsAfter, IsName, IsYears, due_number, due_of, Due, On, Never, IsNamed, HasNames, HasDays, IsNamedCaller, Caller, ActionPattern, Effect, Allow, Deny, Pattern, Rule, RuleRow, ClassRow, DepositRow, DueRow, HoldRow, item_numbered, numbers, in_first_places, History, Target, OnDeposit, OnCollection, OnClass, Deposit, policy, years_of, has_class, collection_in, has_collection, deposits, deposit_numbered, destruction_day, due, holds, hold_numbered, release_day, is_live, covers, live_holds, IsThere, office_row, effect_number, pattern_text, action_pattern_text, caller_row, rule_rows, years_number, class_row, class_in, row_of_class, class_rows, collection_rows, deposit_row, deposit_rows, row_of_deposit, due_row, row_of_due, file_row, held_deposit, held_collection, held_class, hold_row, row_of_hold, picture, IsLegal, files_of, all_numbered, all_said, each, all_append, first_places_have, is_nothing, option_map_some, by_Bool, by_Option}
 use Rattle.std.proofs.lemmas.List.FromFn.{length-range_with_len}
 use Rattle.std.proofs.lemmas.List.Sums.{length-filter, count_by-le-length}
-use Rattle.std.proofs.lemmas.Slice.Eq.{bytes_eq-Decides}
-use Rattle.jiff_core.proofs.DateLemmas.{epoch_day-lt, epoch_day_range}
-use Rattle.jiff_core.proofs.SignedLemmas.{signed_arith}
-use Rattle.jiff.specs.Types.{Date}
-use Rattle.jiff.specs.Words.{epoch_day, IsBetween}
-use Rattle.bag_text.specs.TransferForm.{File, Fits}
 use Rattle.bag_check.proofs.CodeLemmas.{few_payload, small_payload}
-use Rattle.bag_text.proofs.ElementLemmas.{Has, has_contains, any_has}
-use Rattle.office_core.proofs.DayLemmas.{day_number}
 use Rattle.office_core.proofs.DueLemmas.{is_due_of}
 use Rattle.office_core.specs.Bounds.{max_years}
-use Rattle.office_core.specs.Days.{first_year, last_year, IsDay, IsDayNumber, IsYearsAfter}
-use Rattle.office_core.specs.Names.{IsName}
-use Rattle.office_core.specs.Requests.{IsYears}
-use Rattle.office_core.specs.Retention.{IsDue, IsDueNumber, due_number}
-use Rattle.office_core.specs.RetentionReading.{due_of}
-use Rattle.office_core.specs.declared.retention.Due.{Due}
-use Rattle.office_core.specs.declared.retention.Due.TheVariants.{On, Never}
-use Rattle.office_core.specs.Policies.{IsNamed, HasNames, HasDays, IsNamedCaller}
-use Rattle.office_core.specs.declared.caller.Caller.{Caller}
-use Rattle.office_core.specs.declared.rule.ActionPattern.{ActionPattern}
+use Rattle.office_core.specs.Retention.{IsDue, IsDueNumber}
 use Rattle.office_core.specs.declared.rule.ActionPattern.TheVariants as action_patterns
-use Rattle.office_core.specs.declared.rule.Effect.{Effect}
-use Rattle.office_core.specs.declared.rule.Effect.TheVariants.{Allow, Deny}
-use Rattle.office_core.specs.declared.rule.Pattern.{Pattern}
 use Rattle.office_core.specs.declared.rule.Pattern.TheVariants as patterns
-use Rattle.office_core.specs.declared.rule.Rule.{Rule}
-use Rattle.office_rows.specs.Rows.{RuleRow, ClassRow, DepositRow, DueRow, HoldRow}
-use Rattle.office_history.specs.Lists.{item_numbered, numbers, in_first_places}
-use Rattle.office_history.specs.Histories.{History, Target, OnDeposit, OnCollection, OnClass, Deposit, policy, years_of, has_class, collection_in, has_collection, deposits, deposit_numbered, destruction_day, due, holds, hold_numbered, release_day, is_live, covers, live_holds}
-use Rattle.office_history.specs.Acceptance.{IsThere}
-use Rattle.office_history.specs.Pictures.{office_row, effect_number, pattern_text, action_pattern_text, caller_row, rule_rows, years_number, class_row, class_in, row_of_class, class_rows, collection_rows, deposit_row, deposit_rows, row_of_deposit, due_row, row_of_due, file_row, held_deposit, held_collection, held_class, hold_row, row_of_hold, picture}
 use Rattle.office_history.specs.RowRanges.{AreNumbered, IsPatternText, IsActionText, IsOneTarget, IsCallerRow, IsRuleRow, IsClassRow, IsDepositRow, IsDueRow, IsFileRow, IsHoldRow, AreInRange}
-use Rattle.office_history.specs.Runs.{IsLegal}
-use Rattle.office_history.specs.Stocks.{files_of}
-use Rattle.office_history.proofs.ListLemmas.{all_numbered, all_said, each}
-use Rattle.office_rows.proofs.Order.{all_append}
 use Rattle.office_history.proofs.LegalLemmas.{Reads, Judges, HasSoundBag, sound_deposits}
 use Rattle.office_history.proofs.LegalReadings.{legal_policy}
-use Rattle.office_history.proofs.MemberLemmas.{first_places_have}
-use Rattle.bag_text.proofs.ResultLemmas.{is_nothing}
-use Rattle.office_core.proofs.OptionLemmas.{option_map_some}
 use Rattle.office_history.proofs.Pictured.{there_is, told_at, was_defined, all_distinct, names_read}
 use Rattle.office_history.proofs.RangeLemmas.{limits_hold, WasClosed, closed_deposits, gone_days, released_days, named_classes, named_collections, IsDeposited, ranged_deposits, IsPlaced, ranged_holds, HasPlace, placed_deposits, HasTarget, placed_holds}
 
@@ -74,11 +37,7 @@ numbered_rows {A = A} {R = R} xs tell number is (suc len) start low high =
 
 few_told : {A R : Type 0} (tell : A → Option R) (xs : List A) → length (filter_map tell xs) ≤ length xs
 few_told tell [] = omega arith
-few_told {A = A} {R = R} tell (x ∷ xs) = by (tell x) (few_told tell xs)
-  where
-    by : (o : Option R) → length (filter_map tell xs) ≤ length xs → length (cons_option o (filter_map tell xs)) ≤ suc (length xs)
-    by None rest = omega (arith, rest)
-    by (Some row) rest = omega (arith, rest)
+few_told tell (x ∷ xs) = by_Option (tell x) (λ none. rw none (omega (arith, few_told tell xs))) (λ row is. rw is (omega (arith, few_told tell xs)))
 
 -- ---- what rows speak of
 
@@ -96,11 +55,9 @@ collection_there : (h : History) (name : List ℕ) → has_collection h name ≡
 collection_there h name e = text_there name (filter_map collection_in h.changes) e
 
 class_there : (h : History) (name : List ℕ) → has_class h name ≡ true → Contains (map (λ (row : ClassRow). row.name) (class_rows h)) name
-class_there h name e = subst (λ (names : List (List ℕ)). Contains names name) (sym (names_read h)) (text_there name (filter_map class_in h.changes) (by (years_of h name) refl e))
-  where
-    by : (o : Option (Option ℕ)) → years_of h name ≡ o → is_some o ≡ true → list_any (bytes_eq name) (filter_map class_in h.changes) ≡ true
-    by None is e = absurd cc
-    by (Some years) is e = was_defined name years h.changes is
+class_there h name e =
+    subst (λ (names : List (List ℕ)). Contains names name) (sym (names_read h)) (text_there name (filter_map class_in h.changes)
+    (by_Option (years_of h name) (λ none. absurd (let some = rw none at e in cc)) (λ years is. was_defined name years h.changes is)))
 
 -- ---- callers and rules
 
@@ -171,9 +128,9 @@ deposit_ranged reads judges h version legal n row e =
     let bag = (all_numbered HasSoundBag (deposits h) n found (sound_deposits reads judges h legal) there).bag in
     subst (IsDepositRow (picture version h)) same (record {
       accession = made.1.accession;
-      collection = collection_there h found.1.collection place.0;
-      class = class_there h found.1.class place.1;
-      closed = day_number found.1.closed made.1.closed;
+      collection = collection_there h found.1.description.collection place.0;
+      class = class_there h found.1.description.class place.1;
+      closed = day_number found.1.description.closed made.1.closed;
       deposited = day_number found.0 made.0;
       in_turn = closed;
       files = (omega (arith, signed_arith), omega (arith, signed_arith, bag.few, few_payload found.1.bag));
@@ -182,11 +139,8 @@ deposit_ranged reads judges h version legal n row e =
     }))
 
 bag_ranged : Reads → Judges → (h : History) → IsLegal h → (n : ℕ) → AllByRecursion Fits (files_of h n)
-bag_ranged reads judges h legal n = by (deposit_numbered h n) refl
-  where
-    by : (o : Option (Date × Deposit)) → deposit_numbered h n ≡ o → AllByRecursion Fits (option_map_or (λ found. found.1.bag) o [])
-    by None e = tt
-    by (Some found) e = (all_numbered HasSoundBag (deposits h) n found (sound_deposits reads judges h legal) e).bag.each
+bag_ranged reads judges h legal n =
+    by_Option (deposit_numbered h n) (λ none. rw none tt) (λ found there. rw there ((all_numbered HasSoundBag (deposits h) n found (sound_deposits reads judges h legal) there).bag.each))
 
 files_ranged : (h : History) (version : ℤ) (n : ℕ) (found : Date × Deposit) → deposit_numbered h n ≡ Some found → destruction_day h n ≡ None
     → (files : List File) → AllByRecursion Fits files → AllByRecursion (IsFileRow (picture version h)) (map (file_row n) files)
@@ -205,21 +159,15 @@ files_ranged h version n found is stays (file ∷ files) all = (
 
 -- the files of a deposit that was not destroyed
 kept_ranged : Reads → Judges → (h : History) (version : ℤ) → IsLegal h → (n : ℕ) → destruction_day h n ≡ None → AllByRecursion (IsFileRow (picture version h)) (map (file_row n) (files_of h n))
-kept_ranged reads judges h version legal n stays = by (deposit_numbered h n) refl (bag_ranged reads judges h legal n)
-  where
-    by : (o : Option (Date × Deposit)) → deposit_numbered h n ≡ o → AllByRecursion Fits (option_map_or (λ found. found.1.bag) o [])
-        → AllByRecursion (IsFileRow (picture version h)) (map (file_row n) (option_map_or (λ found. found.1.bag) o []))
-    by None is all = tt
-    by (Some found) is all = files_ranged h version n found is stays found.1.bag all
+kept_ranged reads judges h version legal n stays =
+    by_Option (deposit_numbered h n) (λ none. rw none tt)
+    (λ found there. rw there (files_ranged h version n found there stays found.1.bag (rw there at (bag_ranged reads judges h legal n))))
 
 -- what is so of the rows of each number that passes is so of all of them
 passing_rows : {R : Type 0} (P : R → Type 0) (p : ℕ → Bool) (rows : ℕ → List R) → ((n : ℕ) → p n ≡ true → AllByRecursion P (rows n)) → (ns : List ℕ) → AllByRecursion P (flat_map rows (filter p ns))
 passing_rows P p rows so [] = tt
-passing_rows P p rows so (n ∷ ns) = by (p n) refl (passing_rows P p rows so ns)
-  where
-    by : (b : Bool) → p n ≡ b → AllByRecursion P (flat_map rows (filter p ns)) → AllByRecursion P (flat_map rows (cond b (n ∷ filter p ns) (filter p ns)))
-    by true is rest = all_append P (rows n) (flat_map rows (filter p ns)) (so n is) rest
-    by false is rest = rest
+passing_rows P p rows so (n ∷ ns) =
+    by_Bool (p n) (λ is. rw is (all_append P (rows n) (flat_map rows (filter p ns)) (so n is) (passing_rows P p rows so ns))) (λ fails. rw fails (passing_rows P p rows so ns))
 
 -- ---- what is kept of deposits
 
@@ -237,15 +185,14 @@ due_ranged closing (Some years) (On date) in_day is = after_ranged closing date 
 due_ranged closing None (On date) in_day is = absurd is
 due_ranged closing years Never in_day is = tt
 
-class_due_ranged : (h : History) → IsLegal h → (deposit : Deposit) → IsDay deposit.closed → IfSome (due_number (due h deposit)) IsDueNumber
-class_due_ranged h legal deposit in_day = by (years_of h deposit.class) refl
-  where
-    by : (o : Option (Option ℕ)) → years_of h deposit.class ≡ o → IfSome (due_number (option_map_or (due_of deposit.closed) o Never)) IsDueNumber
-    by None e = tt
-    by (Some years) e = due_ranged deposit.closed years (due_of deposit.closed years) in_day (is_due_of deposit.closed years in_day (named_classes h legal deposit.class years e).1)
+class_due_ranged : (h : History) → IsLegal h → (deposit : Deposit) → IsDay deposit.description.closed → IfSome (due_number (due h deposit)) IsDueNumber
+class_due_ranged h legal deposit in_day =
+    let d = deposit.description in
+    by_Option (years_of h d.class) (λ none. rw none tt)
+    (λ years e. rw e (due_ranged d.closed years (due_of d.closed years) in_day (is_due_of d.closed years in_day (named_classes h legal d.class years e).1)))
 
 -- no more live holds than were accepted
-few_live : (h : History) (n : ℕ) (deposit : Deposit) → length (live_holds h n deposit) ≤ length (holds h)
+pub few_live : (h : History) (n : ℕ) (deposit : Deposit) → length (live_holds h n deposit) ≤ length (holds h)
 few_live h n deposit =
     let all = numbers (length (holds h)) in
     let live : ℕ → Bool = λ k. is_live h k && covers h k n deposit in
@@ -263,11 +210,8 @@ due_row_ranged h version legal n row e =
 -- ---- holds
 
 target_ranged : (h : History) (version : ℤ) (target : Target) → IsThere h target → IsOneTarget (picture version h) (held_deposit target) (held_collection target) (held_class target)
-target_ranged h version (OnDeposit n) there = by (deposit_numbered h n) refl there
-  where
-    by : (o : Option (Date × Deposit)) → deposit_numbered h n ≡ o → IsSome o → (m : ℕ) × (pos n ≡ pos m) × IsSome (item_numbered (deposit_rows h) m)
-    by None is there = absurd cc
-    by (Some found) is there = (n, refl, ap is_some (row_there h n found is))
+target_ranged h version (OnDeposit n) there =
+    by_Option (deposit_numbered h n) (λ none. absurd (let some = rw none at there in cc)) (λ found is. (n, refl, ap is_some (row_there h n found is)))
 target_ranged h version (OnCollection name) there = collection_there h name there
 target_ranged h version (OnClass name) there = class_there h name there
 

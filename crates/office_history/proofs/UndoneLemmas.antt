@@ -1,18 +1,5 @@
 -- What is undone leaves what is kept of deposits: a hold that is released, and years of a class that are given back.
-use Rattle.std.proofs.Common.{◌≡◌, ℕ, zero, suc, ◌+◌, ◌<◌, ◌==◌, ◌&&◌, pos, Bool, true, false, List, [], ◌∷◌, ◌++◌, filter, length, Option, Some, None, option_map, is_none, bytes_eq, refl, sym, ap, subst, ◌∙◌, append-nil, length-append, arith, cond, if◌then◌else◌}
-use Rattle.std.specs.List.{filter_map, range_with_len}
-use Rattle.std.specs.Option.{option_or, option_map_or}
-use Rattle.std.proofs.lemmas.Bool.Decides.{nat_tests}
-use Rattle.std.proofs.lemmas.Slice.Eq.{bytes_eq-Decides}
-use Rattle.jiff.specs.Types.{Date}
-use Rattle.office_core.specs.RetentionReading.{due_of}
-use Rattle.office_core.specs.declared.retention.Due.TheVariants.{Never}
-use Rattle.office_history.specs.Lists.{item_numbered, numbers}
-use Rattle.office_history.specs.Histories.{History, Change, DefinedClass, PlacedHold, ReleasedHold, Deposit, Hold, with_changes, years_in, years_of, deposits, due, holds, release_day, reaches, live_holds}
-use Rattle.office_history.specs.Pictures.{due_number, due_rows}
-use Rattle.office_history.proofs.HistoryLemmas.{deposits_grown, holds_grown}
-use Rattle.office_history.proofs.ListLemmas.{numbered_front}
-use Rattle.office_history.proofs.Alike.{or_none, last_said-append, released_grown}
+use Rattle.office_history.proofs.FirstLemmas.{◌≡◌, ℕ, zero, suc, ◌+◌, ◌<◌, ◌==◌, ◌&&◌, pos, Bool, true, false, List, [], ◌∷◌, ◌++◌, filter, length, Option, Some, None, option_map, is_none, bytes_eq, refl, sym, ap, subst, ◌∙◌, append-nil, length-append, arith, cond, if◌then◌else◌, filter_map, range_with_len, option_or, option_map_or, nat_tests, bytes_eq-Decides, Date, due_of, Never, item_numbered, numbers, History, Change, DefinedClass, PlacedHold, ReleasedHold, Deposit, Hold, with_changes, years_in, years_of, deposits, due, holds, release_day, reaches, live_holds, due_number, due_rows, deposits_grown, holds_grown, numbered_front, or_none, last_said-append, released_grown, by_Bool}
 use Rattle.office_history.proofs.Pictured.{there_is}
 
 -- deposits with the same due days and the same live holds have the same rows
@@ -86,7 +73,7 @@ module _ (h : History) (day later : Date) (hold : Hold) where
   pub rows_undone : due_rows (with_changes h undone) ≡ due_rows h
   rows_undone =
       rows_stay h (with_changes h undone) (deposits_grown h undone ∙ append-nil (deposits h))
-      (λ deposit. ap (λ o. option_map_or (due_of deposit.closed) o Never) (last_said-append (years_in deposit.class) h.changes undone))
+      (λ deposit. ap (λ o. option_map_or (due_of deposit.description.closed) o Never) (last_said-append (years_in deposit.description.class) h.changes undone))
       holds_undone
 
 -- ---- a class gets other years, and its old ones back
@@ -96,14 +83,12 @@ module _ (h : History) (day later : Date) (name : List ℕ) (other years : Optio
   given_back = DefinedClass day name other ∷ DefinedClass later name years ∷ []
 
   years_back : (class : List ℕ) → years_of (with_changes h given_back) class ≡ years_of h class
-  years_back class = last_said-append (years_in class) h.changes given_back ∙ by (bytes_eq name class) refl
-    where
-      by : (b : Bool) → bytes_eq name class ≡ b → option_or (option_or (option_or None (if b then Some years else None)) (if b then Some other else None)) (years_of h class) ≡ years_of h class
-      by true e = sym were ∙ ap (years_of h) ((bytes_eq-Decides name class).0 e)
-      by false e = refl
+  years_back class =
+      last_said-append (years_in class) h.changes given_back
+      ∙ by_Bool (bytes_eq name class) (λ same. rw same (sym were ∙ ap (years_of h) ((bytes_eq-Decides name class).0 same))) (λ other. rw other refl)
 
   pub days_back : (deposit : Deposit) → due (with_changes h given_back) deposit ≡ due h deposit
-  days_back deposit = ap (λ o. option_map_or (due_of deposit.closed) o Never) (years_back deposit.class)
+  days_back deposit = ap (λ o. option_map_or (due_of deposit.description.closed) o Never) (years_back deposit.description.class)
 
   pub rows_back : due_rows (with_changes h given_back) ≡ due_rows h
   rows_back = rows_stay h (with_changes h given_back) (deposits_grown h given_back ∙ append-nil (deposits h)) days_back (λ n deposit i.

@@ -3,7 +3,8 @@ use Rattle.std.specs.Prelude.{◌≡◌, ℕ, ◌<◌, ◌≤ℤ◌, true, false
 use Rattle.jiff.specs.Types.{Date}
 use Rattle.jiff.specs.Words.{epoch_day}
 use Rattle.office_core.specs.Days.{IsDay}
-use Rattle.office_core.specs.Names.{IsName, IsAccession, IsMatter}
+use Rattle.office_core.specs.Descriptions.{IsDescription}
+use Rattle.office_core.specs.Names.{IsName, IsMatter}
 use Rattle.office_core.specs.Policies.{IsPolicy}
 use Rattle.office_core.specs.Requests.{IsYears}
 use Rattle.office_core.specs.declared.retention.Due.TheVariants.{On}
@@ -11,13 +12,6 @@ use Rattle.office_history.specs.Histories.{History, Change, Installed, DefinedCl
 use Rattle.office_history.specs.Bags.{bag_of}
 
 -- ---- what a change says
-
--- its names are names, its accession an accession, and its closing day a day of the office
-pub record IsDeposit (deposit : Deposit) : Type 0 where
-  pub collection : IsName deposit.collection
-  pub class : IsName deposit.class
-  pub accession : IsAccession deposit.accession
-  pub closed : IsDay deposit.closed
 
 abbrev pub IsTarget : Target → Type 0
 IsTarget (OnDeposit n) = Unit {0}
@@ -33,7 +27,7 @@ abbrev pub IsChange : Change → Type 0
 IsChange (Installed policy) = IsPolicy policy
 IsChange (DefinedClass day name years) = IsDay day × IsName name × IsYears years
 IsChange (DefinedCollection day name) = IsDay day × IsName name
-IsChange (Deposited day deposit) = IsDay day × IsDeposit deposit
+IsChange (Deposited day deposit) = IsDay day × IsDescription deposit.description
 IsChange (PlacedHold day hold) = IsDay day × IsHold hold
 IsChange (ReleasedHold day k) = IsDay day
 IsChange (Destroyed day n) = IsDay day
@@ -43,10 +37,10 @@ IsChange (Destroyed day n) = IsDay day
 -- The collection and the class are there, the accession is new, the records were closed by that day, the bag was read
 -- from its transfer form, and the office takes one deposit more.
 pub record IsDepositable (h : History) (day : Date) (deposit : Deposit) : Type 0 where
-  pub collection : has_collection h deposit.collection ≡ true
-  pub class : has_class h deposit.class ≡ true
-  pub new_accession : accession_of h deposit.accession ≡ None
-  pub closed : epoch_day deposit.closed ≤ℤ epoch_day day
+  pub collection : has_collection h deposit.description.collection ≡ true
+  pub class : has_class h deposit.description.class ≡ true
+  pub new_accession : accession_of h deposit.description.accession ≡ None
+  pub closed : epoch_day deposit.description.closed ≤ℤ epoch_day day
   pub form : List ℕ
   pub read : bag_of form ≡ Ok deposit.bag
   pub room : length (deposits h) < h.max_deposits

@@ -5,6 +5,7 @@ use Rattle.std.specs.Option.{option_map_or}
 use Rattle.jiff.specs.Types.{Date}
 use Rattle.bag_text.specs.TransferForm.{File, set_text, content_at}
 use Rattle.bag_check.specs.Validity.{Report, payload_files, payload_bytes}
+use Rattle.office_core.specs.Descriptions.{Description}
 use Rattle.office_core.specs.declared.action.Action.TheVariants as acts
 use Rattle.office_core.specs.declared.answer.Answer.{Answer}
 use Rattle.office_core.specs.declared.answer.Answer.TheVariants as answers
@@ -28,10 +29,7 @@ use Rattle.office_history.specs.Refusals.{denial_at, refusal}
 abbrev pub record_of : History → ℕ → Date × Deposit → DepositRecord
 record_of h n found = record {
   number = n;
-  accession = found.1.accession;
-  collection = found.1.collection;
-  class = found.1.class;
-  closed = found.1.closed;
+  description = found.1.description;
   deposited = found.0;
   files = payload_files found.1.bag;
   bytes = payload_bytes found.1.bag;
@@ -50,14 +48,14 @@ pub record Wanted : Type 0 where
   pub class : Option (List ℕ)
 
 -- what is asked for by name, or everything
-abbrev pub is_asked : Option (List ℕ) → List ℕ → Bool
-is_asked None name = true
-is_asked (Some only) name = bytes_eq only name
+abbrev pub is_selected : Option (List ℕ) → List ℕ → Bool
+is_selected None name = true
+is_selected (Some only) name = bytes_eq only name
 
 -- a deposit that the caller may list on that day
 abbrev pub is_listed : History → Date → List ℕ → Wanted → Deposit → Bool
 is_listed h day caller wanted deposit =
-    is_asked wanted.collection deposit.collection && is_asked wanted.class deposit.class && is_none (denial_at h day caller acts.List deposit)
+    is_selected wanted.collection deposit.description.collection && is_selected wanted.class deposit.description.class && is_none (denial_at h day caller acts.List deposit)
 
 abbrev pub listed_record : History → Date → List ℕ → Wanted → ℕ → Option DepositRecord
 listed_record h day caller wanted n =
@@ -106,7 +104,7 @@ file_answer (Some content) = answers.File content
 abbrev pub allowed_answer : History → Date → List ℕ → Request → Answer
 allowed_answer h day caller (DefineClass name years) = answers.Class name years
 allowed_answer h day caller (DefineCollection name) = answers.Collection name
-allowed_answer h day caller (MakeDeposit collection class accession closed bag) = answers.Deposited (length (deposits h) + 1)
+allowed_answer h day caller (MakeDeposit description bag) = answers.Deposited (length (deposits h) + 1)
 allowed_answer h day caller (ListDeposits collection class) = answers.List (listed_records h day caller (record { collection = collection; class = class }))
 allowed_answer h day caller (Record n) = told_of (deposit_numbered h n) (λ found. answers.Record (record_of h n found))
 allowed_answer h day caller (Holds n) = told_of (deposit_numbered h n) (λ found. answers.Holds (told_holds h n found.1))
@@ -122,15 +120,14 @@ allowed_answer h day caller DueList = answers.DueList day (due_list h day caller
 
 -- ---- the change that it makes, if it makes one
 
-abbrev pub deposit_change : Date → List ℕ → List ℕ → List ℕ → Date → Result (List File) (List ℕ) → List Change
-deposit_change day collection class accession closed (Ok bag) =
-    Deposited day (record { collection = collection; class = class; accession = accession; closed = closed; bag = bag }) ∷ []
-deposit_change day collection class accession closed (Err fault) = []
+abbrev pub deposit_change : Date → Description → Result (List File) (List ℕ) → List Change
+deposit_change day description (Ok bag) = Deposited day (record { description = description; bag = bag }) ∷ []
+deposit_change day description (Err fault) = []
 
 abbrev pub allowed_change : History → Date → Request → List Change
 allowed_change h day (DefineClass name years) = DefinedClass day name years ∷ []
 allowed_change h day (DefineCollection name) = if has_collection h name then [] else DefinedCollection day name ∷ []
-allowed_change h day (MakeDeposit collection class accession closed bag) = deposit_change day collection class accession closed (bag_of bag.now)
+allowed_change h day (MakeDeposit description bag) = deposit_change day description (bag_of bag.now)
 allowed_change h day (HoldDeposit n matter) = PlacedHold day (record { target = OnDeposit n; matter = matter }) ∷ []
 allowed_change h day (HoldCollection name matter) = PlacedHold day (record { target = OnCollection name; matter = matter }) ∷ []
 allowed_change h day (HoldClass name matter) = PlacedHold day (record { target = OnClass name; matter = matter }) ∷ []

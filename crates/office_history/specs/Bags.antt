@@ -10,7 +10,7 @@ use Rattle.bag_check.specs.Faults.{Fault}
 use Rattle.bag_check.specs.FaultTexts.{fault_text}
 use Rattle.bag_check.specs.Judging.{judge}
 use Rattle.bag_check.specs.Answers.{report_seen}
-use Rattle.bag_check.specs.declared.report.BagReport.{BagReport}
+use Rattle.bag_text.specs.declared.report.BagReport.{BagReport}
 
 -- the report on a bag, or the text of its first fault
 abbrev pub report_or_text : Result Report Fault → Result Report (List ℕ)

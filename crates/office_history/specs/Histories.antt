@@ -5,6 +5,7 @@ use Rattle.std.specs.List.{list_any, filter_map}
 use Rattle.std.specs.Option.{option_map_or}
 use Rattle.jiff.specs.Types.{Date}
 use Rattle.bag_text.specs.TransferForm.{File}
+use Rattle.office_core.specs.Descriptions.{Description}
 use Rattle.office_core.specs.Policies.{PolicyValue}
 use Rattle.office_core.specs.RetentionReading.{due_of}
 use Rattle.office_core.specs.declared.retention.Due.{Due}
@@ -20,11 +21,7 @@ pub data Target : Type 0 where
   OnClass : List ℕ → Target
 
 pub record Deposit : Type 0 where
-  pub collection : List ℕ
-  pub class : List ℕ
-  pub accession : List ℕ
-  -- the day on which the records were closed
-  pub closed : Date
+  pub description : Description
   pub bag : List File
 
 pub record Hold : Type 0 where
@@ -98,7 +95,7 @@ abbrev pub deposit_numbered : History → ℕ → Option (Date × Deposit)
 deposit_numbered h n = item_numbered (deposits h) n
 
 abbrev pub has_accession : List ℕ → Date × Deposit → Bool
-has_accession accession found = bytes_eq found.1.accession accession
+has_accession accession found = bytes_eq found.1.description.accession accession
 
 -- the number of the deposit that has this accession, kept or destroyed
 abbrev pub accession_of : History → List ℕ → Option ℕ
@@ -118,7 +115,7 @@ kept_numbers h = filter (λ n. is_none (destruction_day h n)) (numbers (length (
 
 -- the day from which a deposit may be destroyed, by the present years of its class
 abbrev pub due : History → Deposit → Due
-due h deposit = option_map_or (due_of deposit.closed) (years_of h deposit.class) Never
+due h deposit = option_map_or (due_of deposit.description.closed) (years_of h deposit.description.class) Never
 
 -- ---- holds: the k-th that was accepted has the number k, from 1
 
@@ -148,8 +145,8 @@ is_live h k = is_none (release_day h k)
 -- the class, whichever came first
 abbrev pub reaches : Target → ℕ → Deposit → Bool
 reaches (OnDeposit number) n deposit = number == n
-reaches (OnCollection name) n deposit = bytes_eq name deposit.collection
-reaches (OnClass name) n deposit = bytes_eq name deposit.class
+reaches (OnCollection name) n deposit = bytes_eq name deposit.description.collection
+reaches (OnClass name) n deposit = bytes_eq name deposit.description.class
 
 abbrev pub covers : History → ℕ → ℕ → Deposit → Bool
 covers h k n deposit = option_map_or (λ hold. reaches hold.1.target n deposit) (hold_numbered h k) false

@@ -7,6 +7,7 @@ use Rattle.jiff.specs.Words.{epoch_day}
 use Rattle.bag_text.specs.TransferForm.{File}
 use Rattle.bag_check.specs.Validity.{payload_files, payload_bytes}
 use Rattle.office_core.specs.Actions.{action_text}
+use Rattle.office_core.specs.Descriptions.{Description}
 use Rattle.office_core.specs.declared.rule.Effect.{Effect}
 use Rattle.office_core.specs.declared.rule.Effect.TheVariants.{Allow, Deny}
 use Rattle.office_core.specs.declared.rule.Pattern.{Pattern}
@@ -74,15 +75,19 @@ class_row name years = record { name = name; years = years_number years }
 abbrev pub row_by_gone : ℕ → Option Date → Date × Deposit → DepositRow
 row_by_gone n day found = record {
   number = pos n;
-  accession = found.1.accession;
-  collection = found.1.collection;
-  class = found.1.class;
-  closed = epoch_day found.1.closed;
+  accession = found.1.description.accession;
+  collection = found.1.description.collection;
+  class = found.1.description.class;
+  closed = epoch_day found.1.description.closed;
   deposited = epoch_day found.0;
   files = pos (payload_files found.1.bag);
   bytes = pos (payload_bytes found.1.bag);
   gone = option_map epoch_day day;
 }
+
+-- and back: the description that a row says of records closed on that day
+abbrev pub description_of : DepositRow → Date → Description
+description_of row closed = record { collection = row.collection; class = row.class; accession = row.accession; closed = closed }
 
 abbrev pub deposit_row : History → ℕ → Date × Deposit → DepositRow
 deposit_row h n found = row_by_gone n (destruction_day h n) found

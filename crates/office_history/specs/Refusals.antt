@@ -4,6 +4,7 @@ use Rattle.std.specs.Prelude.{ℕ, not, List, [], ◌∷◌, length, Option, Som
 use Rattle.jiff.specs.Types.{Date}
 use Rattle.jiff.specs.Words.{epoch_day}
 use Rattle.bag_text.specs.TransferForm.{File, content_at}
+use Rattle.office_core.specs.Descriptions.{Description}
 use Rattle.office_core.specs.FirstOf.{first_some, answer_if}
 use Rattle.office_core.specs.Policies.{role_of}
 use Rattle.office_core.specs.Rules.{decision_of}
@@ -46,7 +47,7 @@ deciding_rule h day caller action collection class =
 
 -- asked of a deposit: of its collection and its class
 abbrev pub deciding_rule_at : History → Date → List ℕ → Action → Deposit → Option Decision
-deciding_rule_at h day caller action deposit = deciding_rule h day caller action (Some deposit.collection) (Some deposit.class)
+deciding_rule_at h day caller action deposit = deciding_rule h day caller action (Some deposit.description.collection) (Some deposit.description.class)
 
 -- what is known of an action on a deposit
 abbrev pub facts_of : History → Date → List ℕ → Action → ℕ → Deposit → Facts
@@ -66,7 +67,7 @@ denial h day caller action collection class = refusal_in (deciding.denial_verdic
 
 -- asked of a deposit: of its collection and its class
 abbrev pub denial_at : History → Date → List ℕ → Action → Deposit → Option Refusal
-denial_at h day caller action deposit = denial h day caller action (Some deposit.collection) (Some deposit.class)
+denial_at h day caller action deposit = denial h day caller action (Some deposit.description.collection) (Some deposit.description.class)
 
 -- E1
 abbrev pub no_such_class : History → List ℕ → Option Refusal
@@ -182,24 +183,23 @@ abbrev pub release_refusals : History → Date → List ℕ → ℕ → Hold →
 release_refusals h day caller k hold = release_denial h day caller hold.target ∷ released_refusal h k ∷ []
 
 -- where a bag is deposited: E1 and E2
-abbrev pub place_refusals : History → Date → List ℕ → List ℕ → List ℕ → List (Option Refusal)
-place_refusals h day caller collection class =
-    no_such_collection h collection
-    ∷ no_such_class h class
-    ∷ denial h day caller acts.Deposit (Some collection) (Some class)
+abbrev pub filing_refusals : History → Date → List ℕ → Description → List (Option Refusal)
+filing_refusals h day caller description =
+    no_such_collection h description.collection
+    ∷ no_such_class h description.class
+    ∷ denial h day caller acts.Deposit (Some description.collection) (Some description.class)
     ∷ []
 
 -- and what is deposited: E4, E5, E6 and E10
-abbrev pub bag_refusals : History → Date → List ℕ → Date → List ℕ → List (Option Refusal)
-bag_refusals h day accession closed bag =
-    taken_refusal h accession ∷ closed_ahead_refusal day closed ∷ bad_bag bag ∷ full_of_deposits h ∷ []
+abbrev pub bag_refusals : History → Date → Description → List ℕ → List (Option Refusal)
+bag_refusals h day description bag =
+    taken_refusal h description.accession ∷ closed_ahead_refusal day description.closed ∷ bad_bag bag ∷ full_of_deposits h ∷ []
 
 -- all refusals of a request
 abbrev pub refusals : History → Date → List ℕ → Request → List (Option Refusal)
 refusals h day caller (DefineClass name years) = denial h day caller acts.Class None (Some name) ∷ []
 refusals h day caller (DefineCollection name) = denial h day caller acts.Collection (Some name) None ∷ []
-refusals h day caller (MakeDeposit collection class accession closed bag) =
-    place_refusals h day caller collection class ++ bag_refusals h day accession closed bag.now
+refusals h day caller (MakeDeposit description bag) = filing_refusals h day caller description ++ bag_refusals h day description bag.now
 refusals h day caller (ListDeposits collection class) = []
 refusals h day caller (Record n) = of_deposit (deposit_numbered h n) (kept_refusals h day caller acts.Record n)
 refusals h day caller (Holds n) = of_deposit (deposit_numbered h n) (kept_refusals h day caller acts.Holds n)

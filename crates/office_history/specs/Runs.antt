@@ -68,7 +68,7 @@ new_history max_deposits max_holds =
 pub data IsLegal : History → Type 0 where
   new : (max_deposits max_holds : ℕ) → IsLimit (pos max_deposits) → IsLimit (pos max_holds) → IsLegal (new_history max_deposits max_holds)
   install : (h : History) (policy : PolicyValue) → IsPolicy policy → IsLegal h → IsLegal (with_changes h (Installed policy ∷ []))
-  serve : (h : History) (day : Date) (caller : List ℕ) (request : Request)
+  step : (h : History) (day : Date) (caller : List ℕ) (request : Request)
       → IsDay day → IsRequest request → IsLegal h → IsLegal (after h day caller request)
 
 -- ---- what legal histories have

@@ -13,6 +13,7 @@ ghost use Rattle.bag_text.specs.declared.declaration.Version.{Version};
 ghost use Rattle.bag_check.specs.Validity.{report_of};
 ghost use Rattle.bag_check.specs.Faults.{Fault, FirstFault};
 ghost use Rattle.bag_check.specs.FaultTexts.{fault_text};
+ghost use Rattle.office_core.specs.Descriptions.{Description};
 ghost use Rattle.office_core.specs.Policies.{PolicyValue};
 ghost use Rattle.office_core.specs.Days.{IsDay};
 ghost use Rattle.office_core.specs.Rules.{HasNoDays};
@@ -94,7 +95,8 @@ pub fn limits_hold()
 pub fn what_is_named_is_there()
     ensures deposits { (h : History) → IsLegal h → (n : ℕ) (found : Date × Deposit)
         → deposit_numbered h n ≡ Some found
-        → (has_collection h found.1.collection ≡ true) × (has_class h found.1.class ≡ true) }
+        → (has_collection h found.1.description.collection ≡ true)
+        × (has_class h found.1.description.class ≡ true) }
     ensures holds { (h : History) → IsLegal h → (k : ℕ) (found : Date × Hold)
         → hold_numbered h k ≡ Some found → IsThere h found.1.target }
 {}
@@ -103,7 +105,7 @@ pub fn what_is_named_is_there()
 pub fn closed_by_the_day_of_deposit()
     ensures { (h : History) → IsLegal h → (n : ℕ) (found : Date × Deposit)
         → deposit_numbered h n ≡ Some found
-        → epoch_day found.1.closed ≤ℤ epoch_day found.0 }
+        → epoch_day found.1.description.closed ≤ℤ epoch_day found.0 }
 {}
 
 /// What is asked of a deposit that is there is decided by the verdict of `office_core` on what is
@@ -147,20 +149,20 @@ pub fn runs_stay_legal()
 
 /// After a bag was accepted as a deposit, each download of the deposit that is served is that bag,
 /// byte for byte: in a run of requests, and in any later history.
-pub fn served_as_deposited()
+pub fn downloaded_as_deposited()
     ensures ran { (h mid late next : History) (items : List Item) (given : List Answer)
         (day later : Date) (n : ℕ) (bytes : List ℕ) (caller other : Bor (List ℕ))
-        (collection class accession : List ℕ) (closed : Date) (bag : Bor (List ℕ))
-        → Step h (day, caller, MakeDeposit collection class accession closed bag)
+        (description : Description) (bag : Bor (List ℕ))
+        → Step h (day, caller, MakeDeposit description bag)
         (answers.Deposited n) mid
         → Run mid items given late
         → Step late (later, other, DownloadBag n) (answers.Bag bytes) next
         → bytes ≡ bag.now }
     ensures answered { (h next : History) (day later : Date) (n : ℕ) (bytes : List ℕ)
-        (caller other collection class accession : List ℕ) (closed : Date) (bag : Bor (List ℕ))
-        → answer h day caller (MakeDeposit collection class accession closed bag)
+        (caller other : List ℕ) (description : Description) (bag : Bor (List ℕ))
+        → answer h day caller (MakeDeposit description bag)
         ≡ answers.Deposited n
-        → IsLater (after h day caller (MakeDeposit collection class accession closed bag)) next
+        → IsLater (after h day caller (MakeDeposit description bag)) next
         → answer next later other (DownloadBag n) ≡ answers.Bag bytes
         → bytes ≡ bag.now }
 {
@@ -169,22 +171,21 @@ pub fn served_as_deposited()
 
 /// After a bag was accepted as a deposit, each file of the deposit that is served is the content at
 /// that path of the bag whose form was deposited: in a run of requests, and in any later history.
-pub fn files_are_served_as_deposited()
+pub fn files_are_downloaded_as_deposited()
     ensures ran { (h mid late next : History) (items : List Item) (given : List Answer)
         (day later : Date) (n : ℕ) (bytes : List ℕ) (caller other : Bor (List ℕ))
-        (collection class accession : List ℕ) (closed : Date) (bag path : Bor (List ℕ))
-        → Step h (day, caller, MakeDeposit collection class accession closed bag)
+        (description : Description) (bag path : Bor (List ℕ))
+        → Step h (day, caller, MakeDeposit description bag)
         (answers.Deposited n) mid
         → Run mid items given late
         → Step late (later, other, DownloadFile n path) (answers.File bytes) next
         → (files : List File) × IsBag files × (bag.now ≡ set_text files)
         × (content_at files path.now ≡ Some bytes) }
     ensures answered { (h next : History) (day later : Date) (n : ℕ) (bytes : List ℕ)
-        (caller other collection class accession : List ℕ) (closed : Date)
-        (bag path : Bor (List ℕ))
-        → answer h day caller (MakeDeposit collection class accession closed bag)
+        (caller other : List ℕ) (description : Description) (bag path : Bor (List ℕ))
+        → answer h day caller (MakeDeposit description bag)
         ≡ answers.Deposited n
-        → IsLater (after h day caller (MakeDeposit collection class accession closed bag)) next
+        → IsLater (after h day caller (MakeDeposit description bag)) next
         → answer next later other (DownloadFile n path) ≡ answers.File bytes
         → (files : List File) × IsBag files × (bag.now ≡ set_text files)
         × (content_at files path.now ≡ Some bytes) }
@@ -228,7 +229,7 @@ pub fn audits_are_valid()
 }
 
 /// The contents that are kept are exactly those of the files of kept deposits, each once.
-pub fn contents_are_kept_once()
+pub fn contents_are_stored_once()
     ensures exactly { (h : History) (content : List ℕ)
         → Contains (contents h) content ↔ IsKept h content }
     ensures once { (h : History) → IsDistinct bytes_eq (contents h) }
@@ -252,13 +253,13 @@ pub fn later_deposits_are_covered()
         (caller name matter : List ℕ) (found : Date × Deposit)
         → answer h day caller (HoldCollection name matter) ≡ answers.HoldPlaced k
         → IsLater (after h day caller (HoldCollection name matter)) next
-        → deposit_numbered next n ≡ Some found → found.1.collection ≡ name
+        → deposit_numbered next n ≡ Some found → found.1.description.collection ≡ name
         → covers next k n found.1 ≡ true }
     ensures held { (h next : History) (k n : ℕ) (day : Date)
         (name matter : List ℕ) (found : Date × Deposit)
         → hold_numbered h k ≡ Some (day, record { target = OnCollection name; matter = matter })
         → IsLater h next
-        → deposit_numbered next n ≡ Some found → found.1.collection ≡ name
+        → deposit_numbered next n ≡ Some found → found.1.description.collection ≡ name
         → covers next k n found.1 ≡ true }
 {}
 
@@ -269,19 +270,19 @@ pub fn later_deposits_of_a_class_are_covered()
         (caller name matter : List ℕ) (found : Date × Deposit)
         → answer h day caller (HoldClass name matter) ≡ answers.HoldPlaced k
         → IsLater (after h day caller (HoldClass name matter)) next
-        → deposit_numbered next n ≡ Some found → found.1.class ≡ name
+        → deposit_numbered next n ≡ Some found → found.1.description.class ≡ name
         → covers next k n found.1 ≡ true }
     ensures held { (h next : History) (k n : ℕ) (day : Date)
         (name matter : List ℕ) (found : Date × Deposit)
         → hold_numbered h k ≡ Some (day, record { target = OnClass name; matter = matter })
         → IsLater h next
-        → deposit_numbered next n ≡ Some found → found.1.class ≡ name
+        → deposit_numbered next n ≡ Some found → found.1.description.class ≡ name
         → covers next k n found.1 ≡ true }
     ensures live { (h next : History) (k n : ℕ) (day : Date)
         (name matter : List ℕ) (found : Date × Deposit)
         → hold_numbered h k ≡ Some (day, record { target = OnClass name; matter = matter })
         → IsLater h next → release_day next k ≡ None
-        → deposit_numbered next n ≡ Some found → found.1.class ≡ name
+        → deposit_numbered next n ≡ Some found → found.1.description.class ≡ name
         → Contains (live_holds next n found.1) k }
 {}
 
@@ -290,9 +291,12 @@ pub fn a_hold_of_the_collection_and_one_of_the_class_are_two()
     ensures { (h : History) (j k n : ℕ) (day later : Date)
         (matter other : List ℕ) (found : Date × Deposit)
         → hold_numbered h j
-        ≡ Some (day, record { target = OnCollection found.1.collection; matter = matter })
+        ≡ Some (
+          day,
+          record { target = OnCollection found.1.description.collection; matter = matter },
+        )
         → hold_numbered h k
-        ≡ Some (later, record { target = OnClass found.1.class; matter = other })
+        ≡ Some (later, record { target = OnClass found.1.description.class; matter = other })
         → release_day h j ≡ None → release_day h k ≡ None
         → pos 2 ≤ℤ (due_row h n found).holds }
 {}
@@ -342,9 +346,9 @@ pub fn revised_classes_move_due_days()
     ensures { (h : History) (day : Date) (caller name given_name : List ℕ)
         (years given_years : Option ℕ) (deposit : Deposit)
         → answer h day caller (DefineClass name years) ≡ answers.Class given_name given_years
-        → deposit.class ≡ name
+        → deposit.description.class ≡ name
         → due (after h day caller (DefineClass name years)) deposit
-        ≡ due_of deposit.closed years }
+        ≡ due_of deposit.description.closed years }
 {}
 
 /// A class that is given other years, and then the years that it had, leaves the due day of each
@@ -394,12 +398,11 @@ pub fn a_policy_without_days_answers_alike()
 /// two holds.
 pub fn numbers_are_given_once()
     ensures deposits { (h next : History) (day later : Date) (n m : ℕ)
-        (caller collection class accession : List ℕ) (closed : Date) (bag : Bor (List ℕ))
-        (other collection_2 class_2 accession_2 : List ℕ) (closed_2 : Date) (bag_2 : Bor (List ℕ))
-        → answer h day caller (MakeDeposit collection class accession closed bag)
+        (caller other : List ℕ) (description description_2 : Description) (bag bag_2 : Bor (List ℕ))
+        → answer h day caller (MakeDeposit description bag)
         ≡ answers.Deposited n
-        → IsLater (after h day caller (MakeDeposit collection class accession closed bag)) next
-        → answer next later other (MakeDeposit collection_2 class_2 accession_2 closed_2 bag_2)
+        → IsLater (after h day caller (MakeDeposit description bag)) next
+        → answer next later other (MakeDeposit description_2 bag_2)
         ≡ answers.Deposited m
         → n < m }
     ensures holds { (h next : History) (day later : Date) (n m : ℕ)
@@ -414,7 +417,7 @@ pub fn numbers_are_given_once()
 pub fn accessions_are_used_once()
     ensures { (h : History) → IsLegal h → (n m : ℕ) (a b : Date × Deposit)
         → deposit_numbered h n ≡ Some a → deposit_numbered h m ≡ Some b
-        → a.1.accession ≡ b.1.accession → n ≡ m }
+        → a.1.description.accession ≡ b.1.description.accession → n ≡ m }
 {}
 
 /// Two legal histories that give the same rows answer each request alike, have the same stock, and

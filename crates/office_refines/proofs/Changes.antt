@@ -1,40 +1,24 @@
 -- The rows that a request leaves of a legal history, where nothing stands against it: the picture of the history after it.
-use Rattle.std.proofs.Common.{◌≡◌, ℕ, ◌+◌, ◌≤◌, ℤ, pos, negsuc, neg_ℤ, ◌+ℤ◌, ◌&&◌, Bool, true, List, [], ◌∷◌, length, Option, Some, None, IsSome, is_some, map, filter, option_map, Result, refl, sym, ap, subst, ◌∙◌, arith, if◌then◌else◌}
-use Rattle.office_refines.proofs.Common.{filter_map, option_map_or, Decides-eqb, length-map, length_push, same_Some, Date, IsBetween, epoch_day, signed_arith, File, max_years, ◌>>=◌, due_of, Refusal, Request, DefineClass, DefineCollection, Record, Holds, DownloadBag, DownloadFile, Audit, HoldDeposit, HoldCollection, HoldClass, Release, Dispose, DueList, Never, ClassRow, DueRow, HoldRow, Tables, class_named, is_class, is_of_class, is_within, with_class, with_hold, with_holds, with_kept, with_released, this_version, closing_of, IsPlaceable, IsReleasable, IsThere, allowed_change, changes_unless, deposit_change, bag_of, History, Change, Deposit, Hold, Target, OnDeposit, OnCollection, OnClass, DefinedClass, Deposited, PlacedHold, ReleasedHold, covers, deposit_in, deposits, holds, is_live, live_holds, with_changes, years_in, years_of, last_said, numbers, due_rows, hold_row, picture, years_back, years_number, AreInRange, IsClassRow, IsLegal, allowed_of, depositable, disposable, grown_by_none, releasable, holds_grown, none_gone, all_numbered, HasTarget, limits_hold, placed_holds, ranged_deposits, is_between, years_of_number, Visit, target_of, allowed_rows, count_in, counted_on, counted_over, due_in, if_bag, kept_as, new_deposit, new_hold, placed, released, with_due_days, with_files, refusal_before, between}
-use Rattle.std.proofs.lemmas.List.FromFn.{length-range_with_len}
-use Rattle.std.proofs.lemmas.List.Sums.{count_by-le-length, length-filter}
-use Rattle.office_core.specs.Retention.{due_number}
-use Rattle.office_core.specs.declared.request.Request.TheVariants.{Deposit as MakeDeposit, List as ListDeposits}
+use Rattle.office_refines.proofs.FirstLemmas.{◌≡◌, ℕ, ◌+◌, ◌≤◌, ℤ, pos, negsuc, neg_ℤ, ◌+ℤ◌, ◌&&◌, true, List, [], ◌∷◌, length, Option, Some, None, IsSome, is_some, map, filter, option_map, Result, refl, sym, ap, ◌∙◌, arith, if◌then◌else◌, filter_map, option_map_or, Decides-eqb, length-map, length_push, same_Some, Date, IsBetween, epoch_day, signed_arith, File, max_years, ◌>>=◌, due_of, Refusal, Request, DefineClass, DefineCollection, HoldDeposit, HoldCollection, HoldClass, Release, Dispose, Never, ClassRow, DueRow, HoldRow, Tables, class_named, is_class, is_of_class, is_within, with_class, with_hold, with_holds, with_deposit_and_due, with_released, this_version, closing_of, IsPlaceable, IsReleasable, IsThere, allowed_change, changes_unless, deposit_change, bag_of, History, Change, Deposit, Hold, Target, OnDeposit, OnCollection, OnClass, DefinedClass, Deposited, PlacedHold, ReleasedHold, deposit_in, deposits, holds, live_holds, with_changes, years_in, years_of, last_said, due_rows, hold_row, picture, years_back, years_number, AreInRange, IsClassRow, IsLegal, allowed_of, depositable, disposable, grown_by_none, releasable, holds_grown, none_gone, all_numbered, HasTarget, limits_hold, placed_holds, ranged_deposits, is_between, years_of_number, Visit, target_of, allowed_rows, count_in, counted_on, counted_over, due_in, if_bag, stored_as, new_deposit, new_hold, placed, released, with_due_days, with_files, refusal_before, between, due_number, deposit_numbered, has_class, with_years, deposit_rows_are, live_told, not_yet, placed_told, released_told, bytes_eq-sym, eqb-sym, none_next, same_number, same_holds, few_live}
+use Rattle.office_core.specs.declared.request.Request.TheVariants.{Deposit as MakeDeposit}
 use Rattle.office_rows.specs.Rows as rows
 use Rattle.office_history.specs.Answers as histories
-use Rattle.office_history.specs.Histories.{deposit_numbered, has_class}
 use Rattle.office_history.specs.Refusals as refusing
-use Rattle.office_by_rows.specs.Changes.{with_years}
 use Rattle.office_refines.proofs.Answers.{next_deposit, next_hold}
 use Rattle.office_refines.proofs.ClassesTold.{class_told, years_of_row}
 use Rattle.office_refines.proofs.CollectionsTold.{collection_told}
 use Rattle.office_refines.proofs.DepositedTold.{deposited_told}
-use Rattle.office_refines.proofs.DepositsTold.{deposit_rows_are}
 use Rattle.office_refines.proofs.DuesGrown.{IsCounted, counted_if, counted_released, dues_of_those, dues_on}
 use Rattle.office_refines.proofs.DuesPlaced.{counted_placed}
 use Rattle.office_refines.proofs.DuesRevised.{days_set}
 use Rattle.office_refines.proofs.GoneTold.{gone_told}
-use Rattle.office_refines.proofs.HoldsTold.{live_told, not_yet, placed_told, released_told}
-use Rattle.office_refines.proofs.NumberedRows.{bytes_eq-sym, eqb-sym, none_next, same_number}
 use Rattle.office_refines.proofs.Readings.{found_all, hold_at, kept_there, released_days}
 use Rattle.office_refines.proofs.Refusals.{target_exact}
-use Rattle.office_refines.proofs.Unchanged.{same_holds}
 
 -- ---- numbers in their range
 
-few_pass : {A : Type 0} (p : A → Bool) (xs : List A) → length (filter p xs) ≤ length xs
-few_pass p xs = subst (λ count. count ≤ length xs) (sym (length-filter p xs)) (count_by-le-length p xs)
-
 within : (count most : ℕ) → count ≤ most → is_between (pos 0) (pos most) (pos count) ≡ true
 within count most few = between (pos 0) (pos most) (pos count) (omega (arith, signed_arith)) (omega (arith, signed_arith, few))
-
-few_live : (h : History) (n : ℕ) (d : Deposit) → length (live_holds h n d) ≤ length (holds h)
-few_live h n d = subst (λ count. length (live_holds h n d) ≤ count) (length-range_with_len 1 (length (holds h))) (few_pass (λ k. is_live h k && covers h k n d) (numbers (length (holds h))))
 
 years_are : (number : ℤ) → IsBetween (neg_ℤ (pos 1)) (pos max_years) number → years_of_number number ≡ Some (years_back number)
 years_are number ranged = ap (λ b. if b then Some (years_back number) else None) (between (neg_ℤ (pos 1)) (pos max_years) number ranged.0 ranged.1)
@@ -58,28 +42,26 @@ module _ (h : History) (legal : IsLegal h) (ranged : AreInRange this_version (pi
     where
       by : (o : Option ClassRow) → class_named class t.classes ≡ o → (stands : Option (Option ℕ)) → option_map (λ (c : ClassRow). years_back c.years) o ≡ stands → is_some stands ≡ true
           → (o >>= λ (c : ClassRow). years_of_number c.years >>= λ years. Some (due_of closed years)) ≡ Some (option_map_or (due_of closed) stands Never)
-      by None is None e there = absurd cc
-      by None is (Some years) e there = absurd cc
-      by (Some c) is None e there = absurd cc
       by (Some c) is (Some years) e there =
           (λ i. years_are c.years (found_all IsClassRow (is_class class) t.classes c ranged.classes is).years i >>= λ read. Some (due_of closed read))
           ∙ ap (λ read. Some (due_of closed read)) (same_Some _ _ e)
+      by _ is _ e there = absurd cc
 
-  count_exact : (n : ℕ) (d : Deposit) → count_in t n d.collection d.class ≡ Some (length (live_holds h n d))
+  count_exact : (n : ℕ) (d : Deposit) → count_in t n d.description.collection d.description.class ≡ Some (length (live_holds h n d))
   count_exact n d =
-      ap (λ b. if b then Some (length (rows.live_holds (pos n) d.collection d.class t)) else None) (released_days h legal ranged n d.collection d.class)
+      ap (λ b. if b then Some (length (rows.live_holds (pos n) d.description.collection d.description.class t)) else None) (released_days h legal ranged n d.description.collection d.description.class)
       ∙ ap (λ ks. Some (length ks)) (live_told h n d this_version)
       ∙ ap Some (length-map (live_holds h n d) pos)
 
   abbrev next : ℕ
   next = 1 + length (deposits h)
 
-  pub deposit_exact : (day : Date) (d : Deposit) → has_class h d.class ≡ true
-      → kept_as (length (deposits h) + 1) (new_deposit (length (deposits h) + 1) d.collection d.class d.accession d.closed day d.bag) d.closed d.bag t ≡ Some (picture this_version (with_changes h (Deposited day d ∷ [])))
+  pub deposit_exact : (day : Date) (d : Deposit) → has_class h d.description.class ≡ true
+      → stored_as (length (deposits h) + 1) (new_deposit (length (deposits h) + 1) d.description day d.bag) d.description.closed d.bag t ≡ Some (picture this_version (with_changes h (Deposited day d ∷ [])))
   deposit_exact day d there =
       let one : length (deposits h) + 1 ≡ next = omega arith in
-      ap (λ n. kept_as n (new_deposit n d.collection d.class d.accession d.closed day d.bag) d.closed d.bag t) one
-      ∙ (λ i. due_exact d.class d.closed there i >>= λ due. count_exact next d i >>= λ count. Some (with_files (pos next) d.bag (with_kept (new_deposit next d.collection d.class d.accession d.closed day d.bag) (due_number due) (pos count) t)))
+      ap (λ n. stored_as n (new_deposit n d.description day d.bag) d.description.closed d.bag t) one
+      ∙ (λ i. due_exact d.description.class d.description.closed there i >>= λ due. count_exact next d i >>= λ count. Some (with_files (pos next) d.bag (with_deposit_and_due (new_deposit next d.description day d.bag) (due_number due) (pos count) t)))
       ∙ ap Some (deposited_told h day d (none_gone h legal next (none_next (deposits h))))
 
   -- ---- the count of live holds over a deposit
@@ -108,8 +90,8 @@ module _ (h : History) (legal : IsLegal h) (ranged : AreInRange this_version (pi
             ap (λ b. counted_if b by (length (live_holds h n found.1))) (sym ((Decides-eqb n n).1 refl)) ∙ counted n found.1 in
             counted_exact hs by n found at (ap (is_between (pos 0) (pos h.max_holds)) counted_then ∙ within (length (live_holds (with_changes h more) n found.1)) h.max_holds (omega (arith, few_live (with_changes h more) n found.1, room)))
             ∙ ap Some (told _ (dues_on h more none silent by (OnDeposit n) counted n found at (λ m d. eqb-sym n m ∙ sym (same_number m n))))
-    over_exact (OnCollection name) counted there = ap Some (told _ (dues_of_those h more none silent by (OnCollection name) counted (is_within name) (λ m x. bytes_eq-sym name x.1.collection)))
-    over_exact (OnClass name) counted there = ap Some (told _ (dues_of_those h more none silent by (OnClass name) counted (is_of_class name) (λ m x. bytes_eq-sym name x.1.class)))
+    over_exact (OnCollection name) counted there = ap Some (told _ (dues_of_those h more none silent by (OnCollection name) counted (is_within name) (λ m x. bytes_eq-sym name x.1.description.collection)))
+    over_exact (OnClass name) counted there = ap Some (told _ (dues_of_those h more none silent by (OnClass name) counted (is_of_class name) (λ m x. bytes_eq-sym name x.1.description.class)))
 
   -- ---- a hold is placed
 
@@ -155,20 +137,14 @@ module _ (h : History) (legal : IsLegal h) (ranged : AreInRange this_version (pi
   pub rows_exact : (visit : Visit) (request : Request) → refusal_before h visit.day visit.caller request ≡ None → allowed_rows t visit request ≡ Some (picture this_version (histories.after h visit.day visit.caller request))
   rows_exact visit (DefineClass name years) free = class_exact visit.day name years ∙ changed visit (DefineClass name years) free
   rows_exact visit (DefineCollection name) free = ap Some (collection_told h visit.day name) ∙ changed visit (DefineCollection name) free
-  rows_exact visit (MakeDeposit collection class accession closed bag) free =
-      let it = depositable h visit.day visit.caller collection class accession closed bag.now free in
-      let d : Deposit = record { collection = collection; class = class; accession = accession; closed = closed; bag = it.0 } in
-      (λ i. next_deposit h legal ranged i >>= λ n. if_bag (bag_of bag.now) (λ files. kept_as n (new_deposit n collection class accession closed visit.day files) closed files t))
-      ∙ (λ i. if_bag (it.1 i) (λ files. kept_as (length (deposits h) + 1) (new_deposit (length (deposits h) + 1) collection class accession closed visit.day files) closed files t))
+  rows_exact visit (MakeDeposit description bag) free =
+      let it = depositable h visit.day visit.caller description bag.now free in
+      let d : Deposit = record { description = description; bag = it.0 } in
+      (λ i. next_deposit h legal ranged i >>= λ n. if_bag (bag_of bag.now) (λ files. stored_as n (new_deposit n description visit.day files) description.closed files t))
+      ∙ (λ i. if_bag (it.1 i) (λ files. stored_as (length (deposits h) + 1) (new_deposit (length (deposits h) + 1) description visit.day files) description.closed files t))
       ∙ deposit_exact visit.day d it.2.class
-      ∙ ap (λ (read : Result (List File) (List ℕ)). Some (picture this_version (with_changes h (deposit_change visit.day collection class accession closed read)))) (sym it.1)
-      ∙ changed visit (MakeDeposit collection class accession closed bag) free
-  rows_exact visit (ListDeposits collection class) free = unchanged (refusing.refusal h visit.day visit.caller (ListDeposits collection class))
-  rows_exact visit (Record n) free = unchanged (refusing.refusal h visit.day visit.caller (Record n))
-  rows_exact visit (Holds n) free = unchanged (refusing.refusal h visit.day visit.caller (Holds n))
-  rows_exact visit (DownloadBag n) free = unchanged (refusing.refusal h visit.day visit.caller (DownloadBag n))
-  rows_exact visit (DownloadFile n path) free = unchanged (refusing.refusal h visit.day visit.caller (DownloadFile n path))
-  rows_exact visit (Audit n) free = unchanged (refusing.refusal h visit.day visit.caller (Audit n))
+      ∙ ap (λ (read : Result (List File) (List ℕ)). Some (picture this_version (with_changes h (deposit_change visit.day description read)))) (sym it.1)
+      ∙ changed visit (MakeDeposit description bag) free
   rows_exact visit (HoldDeposit n matter) free =
       placed_exact visit.day (record { target = OnDeposit n; matter = matter }) (allowed_of h visit.day visit.caller (HoldDeposit n matter) free) ∙ changed visit (HoldDeposit n matter) free
   rows_exact visit (HoldCollection name matter) free =
@@ -177,4 +153,4 @@ module _ (h : History) (legal : IsLegal h) (ranged : AreInRange this_version (pi
       placed_exact visit.day (record { target = OnClass name; matter = matter }) (allowed_of h visit.day visit.caller (HoldClass name matter) free) ∙ changed visit (HoldClass name matter) free
   rows_exact visit (Release k) free = released_exact visit.day k (releasable h visit.day visit.caller k free) ∙ changed visit (Release k) free
   rows_exact visit (Dispose n) free = ap Some (gone_told h visit.day n (disposable h visit.day visit.caller n free).kept) ∙ changed visit (Dispose n) free
-  rows_exact visit DueList free = unchanged (refusing.refusal h visit.day visit.caller DueList)
+  rows_exact visit request free = unchanged (refusing.refusal h visit.day visit.caller request)

@@ -1,23 +1,13 @@
 -- The rows of classes and the due days of their deposits, and the history that they picture.
-use Rattle.std.proofs.Common.{◌≡◌, ℕ, Bool, true, false, List, [], ◌∷◌, Option, Some, None, option_map, is_some, refl, sym, ap, ◌∙◌, cond, if◌then◌else◌, ◌||◌, ◌++◌, map, true≢false, append-nil}
-use Rattle.std.specs.Prelude.{bytes_eq}
-use Rattle.office_refines.proofs.Common.{option_or, AllByRecursion, filter_map, cons_option, list_any, bytes_eq-Decides, filter_map-append, Date, ClassRow, class_named, Tables, is_class, with_class, with_new_class, this_version, first_said, in_first_places, History, years_of, DefinedClass, with_changes, deposits, class_rows, years_back, class_in, class_row, years_number, picture, row_years, years_read, rows_by, HasYears, all_have_years, all_distinct, among_first_places}
+use Rattle.office_refines.proofs.FirstLemmas.{◌≡◌, ℕ, Bool, true, false, List, [], ◌∷◌, Option, Some, None, option_map, is_some, refl, sym, ap, ◌∙◌, if◌then◌else◌, ◌||◌, ◌++◌, map, true≢false, append-nil, bytes_eq, option_or, AllByRecursion, filter_map, cons_option, list_any, bytes_eq-Decides, filter_map-append, Date, ClassRow, class_named, Tables, is_class, with_class, with_new_class, this_version, first_said, in_first_places, History, years_of, DefinedClass, with_changes, deposits, class_rows, years_back, class_in, class_row, years_number, picture, row_years, years_read, rows_by, HasYears, all_have_years, all_distinct, among_first_places, years_grown, same_collections, same_deposit_rows, same_file_rows, same_hold_rows, pictured_by, bytes_eq-sym, first_places_last, by_Bool, by_Option}
 use Rattle.office_rows.specs.Rows.{has_class, with_years}
-use Rattle.office_refines.proofs.Unchanged.{years_grown, same_collections, same_deposit_rows, same_file_rows, same_hold_rows, pictured_by}
-use Rattle.office_refines.proofs.NumberedRows.{bytes_eq-sym}
 use Rattle.office_refines.proofs.DuesRevised.{days_from, days_revised, set_all}
-use Rattle.office_refines.proofs.FirstPlaces.{first_places_last}
 
 -- ---- the years of a class
 
 said_by_rows : (name : List ℕ) (rows : List ClassRow) → option_map (λ (c : ClassRow). years_back c.years) (class_named name rows) ≡ first_said (row_years name) rows
 said_by_rows name [] = refl
-said_by_rows name (r ∷ rows) = by (bytes_eq r.name name) (said_by_rows name rows)
-  where
-    by : (b : Bool) → option_map (λ (c : ClassRow). years_back c.years) (class_named name rows) ≡ first_said (row_years name) rows
-        → option_map (λ (c : ClassRow). years_back c.years) (cond b (Some r) (class_named name rows)) ≡ option_or (if b then Some (years_back r.years) else None) (first_said (row_years name) rows)
-    by true rest = refl
-    by false rest = rest
+said_by_rows name (r ∷ rows) = by_Bool (bytes_eq r.name name) (λ same. rw same refl) (λ other. rw other (said_by_rows name rows))
 
 pub years_of_row : (h : History) (name : List ℕ) → option_map (λ (c : ClassRow). years_back c.years) (class_named name (class_rows h)) ≡ years_of h name
 years_of_row h name = said_by_rows name (class_rows h) ∙ years_read h name
@@ -34,36 +24,22 @@ module _ (name : List ℕ) (y : Option ℕ) (years : List ℕ → Option (Option
   there : (names : List (List ℕ)) → AllByRecursion (λ other. is_some (years other) ≡ true) names → map revise (rows_by years names) ≡ rows_by revised names
   there [] have = refl
   there (other ∷ names) have =
-      by (bytes_eq other name) (years other) have.0 refl (there names have.1)
-      ∙ ap (λ b. cons_option (option_map (class_row other) (option_or (if b then Some y else None) (years other))) (rows_by revised names)) (bytes_eq-sym other name)
-    where
-      by : (b : Bool) (o : Option (Option ℕ)) → is_some o ≡ true → bytes_eq other name ≡ b → map revise (rows_by years names) ≡ rows_by revised names
-          → map revise (cons_option (option_map (class_row other) o) (rows_by years names)) ≡ cons_option (option_map (class_row other) (option_or (if bytes_eq other name then Some y else None) o)) (rows_by revised names)
-      by b None has e rest = absurd (true≢false (sym has))
-      by true (Some z) has e rest =
-          (λ i. (if e i then record { name = other; years = years_number y } else class_row other z) ∷ rest i)
-          ∙ ap (λ b. cons_option (option_map (class_row other) (option_or (if b then Some y else None) (Some z))) (rows_by revised names)) (sym e)
-      by false (Some z) has e rest =
-          (λ i. (if e i then record { name = other; years = years_number y } else class_row other z) ∷ rest i)
-          ∙ ap (λ b. cons_option (option_map (class_row other) (option_or (if b then Some y else None) (Some z))) (rows_by revised names)) (sym e)
+      by_Option (years other) (λ none. absurd (let has = rw none at have.0 in cc))
+      (λ z is. by_Bool (bytes_eq other name)
+      (λ same. rw (is, bytes_eq-sym name other, same) (ap (λ rs. class_row other y ∷ rs) (there names have.1)))
+      (λ apart. rw (is, bytes_eq-sym name other, apart) (ap (λ rs. class_row other z ∷ rs) (there names have.1))))
 
   elsewhere : (names : List (List ℕ)) → list_any (bytes_eq name) names ≡ false → rows_by revised names ≡ rows_by years names
   elsewhere [] none = refl
-  elsewhere (other ∷ names) none = by (bytes_eq name other) refl none (elsewhere names)
-    where
-      by : (b : Bool) → bytes_eq name other ≡ b → (b || list_any (bytes_eq name) names) ≡ false → (list_any (bytes_eq name) names ≡ false → rows_by revised names ≡ rows_by years names) → rows_by revised (other ∷ names) ≡ rows_by years (other ∷ names)
-      by true e gone rest = absurd (true≢false gone)
-      by false e gone rest = λ i. cons_option (option_map (class_row other) (option_or (if e i then Some y else None) (years other))) (rest gone i)
+  elsewhere (other ∷ names) none =
+      by_Bool (bytes_eq name other) (λ same. absurd (let there = rw same at none in true≢false there))
+      (λ apart. rw apart (ap (cons_option (option_map (class_row other) (years other))) (elsewhere names (rw apart at none))))
 
   -- a row stands for each name
   named : (names : List (List ℕ)) → AllByRecursion (λ other. is_some (years other) ≡ true) names → list_any (is_class name) (rows_by years names) ≡ list_any (bytes_eq name) names
   named [] have = refl
-  named (other ∷ names) have = by (years other) have.0 (named names have.1)
-    where
-      by : (o : Option (Option ℕ)) → is_some o ≡ true → list_any (is_class name) (rows_by years names) ≡ list_any (bytes_eq name) names
-          → list_any (is_class name) (cons_option (option_map (class_row other) o) (rows_by years names)) ≡ (bytes_eq name other || list_any (bytes_eq name) names)
-      by None has rest = absurd (true≢false (sym has))
-      by (Some z) has rest = λ i. bytes_eq-sym other name i || rest i
+  named (other ∷ names) have =
+      by_Option (years other) (λ none. absurd (let has = rw none at have.0 in cc)) (λ z is. rw is (λ i. bytes_eq-sym other name i || named names have.1 i))
 
 -- ---- a class that is defined or revised
 

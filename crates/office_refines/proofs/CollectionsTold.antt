@@ -1,11 +1,6 @@
 -- The rows of collections, and the history that they picture.
-use Rattle.std.proofs.Common.{◌≡◌, ℕ, ◌||◌, List, [], ◌∷◌, refl, ◌∙◌, Bool, true, false, ◌++◌, sym, ap, if◌then◌else◌}
-use Rattle.std.specs.Prelude.{bytes_eq}
-use Rattle.office_refines.proofs.Common.{list_any, filter_map, filter_map-append, Date, this_version, with_collection, with_new_collection, History, collection_in, has_collection, Change, DefinedCollection, with_changes, picture, collection_rows, among_first_places, in_first_places, grown_by_none}
+use Rattle.office_refines.proofs.FirstLemmas.{◌≡◌, ℕ, ◌||◌, List, [], ◌∷◌, refl, ◌∙◌, false, ◌++◌, sym, ap, if◌then◌else◌, bytes_eq, list_any, filter_map, filter_map-append, Date, this_version, with_collection, with_new_collection, History, collection_in, has_collection, Change, DefinedCollection, with_changes, picture, collection_rows, among_first_places, in_first_places, grown_by_none, bytes_eq-sym, same_classes, same_deposit_rows, same_due_rows, same_file_rows, same_hold_rows, pictured_by, first_places_last, by_Bool}
 use Rattle.office_rows.specs.Rows as rows
-use Rattle.office_refines.proofs.NumberedRows.{bytes_eq-sym}
-use Rattle.office_refines.proofs.Unchanged.{same_classes, same_deposit_rows, same_due_rows, same_file_rows, same_hold_rows, pictured_by}
-use Rattle.office_refines.proofs.FirstPlaces.{first_places_last}
 
 -- whichever of the two is asked of the other
 among_either : (name : List ℕ) (names : List (List ℕ)) → list_any (λ other. bytes_eq other name) names ≡ list_any (bytes_eq name) names
@@ -35,9 +30,4 @@ module _ (h : History) (day : Date) (name : List ℕ) where
   pub collection_told : with_collection name (picture this_version h) ≡ picture this_version (with_changes h (if has_collection h name then [] else defined))
   collection_told =
       ap (λ b. if b then picture this_version h else with_new_collection name (picture this_version h)) (collection_there h name)
-      ∙ by (has_collection h name) refl
-    where
-      by : (b : Bool) → has_collection h name ≡ b
-          → (if b then picture this_version h else with_new_collection name (picture this_version h)) ≡ picture this_version (with_changes h (if b then [] else defined))
-      by true e = ap (picture this_version) (grown_by_none h)
-      by false e = new_told e
+      ∙ by_Bool (has_collection h name) (λ there. rw there (ap (picture this_version) (grown_by_none h))) (λ new. rw new (new_told new))

@@ -1,7 +1,5 @@
 -- What values of rows in their ranges come to.
-use Rattle.std.proofs.Common.{◌≡◌, ℕ, ℤ, pos, int_le, ◌&&◌, ◌||◌, not, ◌≤◌, ◌≤ℤ◌, true, List, [], ◌∷◌, Option, Some, None, IfSome, is_some, refl, sym, ap, ◌∙◌, inl, inr, rules}
-use Rattle.std.specs.Prelude.{bytes_eq, codes}
-use Rattle.office_refines.proofs.Common.{AllByRecursion, list_all, or_right, bytes_eq-Decides, action_of, action_text, max_rules, IsDayNumber, first_day_number, last_day_number, answer_if, IsName, is_name, or_stranger, Action, HoldRow, RuleRow, Tables, effect_number, IsActionText, IsHoldRow, IsPatternText, IsRuleRow, effect_of, is_action_pattern, is_pattern, is_day_or_none, is_over, is_rule, role_by, between, place_is}
+use Rattle.office_refines.proofs.Common.{◌≡◌, ℕ, ℤ, pos, int_le, ◌&&◌, ◌||◌, not, ◌≤◌, ◌≤ℤ◌, true, List, [], ◌∷◌, Option, Some, None, IfSome, is_some, refl, sym, ap, ◌∙◌, inl, inr, rules, bytes_eq, codes, AllByRecursion, list_all, or_right, bytes_eq-Decides, action_of, action_text, max_rules, IsDayNumber, first_day_number, last_day_number, answer_if, IsName, is_name, or_stranger, Action, HoldRow, RuleRow, Tables, effect_number, IsActionText, IsHoldRow, IsPatternText, IsRuleRow, effect_of, is_action_pattern, is_pattern, is_day_or_none, is_over, is_rule, role_by, between, place_is}
 use Rattle.office_core.specs.declared.rule.Effect.{Effect}
 use Rattle.office_core.specs.declared.rule.Effect.TheVariants.{Allow, Deny}
 use Rattle.office_core.specs.declared.action.Action.TheVariants as acts
@@ -22,16 +20,7 @@ effect_is number Deny e = ap effect_of (sym e)
 
 pub action_known : (action : Action) → is_some (action_of (action_text action)) ≡ true
 action_known acts.Class = refl
-action_known acts.Collection = refl
-action_known acts.Deposit = refl
-action_known acts.List = refl
-action_known acts.Record = refl
-action_known acts.Holds = refl
-action_known acts.Download = refl
-action_known acts.Audit = refl
-action_known acts.Hold = refl
-action_known acts.Release = refl
-action_known acts.Dispose = refl
+action_known _ = refl
 
 action_pattern_is : (text : List ℕ) → IsActionText text → is_action_pattern text ≡ true
 action_pattern_is text (inl star) = ap (λ b. b || is_some (action_of text)) ((bytes_eq-Decides text (codes "*")).1 star)

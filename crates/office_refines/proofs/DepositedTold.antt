@@ -1,11 +1,6 @@
 -- The rows of an office after a deposit was made.
-use Rattle.std.proofs.Common.{◌≡◌, ℕ, ◌+◌, pos, Bool, true, false, List, [], ◌∷◌, ◌++◌, map, filter, length, is_none, refl, sym, ap, ◌∙◌, arith, zero, suc, ◌<◌, Some, None, Less, subst, cond, append-nil, append_assoc, add-one}
-use Rattle.office_refines.proofs.Common.{option_map_or, int_cmp, length_push, flat_map, range_with_len, AllByRecursion, filter-append, Date, File, slice_get_last, put_by, Tables, DepositRow, FileRow, this_version, with_kept, put_last, item_numbered, numbers, History, Change, Deposit, Deposited, with_changes, deposits, due, live_holds, destruction_day, due_row, due_rows, row_by_gone, deposit_row, deposit_rows, file_row, file_rows, picture, deposits_grown, with_files}
+use Rattle.office_refines.proofs.FirstLemmas.{◌≡◌, ℕ, ◌+◌, pos, Bool, List, [], ◌∷◌, ◌++◌, map, filter, length, is_none, refl, sym, ap, ◌∙◌, arith, zero, suc, ◌<◌, Some, None, Less, subst, cond, append-nil, append_assoc, add-one, option_map_or, int_cmp, length_push, flat_map, range_with_len, AllByRecursion, filter-append, Date, File, slice_get_last, put_by, Tables, DepositRow, FileRow, this_version, with_deposit_and_due, put_last, item_numbered, numbers, History, Change, Deposit, Deposited, with_changes, deposits, due, live_holds, destruction_day, due_row, due_rows, row_by_gone, deposit_row, deposit_rows, file_row, file_rows, picture, deposits_grown, with_files, due_number, rows_from, rows_append, below, item_front, range_last, same_due_row, same_classes, same_collections, same_gone, same_hold_rows, pictured_by, due_rows_are, deposit_rows_are, by_Bool}
 use Rattle.std.proofs.lemmas.List.Concat.{flat_map-append}
-use Rattle.office_history.specs.Pictures.{due_number}
-use Rattle.office_refines.proofs.NumberedRows.{rows_from, rows_append, below, item_front, range_last}
-use Rattle.office_refines.proofs.Unchanged.{same_due_row, same_classes, same_collections, same_gone, same_hold_rows, pictured_by}
-use Rattle.office_refines.proofs.DepositsTold.{due_rows_are, deposit_rows_are}
 
 files_added : (n : ℕ) (files : List File) (t : Tables) → with_files (pos n) files t ≡ record t { files = t.files ++ map (file_row n) files }
 files_added n [] t = λ i. record t { files = sym (append-nil t.files) i }
@@ -17,13 +12,8 @@ files_added n (f ∷ files) t =
 same_gathered : {A : Type 0} (f g : ℕ → List A) (keeps : ℕ → Bool) (len start : ℕ) → ((n : ℕ) → n < start + len → f n ≡ g n) → flat_map f (filter keeps (range_with_len start len)) ≡ flat_map g (filter keeps (range_with_len start len))
 same_gathered f g keeps zero start same = refl
 same_gathered f g keeps (suc len) start same =
-    by (keeps start) (same start (omega arith)) (same_gathered f g keeps len (start + 1) (λ n low. same n (omega (arith, low))))
-  where
-    by : (b : Bool) → f start ≡ g start → flat_map f (filter keeps (range_with_len (start + 1) len)) ≡ flat_map g (filter keeps (range_with_len (start + 1) len))
-        → flat_map f (cond b (start ∷ filter keeps (range_with_len (start + 1) len)) (filter keeps (range_with_len (start + 1) len)))
-        ≡ flat_map g (cond b (start ∷ filter keeps (range_with_len (start + 1) len)) (filter keeps (range_with_len (start + 1) len)))
-    by true first rest = λ i. first i ++ rest i
-    by false first rest = rest
+    let rest = same_gathered f g keeps len (start + 1) (λ n low. same n (omega (arith, low))) in
+    by_Bool (keeps start) (λ kept. rw kept (λ i. same start (omega arith) i ++ rest i)) (λ gone. rw gone rest)
 
 module _ (h : History) (day : Date) (d : Deposit) where
   abbrev more : List Change
@@ -85,8 +75,8 @@ module _ (h : History) (day : Date) (d : Deposit) where
             ∙ ap (λ o. map (file_row next) (option_map_or (λ (f : Date × Deposit). f.1.bag) o []) ++ []) there
             ∙ append-nil (map (file_row next) d.bag)
 
-    pub deposited_told : with_files (pos next) d.bag (with_kept new_row (due_number (due h d)) (pos (length (live_holds h next d))) (picture this_version h)) ≡ picture this_version longer
+    pub deposited_told : with_files (pos next) d.bag (with_deposit_and_due new_row (due_number (due h d)) (pos (length (live_holds h next d))) (picture this_version h)) ≡ picture this_version longer
     deposited_told =
-        files_added next d.bag (with_kept new_row (due_number (due h d)) (pos (length (live_holds h next d))) (picture this_version h))
+        files_added next d.bag (with_deposit_and_due new_row (due_number (due h d)) (pos (length (live_holds h next d))) (picture this_version h))
         ∙ pictured_by h more refl (sym (same_classes h more refl (λ name. refl))) (sym (same_collections h more refl))
         deposits_told dues_deposited files_told (sym (same_hold_rows h more refl (λ k. refl)))

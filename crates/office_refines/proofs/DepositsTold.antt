@@ -1,7 +1,5 @@
 -- The rows of deposits and what is kept beside them, and the history that they picture.
-use Rattle.std.proofs.Common.{◌≡◌, ℕ, pos, option_map, refl, ap, ◌∙◌, ◌+◌, List, [], ◌∷◌, Some, ap₂, arith}
-use Rattle.std.specs.Prelude.{bytes_eq}
-use Rattle.office_refines.proofs.Common.{Date, DepositRow, DueRow, due_numbered, deposit_by, has_accession, beside, History, Deposit, deposits, accession_of, deposit_row, deposit_rows, due_row, due_rows, each}
+use Rattle.office_refines.proofs.Common.{◌≡◌, ℕ, pos, option_map, refl, ap, ◌∙◌, ◌+◌, List, [], ◌∷◌, Some, ap₂, arith, bytes_eq, Date, DepositRow, DueRow, due_numbered, deposit_by, has_accession, beside, History, Deposit, deposits, accession_of, deposit_row, deposit_rows, due_row, due_rows, each}
 use Rattle.office_rows.specs.Rows.{deposit_numbered}
 use Rattle.office_history.specs.Histories as histories
 use Rattle.office_refines.proofs.NumberedRows.{rows_from, rows_are, found_at, first_told}
@@ -22,8 +20,8 @@ due_told h n = ap (due_numbered (pos n)) (due_rows_are h) ∙ found_at (due_row 
 pub accession_told : (h : History) (accession : List ℕ) → option_map (λ (d : DepositRow). d.number) (deposit_by accession (deposit_rows h)) ≡ option_map pos (accession_of h accession)
 accession_told h accession =
     ap (λ ds. option_map (λ (d : DepositRow). d.number) (deposit_by accession ds)) (deposit_rows_are h)
-    ∙ first_told (deposit_row h) (has_accession accession) (λ d. bytes_eq d.1.accession accession) (λ row place. option_map (λ (d : DepositRow). d.number) row ≡ option_map pos (option_map (λ p. p + 1) place)) (deposits h)
-    (each (λ (d : Date × Deposit). (m : ℕ) → has_accession accession (deposit_row h m d) ≡ bytes_eq d.1.accession accession) (λ d m. refl) (deposits h))
+    ∙ first_told (deposit_row h) (has_accession accession) (λ d. bytes_eq d.1.description.accession accession) (λ row place. option_map (λ (d : DepositRow). d.number) row ≡ option_map pos (option_map (λ p. p + 1) place)) (deposits h)
+    (each (λ (d : Date × Deposit). (m : ℕ) → has_accession accession (deposit_row h m d) ≡ bytes_eq d.1.description.accession accession) (λ d m. refl) (deposits h))
     refl (λ i d there. let one : 1 + i ≡ i + 1 = omega arith in ap (λ k. Some (pos k)) one)
 
 module _ (h : History) where

@@ -1,12 +1,5 @@
 -- What is kept of deposits, after a longer history: due days and counts of holds.
-use Rattle.std.proofs.Common.{◌≡◌, ℕ, zero, suc, ◌+◌, ◌≤◌, ◌<◌, ◌&&◌, ℤ, pos, negsuc, ◌+ℤ◌, Bool, true, false, List, [], ◌∷◌, map, filter, length, Some, None, is_none, refl, sym, ap, ap₂, subst, ◌∙◌, arith, cond, if◌then◌else◌}
-use Rattle.office_refines.proofs.Common.{filter_map, range_with_len, option_map_or, int_eq, Decides-int_eq, ints, same_Some, slice_get_within, Date, DepositRow, DueRow, more_holds, is_due_of, item_numbered, last_said, numbers, History, Change, Deposit, Hold, Target, ReleasedHold, with_changes, deposit_in, deposits, holds, hold_numbered, release_day, is_live, reaches, covers, live_holds, years_in, deposit_row, deposit_rows, due_row, due_rows, different}
-use Rattle.office_history.specs.Histories.{deposit_numbered}
-use Rattle.office_history.specs.Pictures.{due_number}
-use Rattle.office_refines.proofs.NumberedRows.{alike, another, itself, rows_changed, rows_from, same_count}
-use Rattle.office_refines.proofs.DepositsTold.{deposit_rows_are, due_rows_are}
-use Rattle.office_refines.proofs.HoldsTold.{released_then}
-use Rattle.office_refines.proofs.Unchanged.{same_deposits, same_due, same_holds}
+use Rattle.office_refines.proofs.FirstLemmas.{◌≡◌, ℕ, zero, suc, ◌+◌, ◌≤◌, ◌<◌, ◌&&◌, ℤ, pos, negsuc, ◌+ℤ◌, Bool, true, false, List, [], ◌∷◌, map, filter, length, Some, None, is_none, refl, sym, ap, ap₂, subst, ◌∙◌, arith, cond, if◌then◌else◌, filter_map, range_with_len, option_map_or, int_eq, Decides-int_eq, ints, same_Some, slice_get_within, Date, DepositRow, DueRow, more_holds, is_due_of, item_numbered, last_said, numbers, History, Change, Deposit, Hold, Target, ReleasedHold, with_changes, deposit_in, deposits, holds, hold_numbered, release_day, is_live, reaches, covers, live_holds, years_in, deposit_row, deposit_rows, due_row, due_rows, different, deposit_numbered, due_number, alike, another, itself, rows_changed, rows_from, same_count, deposit_rows_are, due_rows_are, released_then, same_deposits, same_due, same_holds}
 
 -- ---- changes that take no deposit and define no class
 

@@ -1,8 +1,5 @@
 -- What is kept of deposits, after a hold was placed.
-use Rattle.std.proofs.Common.{◌≡◌, ℕ, suc, ◌+◌, ◌&&◌, pos, Bool, true, false, List, [], ◌∷◌, ◌++◌, filter, length, None, is_none, refl, ap, ◌∙◌, add-one, append-nil, arith, cond, if◌then◌else◌}
-use Rattle.office_refines.proofs.Common.{range_with_len, option_map_or, ints, length_push, filter-append, Date, slice_get_last, item_numbered, numbers, History, Change, Deposit, Hold, PlacedHold, with_changes, holds, release_day, reaches, live_holds, holds_grown}
-use Rattle.office_refines.proofs.NumberedRows.{item_front, range_last}
-use Rattle.office_refines.proofs.Unchanged.{same_released}
+use Rattle.office_refines.proofs.FirstLemmas.{◌≡◌, ℕ, suc, ◌+◌, ◌&&◌, pos, Bool, true, false, List, [], ◌∷◌, ◌++◌, filter, length, None, is_none, refl, ap, ◌∙◌, add-one, append-nil, arith, cond, if◌then◌else◌, range_with_len, option_map_or, ints, length_push, filter-append, Date, slice_get_last, item_numbered, numbers, History, Change, Deposit, Hold, PlacedHold, with_changes, holds, release_day, reaches, live_holds, holds_grown, item_front, range_last, same_released}
 use Rattle.office_refines.proofs.DuesGrown.{IsCounted, counted_if, same_passing}
 
 module _ (h : History) (day : Date) (hold : Hold) (not_yet : release_day h (1 + length (holds h)) ≡ None) where

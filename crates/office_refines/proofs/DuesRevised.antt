@@ -1,11 +1,6 @@
 -- The due days of the deposits of a class that is revised, set one after another.
-use Rattle.std.proofs.Common.{◌≡◌, ℕ, ◌+◌, ◌<◌, ℤ, pos, Bool, true, false, List, [], ◌∷◌, map, filter, length, Option, Some, None, bytes_eq, refl, sym, ap, ap₂, ◌∙◌, arith, cond, if◌then◌else◌}
-use Rattle.office_refines.proofs.Common.{AllByRecursion, int_eq, option_or, option_map_or, Date, epoch_day, ◌>>=◌, due_of, Never, DueRow, Tables, is_due_of, is_of_class, with_due, closing_of, History, Change, Deposit, DefinedClass, with_changes, years_of, deposits, due, deposit_row, due_row, due_rows, different, IsDeposited, with_due_days, day_back}
-use Rattle.office_core.specs.Retention.{due_number}
+use Rattle.office_refines.proofs.FirstLemmas.{◌≡◌, ℕ, ◌+◌, ◌<◌, ℤ, pos, Bool, true, false, List, [], ◌∷◌, map, filter, length, Option, Some, None, bytes_eq, refl, sym, ap, ap₂, ◌∙◌, arith, cond, if◌then◌else◌, AllByRecursion, int_eq, option_or, option_map_or, Date, epoch_day, ◌>>=◌, due_of, Never, DueRow, Tables, is_due_of, is_of_class, with_due, closing_of, History, Change, Deposit, DefinedClass, with_changes, years_of, deposits, due, deposit_row, due_row, due_rows, different, IsDeposited, with_due_days, day_back, due_number, due_rows_are, alike, bytes_eq-sym, rows_changed, rows_from, years_grown, same_deposits, same_live, by_Bool}
 use Rattle.office_core.proofs.DayLemmas.{day_number}
-use Rattle.office_refines.proofs.DepositsTold.{due_rows_are}
-use Rattle.office_refines.proofs.NumberedRows.{alike, bytes_eq-sym, rows_changed, rows_from}
-use Rattle.office_refines.proofs.Unchanged.{years_grown, same_deposits, same_live}
 
 -- ---- due days by numbers
 
@@ -33,17 +28,12 @@ module _ {A : Type 0} (those : A → Bool) (day : A → Option ℤ) where
     -- those of later numbers spare a row
     passed : (d : DueRow) (n : ℕ) → d.number ≡ pos n → (xs : List A) (start : ℕ) → n < start → (ds : List DueRow) → set_all (settings start xs) (d ∷ ds) ≡ d ∷ set_all (settings start xs) ds
     passed d n is [] start low ds = refl
-    passed d n is (x ∷ xs) start low ds = by (those x) (λ es. passed d n is xs (start + 1) (omega (arith, low)) es)
-      where
-        other : int_eq d.number (pos start) ≡ false
-        other = ap (λ k. int_eq k (pos start)) is ∙ different n start (λ same. omega (arith, same, low))
-
-        by : (b : Bool) → ((es : List DueRow) → set_all (settings (start + 1) xs) (d ∷ es) ≡ d ∷ set_all (settings (start + 1) xs) es)
-            → set_all (cond b ((pos start, day x) ∷ settings (start + 1) xs) (settings (start + 1) xs)) (d ∷ ds) ≡ d ∷ set_all (cond b ((pos start, day x) ∷ settings (start + 1) xs) (settings (start + 1) xs)) ds
-        by true rest =
-            ap (λ b. set_all (settings (start + 1) xs) ((if b then record d { due = day x } else d) ∷ map (set_one (pos start, day x)) ds)) other
-            ∙ rest (map (set_one (pos start, day x)) ds)
-        by false rest = rest ds
+    passed d n is (x ∷ xs) start low ds =
+        let rest = passed d n is xs (start + 1) (omega (arith, low)) in
+        let other : int_eq d.number (pos start) ≡ false = ap (λ k. int_eq k (pos start)) is ∙ different n start (λ same. omega (arith, same, low)) in
+        by_Bool (those x)
+        (λ passes. rw passes (ap (λ b. set_all (settings (start + 1) xs) ((if b then record d { due = day x } else d) ∷ map (set_one (pos start, day x)) ds)) other ∙ rest (map (set_one (pos start, day x)) ds)))
+        (λ fails. rw fails (rest ds))
 
     set_from : (xs : List A) (start : ℕ) → set_all (settings start xs) (rows_from before start xs) ≡ rows_from after start xs
     set_from [] start = refl
@@ -71,20 +61,20 @@ module _ {A : Type 0} (those : A → Bool) (day : A → Option ℤ) where
 module _ (name : List ℕ) (years : Option ℕ) where
   -- by the days on which they were closed
   abbrev pub days_from : ℕ → List (Date × Deposit) → List (ℤ × Option ℤ)
-  days_from = settings (λ (x : Date × Deposit). bytes_eq x.1.class name) (λ x. due_number (due_of x.1.closed years))
+  days_from = settings (λ (x : Date × Deposit). bytes_eq x.1.description.class name) (λ x. due_number (due_of x.1.description.closed years))
 
   -- each closing day is read, and the due day set
   pub days_set : (h : History) (xs : List (Date × Deposit)) (start : ℕ) (t : Tables) → AllByRecursion IsDeposited xs
       → with_due_days years (map closing_of (filter (is_of_class name) (rows_from (deposit_row h) start xs))) t ≡ Some (record t { dues = set_all (days_from start xs) t.dues })
   days_set h [] start t all = refl
-  days_set h (x ∷ xs) start t all = by (bytes_eq x.1.class name) (λ s. days_set h xs (start + 1) s all.1)
+  days_set h (x ∷ xs) start t all = by (bytes_eq x.1.description.class name) (λ s. days_set h xs (start + 1) s all.1)
     where
       by : (b : Bool) → ((s : Tables) → with_due_days years (map closing_of (filter (is_of_class name) (rows_from (deposit_row h) (start + 1) xs))) s ≡ Some (record s { dues = set_all (days_from (start + 1) xs) s.dues }))
           → with_due_days years (map closing_of (cond b (deposit_row h start x ∷ filter (is_of_class name) (rows_from (deposit_row h) (start + 1) xs)) (filter (is_of_class name) (rows_from (deposit_row h) (start + 1) xs)))) t
-          ≡ Some (record t { dues = set_all (cond b ((pos start, due_number (due_of x.1.closed years)) ∷ days_from (start + 1) xs) (days_from (start + 1) xs)) t.dues })
+          ≡ Some (record t { dues = set_all (cond b ((pos start, due_number (due_of x.1.description.closed years)) ∷ days_from (start + 1) xs) (days_from (start + 1) xs)) t.dues })
       by true rest =
-          (λ i. day_back (epoch_day x.1.closed) x.1.closed refl (day_number x.1.closed all.0.1.closed) i >>= λ closed. with_due_days years (map closing_of (filter (is_of_class name) (rows_from (deposit_row h) (start + 1) xs))) (with_due (pos start) (due_number (due_of closed years)) t))
-          ∙ rest (with_due (pos start) (due_number (due_of x.1.closed years)) t)
+          (λ i. day_back (epoch_day x.1.description.closed) x.1.description.closed refl (day_number x.1.description.closed all.0.1.closed) i >>= λ closed. with_due_days years (map closing_of (filter (is_of_class name) (rows_from (deposit_row h) (start + 1) xs))) (with_due (pos start) (due_number (due_of closed years)) t))
+          ∙ rest (with_due (pos start) (due_number (due_of x.1.description.closed years)) t)
       by false rest = rest t
 
 -- ---- a class is defined or revised
@@ -104,15 +94,15 @@ module _ (h : History) (day : Date) (name : List ℕ) (years : Option ℕ) where
   pub days_revised : set_all (days_from name years 1 (deposits h)) (due_rows h) ≡ due_rows longer
   days_revised =
       ap (set_all (days_from name years 1 (deposits h))) (due_rows_are h)
-      ∙ set_from (λ (x : Date × Deposit). bytes_eq x.1.class name) (λ x. due_number (due_of x.1.closed years)) (due_row h) (due_row longer) (λ m x. refl) sets keeps (deposits h) 1
+      ∙ set_from (λ (x : Date × Deposit). bytes_eq x.1.description.class name) (λ x. due_number (due_of x.1.description.closed years)) (due_row h) (due_row longer) (λ m x. refl) sets keeps (deposits h) 1
       ∙ ap (rows_from (due_row longer) 1) (sym (same_deposits h more refl))
       ∙ sym (due_rows_are longer)
     where
-      now : (x : Date × Deposit) (b : Bool) → bytes_eq x.1.class name ≡ b → years_of longer x.1.class ≡ option_or (if b then Some years else None) (years_of h x.1.class)
-      now x b e = years_grown h more x.1.class ∙ ap (λ c. option_or (if c then Some years else None) (years_of h x.1.class)) (bytes_eq-sym name x.1.class ∙ e)
+      now : (x : Date × Deposit) (b : Bool) → bytes_eq x.1.description.class name ≡ b → years_of longer x.1.description.class ≡ option_or (if b then Some years else None) (years_of h x.1.description.class)
+      now x b e = years_grown h more x.1.description.class ∙ ap (λ c. option_or (if c then Some years else None) (years_of h x.1.description.class)) (bytes_eq-sym name x.1.description.class ∙ e)
 
-      sets : (m : ℕ) (x : Date × Deposit) → bytes_eq x.1.class name ≡ true → record (due_row h m x) { due = due_number (due_of x.1.closed years) } ≡ due_row longer m x
-      sets m x e = row_then m x (due_number (due_of x.1.closed years)) (ap (λ o. due_number (option_map_or (due_of x.1.closed) o Never)) (sym (now x true e)))
+      sets : (m : ℕ) (x : Date × Deposit) → bytes_eq x.1.description.class name ≡ true → record (due_row h m x) { due = due_number (due_of x.1.description.closed years) } ≡ due_row longer m x
+      sets m x e = row_then m x (due_number (due_of x.1.description.closed years)) (ap (λ o. due_number (option_map_or (due_of x.1.description.closed) o Never)) (sym (now x true e)))
 
-      keeps : (m : ℕ) (x : Date × Deposit) → bytes_eq x.1.class name ≡ false → due_row h m x ≡ due_row longer m x
-      keeps m x e = row_then m x (due_number (due h x.1)) (ap (λ o. due_number (option_map_or (due_of x.1.closed) o Never)) (sym (now x false e)))
+      keeps : (m : ℕ) (x : Date × Deposit) → bytes_eq x.1.description.class name ≡ false → due_row h m x ≡ due_row longer m x
+      keeps m x e = row_then m x (due_number (due h x.1)) (ap (λ o. due_number (option_map_or (due_of x.1.description.closed) o Never)) (sym (now x false e)))

@@ -1,12 +1,8 @@
 -- The rows of files, and the bags of the history that they picture.
-use Rattle.std.proofs.Common.{◌≡◌, ℕ, Bool, true, false, List, [], ◌∷◌, ◌++◌, map, filter, refl, cond, zero, suc, ◌+◌, ◌<◌, pos, length, Some, None, option_map, is_none, sym, ap, ◌∙◌, arith, append-nil, true≢false, if◌then◌else◌}
-use Rattle.office_refines.proofs.Common.{flat_map, range_with_len, AllByRecursion, filter-append, option_map_or, nat_cmp, int_eq, is_gt, is_lt, slice_get_within, bytes_eq-Decides, Date, File, Ascends, content_at, Fits, is_good, sort_by, insert_sorted, FileRow, is_file_of, History, Deposit, deposits, destruction_day, files_of, file_row, file_rows, different, path_cmp}
+use Rattle.office_refines.proofs.FirstLemmas.{◌≡◌, ℕ, Bool, true, false, List, [], ◌∷◌, ◌++◌, map, filter, refl, cond, pos, Some, None, option_map, sym, ap, ◌∙◌, true≢false, if◌then◌else◌, flat_map, AllByRecursion, filter-append, option_map_or, nat_cmp, int_eq, is_gt, is_lt, bytes_eq-Decides, Date, File, Ascends, content_at, Fits, is_good, sort_by, insert_sorted, FileRow, is_file_of, History, Deposit, destruction_day, files_of, file_row, file_rows, path_cmp, Less, bytes_eq, find, deposit_numbered, false_from_ne_true, by_Bool, own, files_told, filter_map, Decides-int_eq}
 use Rattle.std.specs.declared.cmp.Ordering.{Ordering}
-use Rattle.std.specs.declared.cmp.Ordering.TheVariants.{Less, Equal, Greater}
+use Rattle.std.specs.declared.cmp.Ordering.TheVariants.{Equal, Greater}
 use Rattle.std.specs.Cmp.Lexicographic.{slice_cmp}
-use Rattle.std.specs.Prelude.{bytes_eq, find}
-use Rattle.office_history.specs.Histories.{deposit_numbered}
-use Rattle.office_refines.proofs.NumberedRows.{alike}
 
 -- ---- those of one deposit after those of another
 
@@ -22,43 +18,17 @@ filter_gathered keeps f false x xs = refl
 
 -- ---- which rows are a deposit's
 
-module _ (h : History) (n : ℕ) where
-  own : (files : List File) → filter (is_file_of (pos n)) (map (file_row n) files) ≡ map (file_row n) files
-  own [] = refl
-  own (f ∷ files) = λ i. cond (alike n n refl i) (file_row n f ∷ own files i) (own files i)
-
-  foreign : (m : ℕ) (files : List File) → int_eq (pos m) (pos n) ≡ false → filter (is_file_of (pos n)) (map (file_row m) files) ≡ []
-  foreign m [] e = refl
-  foreign m (f ∷ files) e = λ i. cond (e i) (file_row m f ∷ filter (is_file_of (pos n)) (map (file_row m) files)) (foreign m files e i)
-
-  nothing : (b : Bool) (xs : List FileRow) → xs ≡ [] → cond b xs [] ≡ []
-  nothing true xs e = e
-  nothing false xs e = refl
-
-  behind : (keeps : ℕ → Bool) (len start : ℕ) → n < start → filter (is_file_of (pos n)) (flat_map (file_rows_at h) (filter keeps (range_with_len start len))) ≡ []
-  behind keeps zero start low = refl
-  behind keeps (suc len) start low =
-      filter_gathered (is_file_of (pos n)) (file_rows_at h) (keeps start) start (filter keeps (range_with_len (start + 1) len))
-      ∙ (λ i. nothing (keeps start) (filter (is_file_of (pos n)) (file_rows_at h start)) (foreign start (files_of h start) (different start n (λ same. omega (arith, same, low)))) i ++ behind keeps len (start + 1) (omega (arith, low)) i)
-
-  at : (keeps : ℕ → Bool) (len start i : ℕ) → start + i ≡ n → i < len → keeps n ≡ true → filter (is_file_of (pos n)) (flat_map (file_rows_at h) (filter keeps (range_with_len start len))) ≡ file_rows_at h n
-  at keeps zero start i e low kept = absurd (omega (arith, low))
-  at keeps (suc len) start zero e low kept =
-      let same : start ≡ n = omega (arith, e) in
-      filter_gathered (is_file_of (pos n)) (file_rows_at h) (keeps start) start (filter keeps (range_with_len (start + 1) len))
-      ∙ (λ j. cond (keeps (same j)) (filter (is_file_of (pos n)) (file_rows_at h (same j))) [] ++ behind keeps len (start + 1) (omega (arith, same)) j)
-      ∙ (λ j. cond (kept j) (own (files_of h n) j) [] ++ [])
-      ∙ append-nil (file_rows_at h n)
-  at keeps (suc len) start (suc i) e low kept =
-      filter_gathered (is_file_of (pos n)) (file_rows_at h) (keeps start) start (filter keeps (range_with_len (start + 1) len))
-      ∙ (λ j. nothing (keeps start) (filter (is_file_of (pos n)) (file_rows_at h start)) (foreign start (files_of h start) (different start n (λ same. omega (arith, same, e)))) j ++ at keeps len (start + 1) i (omega (arith, e)) (omega (arith, low)) kept j)
+own_rows : (n : ℕ) (rows : List FileRow) → filter (is_file_of (pos n)) rows ≡ map (file_row n) (filter_map (own n) rows)
+own_rows n [] = refl
+own_rows n (r ∷ rows) =
+    by_Bool (int_eq r.deposit (pos n))
+    (λ mine. rw mine (λ i. record { deposit = (Decides-int_eq r.deposit (pos n)).0 mine i; path = r.path; content = r.content } ∷ own_rows n rows i))
+    (λ other. rw other (own_rows n rows))
 
 -- the rows of a kept deposit are those of its bag
 pub files_at : (h : History) (n : ℕ) (found : Date × Deposit) → deposit_numbered h n ≡ Some found → destruction_day h n ≡ None → filter (is_file_of (pos n)) (file_rows h) ≡ map (file_row n) found.1.bag
-files_at h zero found e kept = absurd cc
-files_at h (suc i) found e kept =
-    at h (suc i) (λ n. is_none (destruction_day h n)) (length (deposits h)) 1 i (omega arith) (slice_get_within (deposits h) i found e) (ap is_none kept)
-    ∙ ap (λ o. map (file_row (suc i)) (option_map_or (λ (f : Date × Deposit). f.1.bag) o [])) e
+files_at h n found e kept =
+    own_rows n (file_rows h) ∙ ap (map (file_row n)) (files_told h n found e kept) ∙ ap (λ o. map (file_row n) (option_map_or (λ (f : Date × Deposit). f.1.bag) o [])) e
 
 -- ---- their order
 
@@ -79,11 +49,7 @@ in_path_order n before (f ∷ files) up = ap (insert_sorted path_cmp (file_row n
 -- ---- bytes that are no path of a bag
 
 another : (path other : List ℕ) → is_good path ≡ true → is_good other ≡ false → bytes_eq path other ≡ false
-another path other good bad = by (bytes_eq path other) refl
-  where
-    by : (b : Bool) → bytes_eq path other ≡ b → b ≡ false
-    by true e = sym good ∙ ap is_good ((bytes_eq-Decides path other).0 e) ∙ bad
-    by false e = refl
+another path other good bad = false_from_ne_true (bytes_eq path other) (λ e. true≢false (sym good ∙ ap is_good ((bytes_eq-Decides path other).0 e) ∙ bad))
 
 -- no file of a bag has such a path
 pub no_file_there : (files : List File) → AllByRecursion Fits files → (path : List ℕ) → is_good path ≡ false → None ≡ content_at files path

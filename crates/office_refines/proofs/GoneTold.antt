@@ -1,10 +1,6 @@
 -- The rows of an office after a deposit was destroyed.
-use Rattle.std.proofs.Common.{◌≡◌, ℕ, ◌+◌, ◌==◌, pos, Bool, true, false, not, List, [], ◌∷◌, ◌++◌, length, map, filter, Some, None, is_none, refl, sym, ap, ◌∙◌, cond, if◌then◌else◌}
-use Rattle.office_refines.proofs.Common.{flat_map, option_or, option_map_or, int_eq, Date, epoch_day, File, DepositRow, FileRow, is_deposit, is_file_of, with_gone, without_files, this_version, item_numbered, numbers, History, Change, Destroyed, Deposit, with_changes, deposits, destruction_day, files_of, row_by_gone, deposit_row, deposit_rows, file_row, file_rows, picture, gone_grown, or_none}
+use Rattle.office_refines.proofs.FirstLemmas.{◌≡◌, ℕ, ◌+◌, ◌==◌, pos, Bool, true, false, not, List, [], ◌∷◌, ◌++◌, length, map, filter, Some, None, is_none, refl, sym, ap, ◌∙◌, cond, if◌then◌else◌, flat_map, option_or, option_map_or, int_eq, Date, epoch_day, File, DepositRow, FileRow, is_deposit, is_file_of, with_gone, without_files, this_version, item_numbered, numbers, History, Change, Destroyed, Deposit, with_changes, deposits, destruction_day, files_of, row_by_gone, deposit_row, deposit_rows, file_row, file_rows, picture, gone_grown, or_none, rows_from, rows_changed, itself, another, mark, deposit_rows_are, same_due_rows, same_classes, same_collections, same_deposits, same_hold_rows, pictured_by}
 use Rattle.office_refines.proofs.FilesTold.{file_rows_at, filter_gathered}
-use Rattle.office_refines.proofs.NumberedRows.{rows_from, rows_changed, itself, another, mark}
-use Rattle.office_refines.proofs.DepositsTold.{deposit_rows_are}
-use Rattle.office_refines.proofs.Unchanged.{same_due_rows, same_classes, same_collections, same_deposits, same_hold_rows, pictured_by}
 
 module _ (h : History) (day : Date) (n : ℕ) (kept_before : destruction_day h n ≡ None) where
   abbrev more : List Change

@@ -1,7 +1,5 @@
 -- The rows of holds, and the history that they picture.
-use Rattle.std.proofs.Common.{◌≡◌, ℕ, suc, ◌+◌, ℤ, pos, Bool, false, not, ◌&&◌, ◌||◌, List, [], ◌∷◌, length, map, filter, Option, Some, None, option_map, unwrap_or, slice_get, is_none, is_some, refl, sym, ap, subst, ◌∙◌, arith, ◌++◌, Less, ◌==◌, if◌then◌else◌}
-use Rattle.std.specs.Prelude.{bytes_eq}
-use Rattle.office_refines.proofs.Common.{option_map_or, option_or, int_eq, int_cmp, AllByRecursion, Date, epoch_day, HoldRow, is_live_over, this_version, DueRow, with_hold, put_by, is_hold, with_released, put_last, History, Hold, Target, OnDeposit, OnCollection, OnClass, Deposit, holds, release_day, reaches, covers, Change, PlacedHold, with_changes, ReleasedHold, held_deposit, held_collection, held_class, hold_row, hold_rows, picture, row_by_release, due_rows, IsLegal, holds_grown, none_released, or_none, released_grown}
+use Rattle.office_refines.proofs.Common.{◌≡◌, ℕ, suc, ◌+◌, ℤ, pos, Bool, false, not, ◌&&◌, ◌||◌, List, [], ◌∷◌, length, map, filter, Option, Some, None, option_map, unwrap_or, slice_get, is_none, is_some, refl, sym, ap, subst, ◌∙◌, arith, ◌++◌, Less, ◌==◌, if◌then◌else◌, bytes_eq, option_map_or, option_or, int_eq, int_cmp, AllByRecursion, Date, epoch_day, HoldRow, is_live_over, this_version, DueRow, with_hold, put_by, is_hold, with_released, put_last, History, Hold, Target, OnDeposit, OnCollection, OnClass, Deposit, holds, release_day, reaches, covers, Change, PlacedHold, with_changes, ReleasedHold, held_deposit, held_collection, held_class, hold_row, hold_rows, picture, row_by_release, due_rows, IsLegal, holds_grown, none_released, or_none, released_grown}
 use Rattle.std.proofs.Math.Bool.{or-false}
 use Rattle.office_rows.specs.Rows as rows
 use Rattle.office_history.specs.Histories as histories
@@ -19,17 +17,17 @@ live_same (Some day) = refl
 abbrev names_it : Target → ℕ → Deposit → Bool
 names_it target n deposit =
     unwrap_or (option_map (λ d. int_eq d (pos n)) (held_deposit target)) false
-    || (unwrap_or (option_map (λ c. bytes_eq c deposit.collection) (held_collection target)) false || unwrap_or (option_map (λ c. bytes_eq c deposit.class) (held_class target)) false)
+    || (unwrap_or (option_map (λ c. bytes_eq c deposit.description.collection) (held_collection target)) false || unwrap_or (option_map (λ c. bytes_eq c deposit.description.class) (held_class target)) false)
 
 reach_same : (target : Target) (n : ℕ) (deposit : Deposit) → names_it target n deposit ≡ reaches target n deposit
 reach_same (OnDeposit m) n deposit = or-false (int_eq (pos m) (pos n)) ∙ same_number m n
-reach_same (OnCollection name) n deposit = or-false (bytes_eq name deposit.collection)
+reach_same (OnCollection name) n deposit = or-false (bytes_eq name deposit.description.collection)
 reach_same (OnClass name) n deposit = refl
 
-pub live_told : (h : History) (n : ℕ) (deposit : Deposit) (version : ℤ) → rows.live_holds (pos n) deposit.collection deposit.class (picture version h) ≡ map pos (histories.live_holds h n deposit)
+pub live_told : (h : History) (n : ℕ) (deposit : Deposit) (version : ℤ) → rows.live_holds (pos n) deposit.description.collection deposit.description.class (picture version h) ≡ map pos (histories.live_holds h n deposit)
 live_told h n deposit version =
-    ap (λ (hs : List HoldRow). map (λ (r : HoldRow). r.number) (filter (is_live_over (pos n) deposit.collection deposit.class) hs)) (hold_rows_are h)
-    ∙ numbers_passing (hold_row h) (λ r. r.number) (λ m x. refl) (is_live_over (pos n) deposit.collection deposit.class) (λ k. histories.is_live h k && covers h k n deposit) (holds h) 1 (λ i x e. λ j.
+    ap (λ (hs : List HoldRow). map (λ (r : HoldRow). r.number) (filter (is_live_over (pos n) deposit.description.collection deposit.description.class) hs)) (hold_rows_are h)
+    ∙ numbers_passing (hold_row h) (λ r. r.number) (λ m x. refl) (is_live_over (pos n) deposit.description.collection deposit.description.class) (λ k. histories.is_live h k && covers h k n deposit) (holds h) 1 (λ i x e. λ j.
     live_same (release_day h (1 + i)) j && reached i x e j)
   where
     reached : (i : ℕ) (x : Date × Hold) → slice_get (holds h) i ≡ Some x → names_it x.1.target n deposit ≡ covers h (1 + i) n deposit

@@ -21,3 +21,4 @@ pub mod Refusals
 pub mod Answers
 pub mod Changes
 pub mod Serving
+pub mod FirstLemmas

@@ -1,19 +1,13 @@
 -- Which deposits are listed by the rows, and which are due: those that a disposal would destroy.
-use Rattle.std.proofs.Common.{◌≡◌, ℕ, suc, ◌+◌, ℤ, pos, Bool, true, false, not, ◌&&◌, List, [], ◌∷◌, length, map, filter, Option, Some, None, slice_get, is_none, refl, sym, ap, ap₂, subst, ◌∙◌, arith, cond, if◌then◌else◌}
-use Rattle.office_refines.proofs.Common.{int_lt, int_eq, int_cmp, is_le, is_ge, ints, filter_map, cons_option, Date, epoch_day, IsEpochDay, signed_arith, first_some, answer_if, Refusal, Dispose, On, Never, DepositRecord, map_back, DepositRow, DueRow, beside, least_number, is_by, is_disposable, this_version, PlaceRow, place_row, due_places, numbers, History, Deposit, deposits, destruction_day, due, live_holds, least_hold, picture, refusal_in, denial_at, held_refusal, not_due_refusal, disposal_refusals, denial, Wanted, different, Visit}
+use Rattle.office_refines.proofs.FirstLemmas.{◌≡◌, ℕ, suc, ◌+◌, ℤ, pos, Bool, true, not, ◌&&◌, List, [], ◌∷◌, length, map, filter, Option, Some, None, slice_get, is_none, refl, sym, ap, ap₂, subst, ◌∙◌, arith, cond, if◌then◌else◌, int_lt, int_eq, int_cmp, is_le, is_ge, ints, filter_map, cons_option, Date, epoch_day, IsEpochDay, signed_arith, first_some, answer_if, Refusal, Dispose, On, Never, DepositRecord, map_back, DepositRow, DueRow, beside, least_number, is_by, is_disposable, this_version, DisposableRow, disposable_row, disposable_rows, numbers, History, Deposit, deposits, destruction_day, due, live_holds, least_hold, picture, refusal_in, denial_at, held_refusal, not_due_refusal, disposal_refusals, denial, Wanted, different, Visit, deposit_numbered, due_number, gone_refusal, of_deposit, same_count, numbers_passing, live_same, both, rows_beside, by_Bool}
+use Rattle.office_history.specs.Refusals.{refusal}
+use Rattle.office_history.specs.Answers.{due_list, listed_record}
 use Rattle.jiff_core.proofs.DateLemmas.{epoch_day_range}
 use Rattle.sqlite_keyed.proofs.ListLemmas.{map-map, filter-map}
 use Rattle.office_core.specs.declared.facts.Verdict.TheVariants.{NotDue}
 use Rattle.office_core.specs.declared.retention.Due.{Due}
 use Rattle.office_core.specs.Verdicts as deciding
 use Rattle.office_core.specs.declared.action.Action.TheVariants as acts
-use Rattle.office_history.specs.Histories.{deposit_numbered}
-use Rattle.office_history.specs.Pictures.{due_number}
-use Rattle.office_history.specs.Refusals.{refusal, gone_refusal, of_deposit}
-use Rattle.office_history.specs.Answers.{due_list, listed_record}
-use Rattle.office_refines.proofs.NumberedRows.{same_count, numbers_passing}
-use Rattle.office_refines.proofs.HoldsTold.{live_same}
-use Rattle.office_refines.proofs.DepositsTold.{both, rows_beside}
 
 -- a deposit that is kept, whose disposal would be accepted
 abbrev is_due : History → Visit → ℕ → Bool
@@ -24,28 +18,20 @@ abbrev pub shown_record : History → Visit → Wanted → ℕ → Option Deposi
 shown_record h visit wanted n = if is_none (destruction_day h n) then listed_record h visit.day visit.caller wanted n else None
 
 -- the rules let the caller destroy what stands there
-abbrev pub may_destroy : History → Visit → PlaceRow → Bool
+abbrev pub may_destroy : History → Visit → DisposableRow → Bool
 may_destroy h visit place = is_none (denial h visit.day visit.caller acts.Dispose (Some place.collection) (Some place.class))
 
 -- ---- two tests in one
 
 filter_both : {A : Type 0} (first second : A → Bool) (xs : List A) → filter (λ n. first n && second n) xs ≡ filter second (filter first xs)
 filter_both first second [] = refl
-filter_both first second (x ∷ xs) = by (first x) (filter_both first second xs)
-  where
-    by : (b : Bool) → filter (λ n. first n && second n) xs ≡ filter second (filter first xs)
-        → cond (b && second x) (x ∷ filter (λ n. first n && second n) xs) (filter (λ n. first n && second n) xs) ≡ filter second (cond b (x ∷ filter first xs) (filter first xs))
-    by true rest = ap (λ ns. cond (second x) (x ∷ ns) ns) rest
-    by false rest = rest
+filter_both first second (x ∷ xs) =
+    let rest = filter_both first second xs in by_Bool (first x) (λ passes. rw passes (ap (λ ns. cond (second x) (x ∷ ns) ns) rest)) (λ fails. rw fails rest)
 
 pub told_of_those : {B : Type 0} (test : ℕ → Bool) (tell : ℕ → Option B) (xs : List ℕ) → filter_map (λ n. if test n then tell n else None) xs ≡ filter_map tell (filter test xs)
 told_of_those test tell [] = refl
-told_of_those test tell (x ∷ xs) = by (test x) (told_of_those test tell xs)
-  where
-    by : (b : Bool) → filter_map (λ n. if test n then tell n else None) xs ≡ filter_map tell (filter test xs)
-        → cons_option (if b then tell x else None) (filter_map (λ n. if test n then tell n else None) xs) ≡ filter_map tell (cond b (x ∷ filter test xs) (filter test xs))
-    by true rest = ap (cons_option (tell x)) rest
-    by false rest = rest
+told_of_those test tell (x ∷ xs) =
+    let rest = told_of_those test tell xs in by_Bool (test x) (λ passes. rw passes (ap (cons_option (tell x)) rest)) (λ fails. rw fails rest)
 
 -- ---- one deposit
 
@@ -69,12 +55,10 @@ from_the_least n range = grind (arith, ints, signed_arith, range.0)
 
 due_stands : (day : Date) (d : Due) → is_none (refusal_in (deciding.due_verdict day d)) ≡ is_by (epoch_day day) (due_number d)
 due_stands day Never = refl
-due_stands day (On date) = by (int_lt (epoch_day day) (epoch_day date)) ∙ day_before (epoch_day day) (epoch_day date)
-    ∙ ap (λ b. b && is_le (int_cmp (epoch_day date) (epoch_day day))) (sym (from_the_least (epoch_day date) (epoch_day_range date)))
-  where
-    by : (t : Bool) → is_none (refusal_in (answer_if t (NotDue date))) ≡ not t
-    by true = refl
-    by false = refl
+due_stands day (On date) =
+    let early = int_lt (epoch_day day) (epoch_day date) in
+    let told : is_none (refusal_in (answer_if early (NotDue date))) ≡ not early = by_Bool early (λ is. rw is refl) (λ is. rw is refl) in
+    told ∙ day_before (epoch_day day) (epoch_day date) ∙ ap (λ b. b && is_le (int_cmp (epoch_day date) (epoch_day day))) (sym (from_the_least (epoch_day date) (epoch_day_range date)))
 
 -- the four refusals of a disposal, in their order
 none_of_four : (a b c d : Option Refusal) → is_none (first_some (a ∷ b ∷ c ∷ d ∷ [])) ≡ (is_none a && (is_none b && (is_none c && is_none d)))
@@ -86,17 +70,11 @@ none_of_four None None None None = refl
 
 -- that it is kept is asked twice
 twice : (g a c d : Bool) → (g && (a && (g && (c && d)))) ≡ ((g && (c && d)) && a)
-twice true true true true = refl
-twice true true true false = refl
-twice true true false d = refl
-twice true false true true = refl
-twice true false true false = refl
-twice true false false d = refl
-twice false a c d = refl
+twice g a c d = grind arith
 
 module _ (h : History) (visit : Visit) where
   abbrev passes : DepositRow × DueRow → Bool
-  passes p = is_disposable (epoch_day visit.day) p && may_destroy h visit (place_row p)
+  passes p = is_disposable (epoch_day visit.day) p && may_destroy h visit (disposable_row p)
 
   disposable_is : (n : ℕ) (x : Date × Deposit) → is_disposable (epoch_day visit.day) (both h n x)
       ≡ (is_none (destruction_day h n) && (is_none (least_hold h n x.1) && is_none (not_due_refusal h visit.day x.1)))
@@ -112,24 +90,24 @@ module _ (h : History) (visit : Visit) where
 
   passing_is : (n : ℕ) (x : Date × Deposit) → deposit_numbered h n ≡ Some x → passes (both h n x) ≡ is_due h visit n
   passing_is n x there =
-      ap (λ b. b && may_destroy h visit (place_row (both h n x))) (disposable_is n x)
+      ap (λ b. b && may_destroy h visit (disposable_row (both h n x))) (disposable_is n x)
       ∙ sym (twice (is_none (destruction_day h n)) (is_none (denial_at h visit.day visit.caller acts.Dispose x.1)) (is_none (least_hold h n x.1)) (is_none (not_due_refusal h visit.day x.1)))
       ∙ ap (λ b. is_none (destruction_day h n) && b) (sym (refused_is n x there))
 
   -- ---- all of them
 
   -- the numbers of the disposable rows that the rules allow
-  due_told : map (λ (p : PlaceRow). p.number) (filter (may_destroy h visit) (due_places (epoch_day visit.day) (picture this_version h))) ≡ map pos (due_list h visit.day visit.caller)
+  due_told : map (λ (p : DisposableRow). p.number) (filter (may_destroy h visit) (disposable_rows (epoch_day visit.day) (picture this_version h))) ≡ map pos (due_list h visit.day visit.caller)
   due_told =
       let pairs = filter (is_disposable (epoch_day visit.day)) (beside (picture this_version h).deposits (picture this_version h).dues) in
       let number : DepositRow × DueRow → ℤ = λ p. p.0.number in
-      let moved : map (λ (p : PlaceRow). p.number) (filter (may_destroy h visit) (due_places (epoch_day visit.day) (picture this_version h))) ≡ map number (filter (λ p. may_destroy h visit (place_row p)) pairs) =
-      ap (map (λ (p : PlaceRow). p.number)) (filter-map (may_destroy h visit) place_row pairs) ∙ map-map (λ (p : PlaceRow). p.number) place_row (filter (λ p. may_destroy h visit (place_row p)) pairs) in
-      moved ∙ ap (map number) (sym (filter_both (is_disposable (epoch_day visit.day)) (λ p. may_destroy h visit (place_row p)) (beside (picture this_version h).deposits (picture this_version h).dues))) ∙ ap (λ ps. map number (filter passes ps)) (rows_beside h)
+      let moved : map (λ (p : DisposableRow). p.number) (filter (may_destroy h visit) (disposable_rows (epoch_day visit.day) (picture this_version h))) ≡ map number (filter (λ p. may_destroy h visit (disposable_row p)) pairs) =
+      ap (map (λ (p : DisposableRow). p.number)) (filter-map (may_destroy h visit) disposable_row pairs) ∙ map-map (λ (p : DisposableRow). p.number) disposable_row (filter (λ p. may_destroy h visit (disposable_row p)) pairs) in
+      moved ∙ ap (map number) (sym (filter_both (is_disposable (epoch_day visit.day)) (λ p. may_destroy h visit (disposable_row p)) (beside (picture this_version h).deposits (picture this_version h).dues))) ∙ ap (λ ps. map number (filter passes ps)) (rows_beside h)
       ∙ numbers_passing (both h) number (λ m x. refl) passes (is_due h visit) (deposits h) 1 (λ i x e.
       let one : suc i ≡ 1 + i = omega arith in passing_is (1 + i) x (subst (λ k. deposit_numbered h k ≡ Some x) one e))
       ∙ ap (map pos) (filter_both (λ n. is_none (destruction_day h n)) (λ n. is_none (refusal h visit.day visit.caller (Dispose n))) (numbers (length (deposits h))))
 
   -- so numbers that are those of the rows that a filter gives are the due list
-  pub due_list_is : (found : List ℕ) → map pos found ≡ map (λ (p : PlaceRow). p.number) (filter (may_destroy h visit) (due_places (epoch_day visit.day) (picture this_version h))) → found ≡ due_list h visit.day visit.caller
+  pub due_list_is : (found : List ℕ) → map pos found ≡ map (λ (p : DisposableRow). p.number) (filter (may_destroy h visit) (disposable_rows (epoch_day visit.day) (picture this_version h))) → found ≡ due_list h visit.day visit.caller
   due_list_is found e = map_back pos same_count found (due_list h visit.day visit.caller) (e ∙ due_told)

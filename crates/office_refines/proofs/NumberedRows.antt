@@ -1,7 +1,5 @@
 -- Rows that stand for the items of a list, numbered from 1.
-use Rattle.std.proofs.Common.{◌≡◌, ℕ, zero, suc, ◌+◌, ◌==◌, ◌<◌, ◌≤◌, ℤ, pos, Bool, true, false, List, [], ◌∷◌, ◌++◌, length, map, Option, Some, None, Less, option_map, unwrap_or, slice_get, rules, refl, sym, ap, ap₂, subst, ◌∙◌, arith, cond, if◌then◌else◌, true≢false, not, filter}
-use Rattle.office_refines.proofs.Common.{position, nat_lt, filter_map, range_with_len, AllByRecursion, position_or_len, option_or, int_cmp, int_eq, Decides-int_eq, Decides-eqb, nat_tests, slice_get_past, bytes_eq-Decides, last_number, item_numbered, numbers, or_none, told_at, same_list, different, there_is}
-use Rattle.std.specs.Prelude.{bytes_eq, find}
+use Rattle.office_refines.proofs.Common.{◌≡◌, ℕ, zero, suc, ◌+◌, ◌==◌, ◌<◌, ◌≤◌, ℤ, pos, Bool, true, false, List, [], ◌∷◌, ◌++◌, length, map, Option, Some, None, Less, option_map, unwrap_or, slice_get, rules, refl, sym, ap, ap₂, subst, ◌∙◌, arith, cond, if◌then◌else◌, not, filter, position, nat_lt, filter_map, range_with_len, AllByRecursion, position_or_len, option_or, int_cmp, int_eq, Decides-int_eq, Decides-eqb, nat_tests, slice_get_past, bytes_eq-Decides, last_number, item_numbered, numbers, or_none, told_at, same_list, different, there_is, bytes_eq, find, by_Bool}
 use Rattle.std.specs.Cmp.{int_cmp_is}
 use Rattle.std.proofs.lemmas.List.Folds.{find_at}
 
@@ -58,13 +56,13 @@ range_last start zero = let none : start ≡ start + 0 = omega arith in ap (λ k
 range_last start (suc len) = let one : start + 1 + len ≡ start + suc len = omega arith in ap (λ ks. start ∷ ks) (range_last (start + 1) len ∙ ap (λ k. range_with_len (start + 1) len ++ k ∷ []) one)
 
 module _ {A R : Type 0} (tell : ℕ → A → R) where
-  at_place : (xs : List A) (start i : ℕ) → slice_get (rows_from tell start xs) i ≡ option_map (tell (start + i)) (slice_get xs i)
-  at_place [] start i = refl
-  at_place (x ∷ xs) start zero = let none : start ≡ start + 0 = omega arith in ap (λ k. Some (tell k x)) none
-  at_place (x ∷ xs) start (suc i) = let one : start + 1 + i ≡ start + suc i = omega arith in at_place xs (start + 1) i ∙ ap (λ k. option_map (tell k) (slice_get xs i)) one
+  for_filing : (xs : List A) (start i : ℕ) → slice_get (rows_from tell start xs) i ≡ option_map (tell (start + i)) (slice_get xs i)
+  for_filing [] start i = refl
+  for_filing (x ∷ xs) start zero = let none : start ≡ start + 0 = omega arith in ap (λ k. Some (tell k x)) none
+  for_filing (x ∷ xs) start (suc i) = let one : start + 1 + i ≡ start + suc i = omega arith in for_filing xs (start + 1) i ∙ ap (λ k. option_map (tell k) (slice_get xs i)) one
 
   pub rows_are : (xs : List A) → filter_map (λ m. option_map (tell m) (item_numbered xs m)) (numbers (length xs)) ≡ rows_from tell 1 xs
-  rows_are xs = same_list _ _ (λ i. told_at xs tell (suc i) ∙ (let one : suc i ≡ 1 + i = omega arith in ap (λ k. option_map (tell k) (slice_get xs i)) one) ∙ sym (at_place xs 1 i))
+  rows_are xs = same_list _ _ (λ i. told_at xs tell (suc i) ∙ (let one : suc i ≡ 1 + i = omega arith in ap (λ k. option_map (tell k) (slice_get xs i)) one) ∙ sym (for_filing xs 1 i))
 
   pub rows_append : (xs ys : List A) (start : ℕ) → rows_from tell start (xs ++ ys) ≡ rows_from tell start xs ++ rows_from tell (start + length xs) ys
   rows_append [] ys start = let none : start ≡ start + 0 = omega arith in ap (λ k. rows_from tell k ys) none
@@ -139,11 +137,8 @@ module _ {D : Type 0} (before after : ℕ → Option D) (n : ℕ) (said : D) (no
 
   -- so a change of the row of that number makes the rows of what is said after
   pub mark : {A R : Type 0} (row : ℕ → Option D → A → R) (m : ℕ) (x : A) → (if int_eq (pos m) (pos n) then row m (Some said) x else row m (before m) x) ≡ row m (after m) x
-  mark row m x = by (int_eq (pos m) (pos n)) refl
-    where
-      by : (b : Bool) → int_eq (pos m) (pos n) ≡ b → (if int_eq (pos m) (pos n) then row m (Some said) x else row m (before m) x) ≡ row m (after m) x
-      by true e = ap (λ b. if b then row m (Some said) x else row m (before m) x) e ∙ ap (λ o. row m o x) (sym (itself m e).1)
-      by false e = ap (λ b. if b then row m (Some said) x else row m (before m) x) e ∙ ap (λ o. row m o x) (sym (another m e))
+  mark row m x =
+      by_Bool (int_eq (pos m) (pos n)) (λ same. rw same (ap (λ o. row m o x) (sym (itself m same).1))) (λ other. rw other (ap (λ o. row m o x) (sym (another m other))))
 
 -- ---- the numbers of those that pass
 
@@ -152,19 +147,10 @@ pub numbers_passing : {A R : Type 0} (tell : ℕ → A → R) (number : R → �
     → ((i : ℕ) (x : A) → slice_get xs i ≡ Some x → passes (tell (start + i) x) ≡ test (start + i)) → map number (filter passes (rows_from tell start xs)) ≡ map pos (filter test (range_with_len start (length xs)))
 numbers_passing tell number is passes test [] start same = refl
 numbers_passing tell number is passes test (x ∷ xs) start same =
-    by (passes (tell start x)) (test start) first
-    (numbers_passing tell number is passes test xs (start + 1) (λ i y e. let one : start + 1 + i ≡ start + suc i = omega arith in subst (λ k. passes (tell k y) ≡ test k) (sym one) (same (suc i) y e)))
-  where
-    first : passes (tell start x) ≡ test start
-    first = let none : start + 0 ≡ start = omega arith in subst (λ k. passes (tell k x) ≡ test k) none (same 0 x refl)
-
-    by : (p t : Bool) → p ≡ t → map number (filter passes (rows_from tell (start + 1) xs)) ≡ map pos (filter test (range_with_len (start + 1) (length xs)))
-        → map number (cond p (tell start x ∷ filter passes (rows_from tell (start + 1) xs)) (filter passes (rows_from tell (start + 1) xs)))
-        ≡ map pos (cond t (start ∷ filter test (range_with_len (start + 1) (length xs))) (filter test (range_with_len (start + 1) (length xs))))
-    by true true e rest = λ i. is start x i ∷ rest i
-    by false false e rest = rest
-    by true false e rest = absurd (true≢false e)
-    by false true e rest = absurd (true≢false (sym e))
+    let none : start + 0 ≡ start = omega arith in
+    let first : passes (tell start x) ≡ test start = subst (λ k. passes (tell k x) ≡ test k) none (same 0 x refl) in
+    let rest = numbers_passing tell number is passes test xs (start + 1) (λ i y e. let one : start + 1 + i ≡ start + suc i = omega arith in subst (λ k. passes (tell k y) ≡ test k) (sym one) (same (suc i) y e)) in
+    by_Bool (test start) (λ it. rw (first, it) (λ i. is start x i ∷ rest i)) (λ fails. rw (first, fails) rest)
 
 -- ---- the first that passes
 
@@ -180,7 +166,7 @@ module _ {A R : Type 0} (tell : ℕ → A → R) (passes : R → Bool) (test : A
   -- what is so of no row and no place, and of each row and its place, is so of those of the first that passes
   pub first_told : (P : Option R → Option ℕ → Type 0) (xs : List A) → PassAlike xs → P None None → ((i : ℕ) (x : A) → slice_get xs i ≡ Some x → P (Some (tell (1 + i) x)) (Some i)) → P (find passes (rows_from tell 1 xs)) (position test xs)
   first_told P xs same none each =
-      let first = find_at passes (rows_from tell 1 xs) ∙ ap (slice_get (rows_from tell 1 xs)) (same_place xs 1 same) ∙ at_place tell xs 1 (position_or_len test xs) in
+      let first = find_at passes (rows_from tell 1 xs) ∙ ap (slice_get (rows_from tell 1 xs)) (same_place xs 1 same) ∙ for_filing tell xs 1 (position_or_len test xs) in
       subst (λ o. P o (position test xs)) (sym first) (by (position_or_len test xs) (nat_lt (position_or_len test xs) (length xs)) refl)
     where
       by : (i : ℕ) (b : Bool) → nat_lt i (length xs) ≡ b → P (option_map (tell (1 + i)) (slice_get xs i)) (cond b (Some i) None)

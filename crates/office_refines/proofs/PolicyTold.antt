@@ -1,21 +1,12 @@
 -- The rows of callers, and those of a policy that is installed.
-use Rattle.std.proofs.Common.{◌≡◌, ℕ, ◌+◌, Bool, true, false, List, [], ◌∷◌, map, Some, option_map, refl, ap, ◌∙◌, cond, arith, ◌<◌, pos, Less, sym}
-use Rattle.std.specs.Prelude.{bytes_eq, find}
-use Rattle.office_refines.proofs.Common.{int_cmp, AllByRecursion, PolicyValue, or_stranger, Rule, CallerRow, RuleRow, caller_named, PlacesRise, with_policy, this_version, sorted_already, caller_row, rule_rows, office_row, picture, History, Change, Installed, with_changes, policy, policy_grown}
+use Rattle.office_refines.proofs.FirstLemmas.{◌≡◌, ℕ, ◌+◌, List, [], ◌∷◌, map, option_map, refl, ap, ◌∙◌, arith, ◌<◌, pos, Less, sym, bytes_eq, find, int_cmp, AllByRecursion, PolicyValue, or_stranger, Rule, CallerRow, RuleRow, caller_named, DisposableRowsRise, with_policy, this_version, sorted_already, caller_row, rule_rows, office_row, picture, History, Change, Installed, with_changes, policy, policy_grown, is_less, same_classes, same_collections, same_deposit_rows, same_due_rows, same_file_rows, same_hold_rows, by_Bool}
 use Rattle.office_core.specs.declared.caller.Caller.{Caller}
-use Rattle.office_refines.proofs.NumberedRows.{is_less}
-use Rattle.office_refines.proofs.Unchanged.{same_classes, same_collections, same_deposit_rows, same_due_rows, same_file_rows, same_hold_rows}
 
 -- ---- the role
 
 pub role_told : (name : List ℕ) (cs : List Caller) → or_stranger (option_map (λ (c : CallerRow). c.role) (caller_named name (map caller_row cs))) ≡ or_stranger (option_map (λ (c : Caller). c.role) (find (λ c. bytes_eq c.name name) cs))
 role_told name [] = refl
-role_told name (c ∷ cs) = by (bytes_eq c.name name) (role_told name cs)
-  where
-    by : (b : Bool) → or_stranger (option_map (λ (c : CallerRow). c.role) (caller_named name (map caller_row cs))) ≡ or_stranger (option_map (λ (c : Caller). c.role) (find (λ c. bytes_eq c.name name) cs))
-        → or_stranger (option_map (λ (c : CallerRow). c.role) (cond b (Some (caller_row c)) (caller_named name (map caller_row cs)))) ≡ or_stranger (option_map (λ (c : Caller). c.role) (cond b (Some c) (find (λ c. bytes_eq c.name name) cs)))
-    by true rest = refl
-    by false rest = rest
+role_told name (c ∷ cs) = by_Bool (bytes_eq c.name name) (λ same. rw same refl) (λ other. rw other (role_told name cs))
 
 -- ---- the places rise
 
@@ -23,7 +14,7 @@ all_above : (low place : ℕ) (rules : List Rule) → low < place → AllByRecur
 all_above low place [] less = tt
 all_above low place (rule ∷ rules) less = (is_less low place less, all_above low (place + 1) rules (omega (arith, less)))
 
-places_rise : (place : ℕ) (rules : List Rule) → PlacesRise (rule_rows place rules)
+places_rise : (place : ℕ) (rules : List Rule) → DisposableRowsRise (rule_rows place rules)
 places_rise place [] = tt
 places_rise place (rule ∷ rules) = (all_above place (place + 1) rules (omega arith), places_rise (place + 1) rules)
 

@@ -1,59 +1,42 @@
 -- What the rows of a legal history come to, forwards: since they are in their ranges, each is read, and what is read is the history's.
-use Rattle.std.proofs.Common.{◌≡◌, ℕ, ◌+◌, ◌<◌, ◌≤◌, ℤ, pos, Bool, true, false, List, [], ◌∷◌, length, Option, Some, None, ◌≤ℤ◌, ◌&&◌, IfSome, filter, find, map, slice_get, option_map, refl, sym, ap, subst, ◌∙◌, arith, if◌then◌else◌}
-use Rattle.office_refines.proofs.Common.{AllByRecursion, option_map_or, and_parts, same_Some, bytes_eq-Decides, Date, epoch_day, action_text, signed_arith, ◌>>=◌, answer_if, IsName, role_of, denial_verdict, Action, matching_rule, CallerRow, OfficeRow, RuleRow, Tables, caller_named, due_numbered, is_caller, this_version, History, Deposit, Hold, Target, OnDeposit, OnCollection, OnClass, covers, destruction_day, due, hold_numbered, holds, is_live, least_hold, live_holds, policy, reaches, numbers, live_hold, scope_of, deposit_row, due_row, held_class, held_collection, held_deposit, hold_row, picture, deciding_rule, deciding_rule_at, denial, facts_of, refusal_in, AreInRange, AreNumbered, IsCallerRow, IsDepositRow, IsDueRow, IsHoldRow, IsRuleRow, IsLegal, legal_policy, due_of_number, if_any, Days, Visit, are_released_on_days, counted_hold_in, days_of, decision_by, decision_for, denial_in, hold_by, or_empty, role_in, disposal_facts, day_back, days_back, due_back, between, counted_read, days_read, decision_is, facts_told, least_read, place_and_effect, rule_and_effect}
+use Rattle.office_refines.proofs.FirstLemmas.{◌≡◌, ℕ, ◌+◌, ◌<◌, ◌≤◌, ℤ, pos, Bool, true, List, [], ◌∷◌, length, Option, Some, None, ◌≤ℤ◌, ◌&&◌, IfSome, filter, find, map, slice_get, option_map, refl, sym, ap, subst, ◌∙◌, arith, AllByRecursion, and_parts, same_Some, bytes_eq-Decides, Date, epoch_day, action_text, signed_arith, ◌>>=◌, answer_if, IsName, role_of, denial_verdict, Action, matching_rule, CallerRow, OfficeRow, RuleRow, Tables, caller_named, due_numbered, is_caller, this_version, History, Deposit, Hold, Target, OnDeposit, covers, destruction_day, due, hold_numbered, holds, is_live, least_hold, live_holds, policy, numbers, live_hold, scope_of, deposit_row, due_row, held_class, held_collection, held_deposit, hold_row, picture, deciding_rule, deciding_rule_at, denial, facts_of, refusal_in, AreInRange, AreNumbered, IsCallerRow, IsDepositRow, IsDueRow, IsHoldRow, IsRuleRow, IsLegal, legal_policy, due_of_number, if_any, Days, Visit, are_released_on_days, counted_hold_in, days_of, decision_by, decision_for, denial_in, hold_by, or_empty, role_in, disposal_facts, day_back, days_back, due_back, between, counted_read, days_read, decision_is, facts_told, least_read, place_and_effect, rule_and_effect, deposit_numbered, due_number, effect_is, on_days, role_is, rule_is, deposit_told, due_told, hold_rows_are, live_told, found_at, same_count, was_placed, by_Bool, by_Option}
+use Rattle.office_by_rows.specs.Asking.{scope_of as scope_in}
 use Rattle.office_core.specs.declared.action.Action.TheVariants as acts
 use Rattle.office_core.specs.declared.rule.Decision.{Decision}
 use Rattle.office_core.proofs.OptionLemmas.{find_some}
 use Rattle.office_rows.specs.Rows as rows
-use Rattle.office_history.specs.Histories.{deposit_numbered}
-use Rattle.office_history.specs.Pictures.{due_number}
-use Rattle.office_by_rows.specs.Asking.{scope_of as scope_in}
-use Rattle.office_refines.proofs.ComesTo.{effect_is, on_days, role_is, rule_is}
-use Rattle.office_refines.proofs.DepositsTold.{deposit_told, due_told}
-use Rattle.office_refines.proofs.HoldsTold.{hold_rows_are, live_told}
-use Rattle.office_refines.proofs.NumberedRows.{found_at, same_count}
 use Rattle.office_refines.proofs.PolicyTold.{role_told}
 use Rattle.office_refines.proofs.RulesTold.{rule_told}
 
 -- what is so of all is so of what is found
 pub found_all : {A : Type 0} (P : A → Type 0) (p : A → Bool) (xs : List A) (x : A) → AllByRecursion P xs → find p xs ≡ Some x → P x
 found_all P p [] x all e = absurd cc
-found_all {A = A} P p (y ∷ xs) x all e = by (p y) e (λ rest. found_all P p xs x all.1 rest)
-  where
-    by : (b : Bool) → (if b then Some y else find p xs) ≡ Some x → (find p xs ≡ Some x → P x) → P x
-    by true e behind = subst P (same_Some _ _ e) all.0
-    by false e behind = behind e
+found_all P p (y ∷ xs) x all e = by_Bool (p y) (λ hit. subst P (same_Some _ _ (rw hit at e)) all.0) (λ miss. found_all P p xs x all.1 (rw miss at e))
 
 -- the number of a row that is found
 numbered_at : {A : Type 0} (number : A → ℤ) (p : A → Bool) (n : ℕ) (xs : List A) (x : A) → AreNumbered number n xs → find p xs ≡ Some x → (m : ℕ) × (number x ≡ pos m) × (n ≤ m) × (m < n + length xs)
 numbered_at number p n [] x all e = absurd cc
-numbered_at number p n (y ∷ xs) x all e = by (p y) e (λ rest. numbered_at number p (n + 1) xs x all.1 rest)
-  where
-    by : (b : Bool) → (if b then Some y else find p xs) ≡ Some x → (find p xs ≡ Some x → (m : ℕ) × (number x ≡ pos m) × (n + 1 ≤ m) × (m < n + 1 + length xs)) → (m : ℕ) × (number x ≡ pos m) × (n ≤ m) × (m < n + length (y ∷ xs))
-    by true e behind = (n, ap number (sym (same_Some _ _ e)) ∙ all.0, omega arith, omega arith)
-    by false e behind = let it = behind e in (it.0, it.1, omega (arith, it.2), omega (arith, it.3))
+numbered_at number p n (y ∷ xs) x all e =
+    by_Bool (p y) (λ hit. (n, ap number (sym (same_Some _ _ (rw hit at e))) ∙ all.0, omega arith, omega arith))
+    (λ miss. let it = numbered_at number p (n + 1) xs x all.1 (rw miss at e) in (it.0, it.1, omega (arith, it.2), omega (arith, it.3)))
 
 -- the first that is kept passes
 first_kept : {A : Type 0} (p : A → Bool) (xs : List A) (x : A) (more : List A) → filter p xs ≡ x ∷ more → p x ≡ true
 first_kept p [] x more e = absurd cc
-first_kept {A = A} p (y ∷ xs) x more e = by (p y) refl e (λ rest. first_kept p xs x more rest)
-  where
-    by : (b : Bool) → p y ≡ b → (if b then y ∷ filter p xs else filter p xs) ≡ x ∷ more → (filter p xs ≡ x ∷ more → p x ≡ true) → p x ≡ true
-    by true is e behind = let same : y ≡ x = cc in subst (λ z. p z ≡ true) same is
-    by false is e behind = behind e
+first_kept p (y ∷ xs) x more e =
+    by_Bool (p y) (λ passes. let kept = rw passes at e in let same : y ≡ x = cc in subst (λ z. p z ≡ true) same passes) (λ fails. first_kept p xs x more (rw fails at e))
 
 module _ (h : History) (legal : IsLegal h) (ranged : AreInRange this_version (picture this_version h)) where
   abbrev t : Tables
   t = picture this_version h
 
   pub role_exact : (caller : List ℕ) → role_in t caller ≡ Some (role_of (policy h) caller)
-  role_exact caller = role_is caller (option_map (λ (c : CallerRow). c.role) (caller_named caller t.callers)) (named (caller_named caller t.callers) refl) ∙ ap Some (role_told caller (policy h).callers)
+  role_exact caller = role_is caller (option_map (λ (c : CallerRow). c.role) (caller_named caller t.callers)) named ∙ ap Some (role_told caller (policy h).callers)
     where
-      named : (o : Option CallerRow) → caller_named caller t.callers ≡ o → IfSome (option_map (λ (c : CallerRow). c.role) o) (λ role. IsName caller × IsName role)
-      named None is = tt
-      named (Some row) is =
+      named : IfSome (option_map (λ (c : CallerRow). c.role) (caller_named caller t.callers)) (λ role. IsName caller × IsName role)
+      named = by_Option (caller_named caller t.callers) (λ none. rw none tt) (λ row is.
           let it = found_all IsCallerRow (is_caller caller) t.callers row ranged.callers is in
-          (subst IsName ((bytes_eq-Decides row.name caller).0 (find_some (is_caller caller) t.callers row is)) it.name, it.role)
+          rw is (subst IsName ((bytes_eq-Decides row.name caller).0 (find_some (is_caller caller) t.callers row is)) it.name, it.role))
 
   pub decision_exact : (day : Date) (caller : List ℕ) (action : Action) (collection class : Option (List ℕ)) → decision_for t (role_of (policy h) caller) day action collection class ≡ Some (deciding_rule h day caller action collection class)
   decision_exact day caller action collection class =
@@ -87,8 +70,7 @@ module _ (h : History) (legal : IsLegal h) (ranged : AreInRange this_version (pi
 
   scope_is : (target : Target) → scope_in (held_deposit target) (held_collection target) (held_class target) ≡ Some (scope_of target)
   scope_is (OnDeposit m) = refl
-  scope_is (OnCollection name) = refl
-  scope_is (OnClass name) = refl
+  scope_is _ = refl
 
   pub hold_told_exact : (k : ℕ) (found : Date × Hold) → hold_numbered h k ≡ Some found → hold_by (hold_row h k found) ≡ Some (live_hold k found)
   hold_told_exact k found there =
@@ -109,7 +91,7 @@ module _ (h : History) (legal : IsLegal h) (ranged : AreInRange this_version (pi
     row_there = deposit_told h n ∙ ap (option_map (deposit_row h n)) there
 
     abbrev days : Days
-    days = record { closed = found.1.closed; deposited = found.0; gone = destruction_day h n }
+    days = record { closed = found.1.description.closed; deposited = found.0; gone = destruction_day h n }
 
     pub days_exact : days_of (deposit_row h n found) ≡ Some days
     days_exact =
@@ -125,28 +107,20 @@ module _ (h : History) (legal : IsLegal h) (ranged : AreInRange this_version (pi
     pub due_exact : due_of_number (due_number (due h found.1)) ≡ Some (due h found.1)
     due_exact = due_back (due_number (due h found.1)) (due h found.1) refl kept_ranged.due
 
-    -- a live hold over it is there
-    hold_there : (k : ℕ) → covers h k n found.1 ≡ true → (hold : Date × Hold) × (hold_numbered h k ≡ Some hold)
-    hold_there k over = by (hold_numbered h k) refl over
-      where
-        by : (o : Option (Date × Hold)) → hold_numbered h k ≡ o → option_map_or (λ hold. reaches hold.1.target n found.1) o false ≡ true → (hold : Date × Hold) × (hold_numbered h k ≡ Some hold)
-        by None is e = absurd cc
-        by (Some hold) is e = (hold, is)
-
-    pub hold_exact : counted_hold_in t (pos (length (live_holds h n found.1))) n found.1.collection found.1.class ≡ Some (least_hold h n found.1)
+    pub hold_exact : counted_hold_in t (pos (length (live_holds h n found.1))) n found.1.description.collection found.1.description.class ≡ Some (least_hold h n found.1)
     hold_exact = by (live_holds h n found.1) refl
       where
-        by : (ks : List ℕ) → live_holds h n found.1 ≡ ks → counted_hold_in t (pos (length ks)) n found.1.collection found.1.class ≡ Some (slice_get ks 0)
+        by : (ks : List ℕ) → live_holds h n found.1 ≡ ks → counted_hold_in t (pos (length ks)) n found.1.description.collection found.1.description.class ≡ Some (slice_get ks 0)
         by [] is = refl
         by (k ∷ ks) is =
             let over = (and_parts (is_live h k) (covers h k n found.1) (first_kept (λ m. is_live h m && covers h m n found.1) (numbers (length (holds h))) k ks is)).1 in
-            let it = hold_there k over in
+            let it = was_placed h k n found.1 over in
             let most : pos (length (k ∷ ks)) ≤ℤ pos h.max_holds = subst (λ m. pos (length (k ∷ ks)) ≤ℤ m) (sym (ap first_limit ranged.one_office)) (subst (λ xs. pos (length xs) ≤ℤ ranged.office_row.max_holds) is kept_ranged.holds.1) in
-            counted_read n found.1.collection found.1.class t (pos (length (k ∷ ks))) k (λ none. omega (arith, signed_arith, none)) (ap Some (between (pos 1) (pos h.max_holds) (pos (length (k ∷ ks))) (omega (arith, signed_arith)) most))
-            (least_read n found.1.collection found.1.class t k (map pos ks) (live_hold k it.0) (released_days n found.1.collection found.1.class) (live_told h n found.1 this_version ∙ ap (map pos) is)
+            counted_read n found.1.description.collection found.1.description.class t (pos (length (k ∷ ks))) k (λ none. omega (arith, signed_arith, none)) (ap Some (between (pos 1) (pos h.max_holds) (pos (length (k ∷ ks))) (omega (arith, signed_arith)) most))
+            (least_read n found.1.description.collection found.1.description.class t k (map pos ks) (live_hold k it.0) (released_days n found.1.description.collection found.1.description.class) (live_told h n found.1 this_version ∙ ap (map pos) is)
             ((λ i. (hold_at k ∙ ap (option_map (hold_row h k)) it.1) i >>= λ row. hold_by row) ∙ hold_told_exact k it.0 it.1))
 
     pub facts_exact : (visit : Visit) → disposal_facts t (role_of (policy h) visit.caller) visit.day n (deposit_row h n found) ≡ Some (facts_of h visit.day visit.caller acts.Dispose n found.1)
     facts_exact visit =
         facts_told t (role_of (policy h) visit.caller) visit.day n (deposit_row h n found) days (deciding_rule_at h visit.day visit.caller acts.Dispose found.1) (due_row h n found) (due h found.1) (least_hold h n found.1)
-        days_exact (decision_exact visit.day visit.caller acts.Dispose (Some found.1.collection) (Some found.1.class)) kept_there due_exact hold_exact
+        days_exact (decision_exact visit.day visit.caller acts.Dispose (Some found.1.description.collection) (Some found.1.description.class)) kept_there due_exact hold_exact

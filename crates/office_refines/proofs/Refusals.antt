@@ -1,19 +1,15 @@
 -- The refusals that the rows of a legal history tell are those of the history, in the same order.
-use Rattle.std.proofs.Common.{◌≡◌, ℕ, ◌+◌, pos, Bool, not, List, [], ◌∷◌, ◌++◌, length, Option, Some, None, IsSome, map, is_none, is_some, option_map, refl, sym, ap, ◌∙◌, cond, if◌then◌else◌}
-use Rattle.office_refines.proofs.Common.{nat_le, Date, epoch_day, ◌>>=◌, answer_if, first_some, gone_verdict, verdict_of, Action, Refusal, Full, Gone, NoSuch, Released, Taken, Request, DefineClass, DefineCollection, Record, Holds, DownloadBag, DownloadFile, Audit, HoldDeposit, HoldCollection, HoldClass, Release, Dispose, DueList, ClassRow, DepositRow, HoldRow, Tables, class_named, this_version, History, Deposit, Hold, accession_of, deposits, destruction_day, hold_numbered, holds, release_day, years_of, Target, OnDeposit, OnCollection, OnClass, IsThere, class_rows, deposit_row, held_class, held_collection, held_deposit, hold_row, picture, years_back, HasTarget, placed_holds, refusal_in, refusal_of, AreInRange, IsLegal, count_of, day_numbered, if_any, Visit, denial_in, target_named, target_of, days_back, disposal_facts, disposal_refusal, full_after, full_of_deposits, full_of_holds, highest_deposit, highest_hold, hold_refusals, no_such_class, no_such_collection, number_after, of_hold, refusals, refusals_before_the_bag, refusals_of_the_bag, release_denial, release_denial_at, release_denial_on, released_refusal, taken_refusal, all_numbered, refusal_before}
+use Rattle.office_refines.proofs.FirstLemmas.{◌≡◌, ℕ, ◌+◌, pos, Bool, not, List, [], ◌∷◌, ◌++◌, length, Option, Some, None, map, is_none, is_some, option_map, refl, sym, ap, ◌∙◌, cond, if◌then◌else◌, nat_le, Date, epoch_day, ◌>>=◌, answer_if, first_some, gone_verdict, verdict_of, Action, Refusal, Full, Gone, NoSuch, Released, Request, DefineClass, DefineCollection, Record, Holds, DownloadBag, DownloadFile, Audit, HoldDeposit, HoldCollection, HoldClass, Release, Dispose, DueList, ClassRow, DepositRow, HoldRow, Tables, class_named, this_version, History, Deposit, Hold, accession_of, deposits, destruction_day, hold_numbered, holds, release_day, Target, OnDeposit, OnCollection, OnClass, IsThere, class_rows, deposit_row, held_class, held_collection, held_deposit, hold_row, picture, HasTarget, placed_holds, refusal_in, refusal_of, AreInRange, IsLegal, day_numbered, if_any, Visit, denial_in, target_named, target_of, days_back, disposal_facts, disposal_refusal, full_after, full_of_deposits, full_of_holds, highest_deposit, highest_hold, hold_refusals, no_such_class, no_such_collection, number_after, of_hold, refusals, refusals_before_the_bag, refusals_of_the_bag, release_denial, release_denial_on, released_refusal, taken_refusal, all_numbered, refusal_before, deposit_numbered, has_class, first_told, kept_refusals, refusal, accession_told, deposit_rows_are, deposit_told, hold_rows_are, is_nil, last_is, by_Option}
+use Rattle.office_core.specs.declared.request.Request.TheVariants.{Deposit as MakeDeposit, List as ListDeposits}
+use Rattle.office_by_rows.specs.Refusals.{gone_refusal, of_deposit}
+use Rattle.office_core.specs.Descriptions.{Description}
 use Rattle.office_core.specs.declared.action.Action.TheVariants as acts
 use Rattle.office_core.specs.declared.refusal.Subject.TheVariants as subjects
-use Rattle.office_core.specs.declared.request.Request.TheVariants.{Deposit as MakeDeposit, List as ListDeposits}
 use Rattle.office_rows.specs.Rows as rows
-use Rattle.office_history.specs.Histories.{deposit_numbered, has_class}
 use Rattle.office_history.specs.Refusals as histories
 use Rattle.office_history.proofs.VerdictLemmas.{disposal_verdict}
-use Rattle.office_by_rows.specs.Refusals.{first_told, gone_refusal, kept_refusals, of_deposit, refusal}
 use Rattle.office_refines.proofs.ClassesTold.{years_of_row}
 use Rattle.office_refines.proofs.CollectionsTold.{collection_there}
-use Rattle.office_refines.proofs.DepositsTold.{accession_told, deposit_rows_are, deposit_told}
-use Rattle.office_refines.proofs.HoldsTold.{hold_rows_are}
-use Rattle.office_refines.proofs.NumberedRows.{is_nil, last_is}
 use Rattle.office_refines.proofs.Readings.{days_exact, denial_exact, facts_exact, hold_at, hold_ranged, hold_told_exact, role_exact}
 
 -- ---- the first that stands
@@ -40,11 +36,7 @@ module _ (h : History) (legal : IsLegal h) (ranged : AreInRange this_version (pi
   -- ---- one refusal each
 
   pub class_exact : (name : List ℕ) → is_some (class_named name t.classes) ≡ has_class h name
-  class_exact name = by (class_named name (class_rows h)) (years_of_row h name)
-    where
-      by : (o : Option ClassRow) → option_map (λ (c : ClassRow). years_back c.years) o ≡ years_of h name → is_some o ≡ has_class h name
-      by None e = ap is_some e
-      by (Some c) e = ap is_some e
+  class_exact name = by_Option (class_named name (class_rows h)) (λ none. rw none (ap is_some (rw none at (years_of_row h name)))) (λ c is. rw is (ap is_some (rw is at (years_of_row h name))))
 
   no_collection : (name : List ℕ) → no_such_collection t name ≡ histories.no_such_collection h name
   no_collection name = ap (λ b. answer_if (not b) (NoSuch subjects.Collection)) (collection_there h name)
@@ -57,11 +49,7 @@ module _ (h : History) (legal : IsLegal h) (ranged : AreInRange this_version (pi
       by (Some c) b e = ap (λ b. answer_if (not b) (NoSuch subjects.Class)) e
 
   taken_exact : (accession : List ℕ) → taken_refusal t accession ≡ Some (histories.taken_refusal h accession)
-  taken_exact accession = ap (λ o. if_any count_of o >>= λ number. Some (option_map Taken number)) (accession_told h accession) ∙ by (accession_of h accession)
-    where
-      by : (o : Option ℕ) → (if_any count_of (option_map pos o) >>= λ number. Some (option_map Taken number)) ≡ Some (option_map Taken o)
-      by None = refl
-      by (Some n) = refl
+  taken_exact accession = rw (accession_told h accession) (by_Option (accession_of h accession) (λ none. rw none refl) (λ n is. rw is refl))
 
   pub highest_deposit_is : highest_deposit t ≡ cond (is_nil (deposits h)) None (Some (pos (length (deposits h))))
   highest_deposit_is = ap (rows.last_number (λ (row : DepositRow). row.number)) (deposit_rows_are h) ∙ last_is (deposit_row h) (λ row. row.number) (λ m x. refl) (deposits h)
@@ -87,15 +75,11 @@ module _ (h : History) (legal : IsLegal h) (ranged : AreInRange this_version (pi
   -- the refusals of its row, whichever they are, where there is one
   of_row : (n : ℕ) (these : DepositRow → List (Option (Option Refusal))) (others : Deposit → List (Option Refusal)) → ((found : Date × Deposit) → deposit_numbered h n ≡ Some found → these (deposit_row h n found) ≡ map Some (others found.1))
       → of_deposit (rows.deposit_numbered (pos n) t.deposits) these ≡ map Some (histories.of_deposit (deposit_numbered h n) others)
-  of_row n these others same = ap (λ o. of_deposit o these) (deposit_told h n) ∙ by (deposit_numbered h n) refl
-    where
-      by : (o : Option (Date × Deposit)) → deposit_numbered h n ≡ o → of_deposit (option_map (deposit_row h n) o) these ≡ map Some (histories.of_deposit o others)
-      by None there = refl
-      by (Some found) there = same found there
+  of_row n these others same = rw (deposit_told h n) (by_Option (deposit_numbered h n) (λ none. rw none refl) (λ found there. rw there (same found there)))
 
   kept_exact : (visit : Visit) (action : Action) (n : ℕ) → of_deposit (rows.deposit_numbered (pos n) t.deposits) (kept_refusals t visit action) ≡ map Some (histories.of_deposit (deposit_numbered h n) (histories.kept_refusals h visit.day visit.caller action n))
   kept_exact visit action n = of_row n (kept_refusals t visit action) (histories.kept_refusals h visit.day visit.caller action n) (λ found there. λ i.
-      denial_exact h legal ranged visit action (Some found.1.collection) (Some found.1.class) i ∷ gone_exact n found there i ∷ [])
+      denial_exact h legal ranged visit action (Some found.1.description.collection) (Some found.1.description.class) i ∷ gone_exact n found there i ∷ [])
 
   -- where there is no such deposit, the rows list after that refusal that the office is full, and the history lists no more
   hold_exact : (visit : Visit) (n : ℕ) → first_told (hold_refusals t visit (OnDeposit n)) ≡ Some (first_some (histories.of_deposit (deposit_numbered h n) (histories.hold_refusals h visit.day visit.caller n)))
@@ -112,16 +96,13 @@ module _ (h : History) (legal : IsLegal h) (ranged : AreInRange this_version (pi
     where
       by : (target : Target) → target_named (held_deposit target) (held_collection target) (held_class target) ≡ Some target
       by (OnDeposit n) = refl
-      by (OnCollection name) = refl
-      by (OnClass name) = refl
+      by _ = refl
 
   -- what a hold of a legal history names is there
   denial_on_exact : (visit : Visit) (target : Target) → IsThere h target → release_denial_on t visit target ≡ Some (histories.release_denial h visit.day visit.caller target)
-  denial_on_exact visit (OnDeposit n) there = ap (release_denial_at t visit) (deposit_told h n) ∙ by (deposit_numbered h n) refl there
-    where
-      by : (o : Option (Date × Deposit)) → deposit_numbered h n ≡ o → IsSome o → release_denial_at t visit (option_map (deposit_row h n) o) ≡ Some (histories.release_denial_of h visit.day visit.caller o)
-      by None is there = absurd cc
-      by (Some found) is there = denial_exact h legal ranged visit acts.Release (Some found.1.collection) (Some found.1.class)
+  denial_on_exact visit (OnDeposit n) there =
+      rw (deposit_told h n) (by_Option (deposit_numbered h n) (λ none. absurd (let wrong = rw none at there in cc))
+      (λ found is. rw is (denial_exact h legal ranged visit acts.Release (Some found.1.description.collection) (Some found.1.description.class))))
   denial_on_exact visit (OnCollection name) there =
       ap (λ b. if b then denial_in t visit acts.Release (Some name) None else None) (collection_there h name ∙ there)
       ∙ denial_exact h legal ranged visit acts.Release (Some name) None
@@ -164,10 +145,10 @@ module _ (h : History) (legal : IsLegal h) (ranged : AreInRange this_version (pi
 
   -- ---- any request
 
-  bag_exact : (visit : Visit) (collection class accession : List ℕ) (closed : Date) (bag : List ℕ) → refusals_before_the_bag t visit collection class accession closed ++ refusals_of_the_bag t bag ≡ map Some (histories.place_refusals h visit.day visit.caller collection class ++ histories.bag_refusals h visit.day accession closed bag)
-  bag_exact visit collection class accession closed bag = λ i.
-      Some (no_collection collection i) ∷ Some (no_class class i) ∷ denial_exact h legal ranged visit acts.Deposit (Some collection) (Some class) i
-      ∷ taken_exact accession i ∷ Some (histories.closed_ahead_refusal visit.day closed) ∷ Some (histories.bad_bag bag) ∷ deposits_full i ∷ []
+  bag_exact : (visit : Visit) (description : Description) (bag : List ℕ) → refusals_before_the_bag t visit description ++ refusals_of_the_bag t bag ≡ map Some (histories.filing_refusals h visit.day visit.caller description ++ histories.bag_refusals h visit.day description bag)
+  bag_exact visit description bag = λ i.
+      Some (no_collection description.collection i) ∷ Some (no_class description.class i) ∷ denial_exact h legal ranged visit acts.Deposit (Some description.collection) (Some description.class) i
+      ∷ taken_exact description.accession i ∷ Some (histories.closed_ahead_refusal visit.day description.closed) ∷ Some (histories.bad_bag bag) ∷ deposits_full i ∷ []
 
   -- the refusals of a request, but for a file's last, which is of its bag, and a disposal's, which are told at once
   list_exact : (visit : Visit) (request : Request) (others : List (Option Refusal)) → refusals t visit request ≡ map Some others → refusal t visit request ≡ Some (first_some others)
@@ -176,7 +157,7 @@ module _ (h : History) (legal : IsLegal h) (ranged : AreInRange this_version (pi
   pub refusal_exact : (visit : Visit) (request : Request) → refusal t visit request ≡ Some (refusal_before h visit.day visit.caller request)
   refusal_exact visit (DefineClass name years) = list_exact visit (DefineClass name years) (histories.refusals h visit.day visit.caller (DefineClass name years)) (λ i. denial_exact h legal ranged visit acts.Class None (Some name) i ∷ [])
   refusal_exact visit (DefineCollection name) = list_exact visit (DefineCollection name) (histories.refusals h visit.day visit.caller (DefineCollection name)) (λ i. denial_exact h legal ranged visit acts.Collection (Some name) None i ∷ [])
-  refusal_exact visit (MakeDeposit collection class accession closed bag) = list_exact visit (MakeDeposit collection class accession closed bag) (histories.refusals h visit.day visit.caller (MakeDeposit collection class accession closed bag)) (bag_exact visit collection class accession closed bag.now)
+  refusal_exact visit (MakeDeposit description bag) = list_exact visit (MakeDeposit description bag) (histories.refusals h visit.day visit.caller (MakeDeposit description bag)) (bag_exact visit description bag.now)
   refusal_exact visit (ListDeposits collection class) = refl
   refusal_exact visit (Record n) = list_exact visit (Record n) (histories.refusals h visit.day visit.caller (Record n)) (kept_exact visit acts.Record n)
   refusal_exact visit (Holds n) = list_exact visit (Holds n) (histories.refusals h visit.day visit.caller (Holds n)) (kept_exact visit acts.Holds n)

@@ -1,15 +1,12 @@
 -- The rule row of the least place that matches, and the rule that decides.
-use Rattle.std.proofs.Common.{◌≡◌, ℕ, ℤ, ◌+◌, codes, Bool, true, false, ◌||◌, ◌&&◌, List, [], ◌∷◌, Option, Some, None, is_some, option_map, slice_get, refl, ap, ◌∙◌, arith, pos, sym, true≢false}
-use Rattle.office_refines.proofs.Common.{option_and_then, int_cmp, is_ge, is_le, ints, bytes_eq-Decides, AllByRecursion, epoch_day, action_of, action_text, PolicyValue, IsPolicy, IsNamed, HasNames, Action, Rule, fits_attempt, fits_name, matching_rule, RuleRow, effect_number, pattern_text, action_pattern_text, rule_row, rule_rows, not_star, or_empty, place_and_effect, rule_and_effect}
-use Rattle.std.specs.Prelude.{bytes_eq, find, int_le}
+use Rattle.office_refines.proofs.FirstLemmas.{◌≡◌, ℕ, ℤ, ◌+◌, codes, Bool, false, ◌||◌, ◌&&◌, List, [], ◌∷◌, Option, Some, None, is_some, option_map, slice_get, refl, ap, ◌∙◌, arith, pos, sym, true≢false, option_and_then, int_cmp, is_ge, is_le, ints, bytes_eq-Decides, AllByRecursion, epoch_day, action_of, action_text, PolicyValue, IsPolicy, IsNamed, HasNames, Action, Rule, fits_attempt, fits_name, matching_rule, RuleRow, effect_number, pattern_text, action_pattern_text, rule_row, rule_rows, not_star, or_empty, place_and_effect, rule_and_effect, bytes_eq, find, int_le, action_known, PassAlike, rows_from, false_from_ne_true}
 use Rattle.office_core.specs.Rules as core
 use Rattle.office_core.specs.Rules.{Question, matches_name, matches_action, matches_optional, matches, decision_at, decision_of}
 use Rattle.office_core.specs.declared.rule.ActionPattern.{ActionPattern}
 use Rattle.office_core.specs.declared.rule.Pattern.{Pattern}
 use Rattle.office_core.specs.declared.rule.ActionPattern.TheVariants as action_patterns
 use Rattle.office_core.specs.declared.rule.Pattern.TheVariants as patterns
-use Rattle.office_refines.proofs.ComesTo.{action_known}
-use Rattle.office_refines.proofs.NumberedRows.{PassAlike, first_told, rows_from}
+use Rattle.office_refines.proofs.NumberedRows.{first_told}
 
 -- ---- the row of a rule fits what the rule matches
 
@@ -25,11 +22,8 @@ optional_fits (patterns.Named []) None named = absurd (true≢false (sym named))
 optional_fits (patterns.Named (b ∷ bs)) None named = ap (λ star. star || false) (not_star (b ∷ bs) named)
 
 action_not_star : (action : Action) → bytes_eq (action_text action) (codes "*") ≡ false
-action_not_star action = by (bytes_eq (action_text action) (codes "*")) refl
-  where
-    by : (b : Bool) → bytes_eq (action_text action) (codes "*") ≡ b → b ≡ false
-    by true e = absurd (true≢false (sym (action_known action) ∙ ap (λ text. is_some (action_of text)) ((bytes_eq-Decides (action_text action) (codes "*")).0 e)))
-    by false e = refl
+action_not_star action =
+    false_from_ne_true (bytes_eq (action_text action) (codes "*")) (λ e. true≢false (sym (action_known action) ∙ ap (λ text. is_some (action_of text)) ((bytes_eq-Decides (action_text action) (codes "*")).0 e)))
 
 action_fits : (pattern : ActionPattern) (action : Action) → fits_name (action_pattern_text pattern) (action_text action) ≡ matches_action pattern action
 action_fits action_patterns.Any action = refl
@@ -42,10 +36,7 @@ no_earlier : (a b : ℤ) → is_ge (int_cmp a b) ≡ int_le b a
 no_earlier a b = grind (arith, ints)
 
 five : (a b c d e : Bool) → (a && (b && (c && (d && e)))) ≡ (a && b && c && d && e)
-five true true true d e = refl
-five true true false d e = refl
-five true false c d e = refl
-five false b c d e = refl
+five a b c d e = grind arith
 
 abbrev fits : Question → RuleRow → Bool
 fits asked = fits_attempt (record {

@@ -1,12 +1,9 @@
 -- What a request does to the rows of a legal history, by what stands against it, what it answers, and the rows that it leaves.
-use Rattle.std.proofs.Common.{◌≡◌, ℕ, List, [], ◌∷◌, Option, Some, None, refl, sym, ap, ◌∙◌}
-use Rattle.office_refines.proofs.Common.{Date, ◌>>=◌, first_some, Answer, Refusal, Request, DownloadFile, Tables, this_version, allowed_change, answer_unless, changes_unless, History, Deposit, with_changes, picture, denial_at, file_refusals, no_file, grown_by_none, Visit, allowed_answer, allowed_rows, serve, serve_unless, refusal_before}
+use Rattle.office_refines.proofs.Common.{◌≡◌, ℕ, List, [], ◌∷◌, Option, Some, None, refl, sym, ap, ◌∙◌, Date, ◌>>=◌, first_some, Answer, Refusal, Request, DownloadFile, Tables, this_version, allowed_change, answer_unless, changes_unless, History, Deposit, with_changes, picture, denial_at, file_refusals, no_file, grown_by_none, Visit, allowed_answer, allowed_rows, serve, serve_unless, refusal_before, deposit_numbered, gone_refusal, of_deposit, refusal}
+use Rattle.office_history.specs.Refusals.{kept_refusals}
 use Rattle.office_core.specs.declared.action.Action.TheVariants as acts
 use Rattle.office_history.specs.Answers as histories
-use Rattle.office_history.specs.Histories.{deposit_numbered}
 use Rattle.office_history.specs.Refusals as refusing
-use Rattle.office_history.specs.Refusals.{gone_refusal, kept_refusals, of_deposit}
-use Rattle.office_by_rows.specs.Refusals.{refusal}
 
 module _ (h : History) (day : Date) (caller : List ℕ) where
   -- what stands against the download of a bag stands against that of each of its files

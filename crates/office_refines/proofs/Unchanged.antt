@@ -1,7 +1,5 @@
 -- Which rows a longer history leaves as they were.
-use Rattle.std.proofs.Common.{◌≡◌, ℕ, List, [], ◌∷◌, ◌++◌, map, filter, length, Option, None, option_map, unwrap_or, is_none, sym, ap, ◌∙◌, append-nil, pos, ◌&&◌, false}
-use Rattle.office_refines.proofs.Common.{filter_map, flat_map, option_or, option_map_or, filter_map-append, Date, due_of, Never, ClassRow, DepositRow, DueRow, FileRow, HoldRow, this_version, first_said, last_said, item_numbered, numbers, in_first_places, History, Change, Deposit, with_changes, installed_in, policy, years_in, years_of, collection_in, deposit_in, deposits, destroyed_in, destruction_day, due, hold_in, holds, released_in, release_day, reaches, live_holds, class_in, class_row, class_rows, caller_row, rule_rows, office_row, collection_rows, row_by_gone, deposit_rows, due_row, due_rows, file_row, file_rows, row_by_release, hold_rows, picture, or_none, last_said-append, policy_grown, gone_grown, released_grown}
-use Rattle.office_history.specs.Pictures.{due_number}
+use Rattle.office_refines.proofs.Common.{◌≡◌, ℕ, List, [], ◌∷◌, ◌++◌, map, filter, length, Option, None, option_map, unwrap_or, is_none, sym, ap, ◌∙◌, append-nil, pos, ◌&&◌, false, filter_map, flat_map, option_or, option_map_or, filter_map-append, Date, due_of, Never, ClassRow, DepositRow, DueRow, FileRow, HoldRow, this_version, first_said, last_said, item_numbered, numbers, in_first_places, History, Change, Deposit, with_changes, installed_in, policy, years_in, years_of, collection_in, deposit_in, deposits, destroyed_in, destruction_day, due, hold_in, holds, released_in, release_day, reaches, live_holds, class_in, class_row, class_rows, caller_row, rule_rows, office_row, collection_rows, row_by_gone, deposit_rows, due_row, due_rows, file_row, file_rows, row_by_release, hold_rows, picture, or_none, last_said-append, policy_grown, gone_grown, released_grown, due_number}
 
 module _ (h : History) (more : List Change) where
   -- what says of a history: none of `more`
@@ -20,7 +18,7 @@ module _ (h : History) (more : List Change) where
   same_years none name = years_grown name ∙ ap (λ o. option_or o (years_of h name)) (none name)
 
   pub same_due : ((name : List ℕ) → last_said (years_in name) more ≡ None) → (d : Deposit) → due h d ≡ due (with_changes h more) d
-  same_due none d = λ i. option_map_or (due_of d.closed) (sym (same_years none d.class) i) Never
+  same_due none d = λ i. option_map_or (due_of d.description.closed) (sym (same_years none d.description.class) i) Never
 
   pub same_classes : filter_map class_in more ≡ [] → ((name : List ℕ) → last_said (years_in name) more ≡ None) → class_rows (with_changes h more) ≡ class_rows h
   same_classes none silent = λ i. filter_map (λ name. option_map (class_row name) (same_years silent name i)) (in_first_places (same_said class_in none i))

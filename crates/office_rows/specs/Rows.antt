@@ -198,8 +198,8 @@ abbrev pub caller_named : List ℕ → List CallerRow → Option CallerRow
 caller_named name = find (is_caller name)
 
 -- the rules ascend by place
-abbrev pub PlacesRise : List RuleRow → Type 0
-PlacesRise = NumbersRise (λ r. r.place)
+abbrev pub DisposableRowsRise : List RuleRow → Type 0
+DisposableRowsRise = NumbersRise (λ r. r.place)
 
 -- these callers, and these rules sorted by place; and none of those before
 abbrev pub with_policy : List CallerRow → List RuleRow → Tables → Tables
@@ -254,16 +254,16 @@ abbrev pub deposit_by : List ℕ → List DepositRow → Option DepositRow
 deposit_by accession = find (has_accession accession)
 
 -- what is kept of the deposit of that number
-abbrev pub kept_row : ℤ → Option ℤ → ℤ → DueRow
-kept_row n due holds = record { number = n; due = due; holds = holds }
+abbrev pub new_due_row : ℤ → Option ℤ → ℤ → DueRow
+new_due_row n due holds = record { number = n; due = due; holds = holds }
 
 -- the deposit is in its place by number; it falls due on that day or never, and so many live holds cover it
-abbrev pub with_kept : DepositRow → Option ℤ → ℤ → Tables → Tables
-with_kept d due holds t = record t { deposits = put_by (λ e. e.number) d t.deposits; dues = put_by (λ e. e.number) (kept_row d.number due holds) t.dues }
+abbrev pub with_deposit_and_due : DepositRow → Option ℤ → ℤ → Tables → Tables
+with_deposit_and_due d due holds t = record t { deposits = put_by (λ e. e.number) d t.deposits; dues = put_by (λ e. e.number) (new_due_row d.number due holds) t.dues }
 
 -- the same of a deposit with no day and no hold
 abbrev pub with_deposit : DepositRow → Tables → Tables
-with_deposit d = with_kept d None (pos 0)
+with_deposit d = with_deposit_and_due d None (pos 0)
 
 -- the deposit was destroyed on that day
 abbrev pub with_gone : ℤ → ℤ → Tables → Tables
@@ -454,4 +454,4 @@ with_rules rs t = record t { rules = put_each_by (λ s. s.place) rs t.rules }
 pub record AreInOrder (t : Tables) : Type 0 where
   pub deposits : NumbersRise (λ d. d.number) t.deposits
   pub holds : NumbersRise (λ h. h.number) t.holds
-  pub rules : PlacesRise t.rules
+  pub rules : DisposableRowsRise t.rules

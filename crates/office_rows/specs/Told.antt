@@ -3,7 +3,7 @@ use Rattle.std.specs.Prelude.{ℕ, ℤ, List, Option, map, filter}
 use Rattle.office_rows.specs.Rows.{DepositRow, DueRow, Tables, of_class, beside, is_disposable}
 
 -- the collection and the class of a deposit, and when it falls due
-pub record PlaceRow : Type 0 where
+pub record DisposableRow : Type 0 where
   pub number : ℤ
   pub collection : List ℕ
   pub class : List ℕ
@@ -11,8 +11,8 @@ pub record PlaceRow : Type 0 where
   pub due : Option ℤ
 
 -- of a deposit's row beside what is kept of it
-abbrev pub place_row : DepositRow × DueRow → PlaceRow
-place_row p = record { number = p.0.number; collection = p.0.collection; class = p.0.class; due = p.1.due }
+abbrev pub disposable_row : DepositRow × DueRow → DisposableRow
+disposable_row p = record { number = p.0.number; collection = p.0.collection; class = p.0.class; due = p.1.due }
 
 -- when its records were closed
 pub record ClosingRow : Type 0 where
@@ -23,8 +23,8 @@ abbrev pub closing_of : DepositRow → ClosingRow
 closing_of d = record { number = d.number; closed = d.closed }
 
 -- the deposits that may be destroyed on that day, whatever the rules of the policy say
-abbrev pub due_places : ℤ → Tables → List PlaceRow
-due_places day t = map place_row (filter (is_disposable day) (beside t.deposits t.dues))
+abbrev pub disposable_rows : ℤ → Tables → List DisposableRow
+disposable_rows day t = map disposable_row (filter (is_disposable day) (beside t.deposits t.dues))
 
 abbrev pub class_closings : List ℕ → Tables → List ClosingRow
 class_closings class t = map closing_of (of_class class t)

@@ -1,5 +1,5 @@
 -- What the statements on classes do to the rows of an office.
-use Rattle.office_tables.proofs.FirstLemmas.{IsTrue, if◌then◌else◌, ◌≡◌, ◌≢◌, ◌⊎◌, ℕ, ℤ, List, [], ◌∷◌, map, filter, slice_get, option_map, true, Ok, refl, ap, subst, sym, ◌∙◌, inl, inr, arith, AllByRecursion, list_any, cases_Bool, map-append, Null, Int, Text, Row, column, id_in, edit_of, Chosen, Given, rowid, cast, cast_row, Database, State, Shown, Executes, Datatype, NotNull, Unique, Has, ids_of, all_has, all_from, int_is, is_int, int_at, bytes_at, inserts, updates, as_program, scan, shown_of, has_text, by_text, each_passes, few_named, typed_at, all_both, appended, decoded, counted, cast_null, cast_int, none_revised, keeps_rule, revises, office_schema, class_table, class_tree, Tables, ClassRow, is_class, class_named, with_years, with_new_class, with_class, IsOffice, Becomes, tables_of, class_in, HasSameContents, of_classes, idle, becomes, same_contents, years_text, revise_text, revised_columns, add_class_text, class_meanings, all_given, finds_named}
+use Rattle.office_tables.proofs.FirstLemmas.{IsTrue, if◌then◌else◌, ◌≡◌, ◌≢◌, ◌⊎◌, ℕ, ℤ, List, [], ◌∷◌, map, filter, slice_get, option_map, true, Ok, refl, ap, subst, sym, ◌∙◌, inl, inr, arith, AllByRecursion, list_any, cases_Bool, map-append, Null, Int, Text, Row, column, id_in, edit_of, Chosen, Given, rowid, cast, cast_row, Database, State, Shown, Executes, Datatype, NotNull, Unique, Has, ids_of, all_has, all_from, int_is, is_int, int_at, bytes_at, inserts, updates, as_program, scan, shown_of, has_text, by_text, each_passes, few_named, typed_at, all_both, appended, decoded, counted, cast_null, cast_int, none_revised, obeys_rule, revises, office_schema, class_table, class_tree, Tables, ClassRow, is_class, class_named, with_years, with_new_class, with_class, IsOffice, Becomes, tables_of, class_in, HasSameContents, of_classes, idle, becomes, same_contents, years_text, revise_text, revised_columns, add_class_text, class_meanings, all_given, finds_named}
 use Rattle.sqlite.specs.Kind.TheVariants as kind
 
 -- a stored class, as the rules of its table leave it
@@ -9,7 +9,7 @@ IsClassRow r = (column r 1 ≡ Text (bytes_at r 1)) × (column r 2 ≡ Int (int_
 pub class_rows : (db : Database) → IsOffice db → AllByRecursion IsClassRow (db.trees class_tree)
 class_rows db office = all_both (λ r typed present.
     let at = typed_at office_schema db.trees class_table r typed present in
-    (at 0 refl, at 1 refl)) (db.trees class_tree) (of_classes (keeps_rule office.whole Datatype)) (of_classes (keeps_rule office.whole NotNull))
+    (at 0 refl, at 1 refl)) (db.trees class_tree) (of_classes (obeys_rule office.whole Datatype)) (of_classes (obeys_rule office.whole NotNull))
 
 -- what is known of the table: each name is a text, and at most one class has it
 module _ (db : Database) (office : IsOffice db) (name : List ℕ) where
@@ -17,7 +17,7 @@ module _ (db : Database) (office : IsOffice db) (name : List ℕ) where
   named = all_from _ (db.trees class_tree) (λ r there. (all_has IsClassRow (db.trees class_tree) r (class_rows db office) there).0)
 
   few : (filter (has_text 1 name) (db.trees class_tree) ≡ []) ⊎ ((r : Row) × Has (db.trees class_tree) r × (has_text 1 name r ≡ true) × (filter (has_text 1 name) (db.trees class_tree) ≡ r ∷ []))
-  few = few_named 1 (db.trees class_tree) (of_classes office.whole.shaped) named (of_classes (keeps_rule office.whole Unique)) name
+  few = few_named 1 (db.trees class_tree) (of_classes office.whole.shaped) named (of_classes (obeys_rule office.whole Unique)) name
 
 -- ---- the years of a class
 

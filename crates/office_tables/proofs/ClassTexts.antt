@@ -1,6 +1,6 @@
 -- What the statements on classes and collections mean under the schema of an office.
 use Rattle.office_tables.proofs.Common.{ℕ, List, [], ◌∷◌, codes, refl, Term, col, Insert, Update, Values, understood, everything, scan, as_program, Asks, by_text, Means, office_schema, class_tree, collection_tree}
-use Rattle.office_tables.proofs.Columns.{only, all_given}
+use Rattle.office_contents.proofs.Columns.{only, all_given}
 
 abbrev pub years_text : List ℕ
 years_text = codes "SELECT years FROM class WHERE name = ?1"

@@ -1,13 +1,13 @@
 -- What the statements on collections do to the rows of an office.
-use Rattle.office_tables.proofs.FirstLemmas.{◌≡◌, ◌⊎◌, ℕ, List, [], ◌∷◌, map, filter, length, ◌==◌, not, true, Ok, refl, ap, sym, ◌∙◌, inl, inr, arith, cases_Bool, map-append, nat_tests, AllByRecursion, list_any, Null, Text, Row, column, edit_of, Chosen, cast_row, Database, State, Shown, Executes, Datatype, NotNull, Unique, Has, bytes_at, inserts, shown_of, finds_any, has_text, few_named, typed_at, all_both, appended, cast_null, keeps_rule, office_schema, collection_table, collection_tree, has_collection, is_collection, with_new_collection, IsOffice, Becomes, tables_of, collection_in, of_collections, idle, becomes, find_text, add_collection_text, class_meanings, only, all_given, reads_named}
+use Rattle.office_tables.proofs.FirstLemmas.{◌≡◌, ◌⊎◌, ℕ, List, [], ◌∷◌, map, filter, length, ◌==◌, not, true, Ok, refl, ap, sym, ◌∙◌, inl, inr, arith, cases_Bool, map-append, nat_tests, AllByRecursion, list_any, Null, Text, Row, column, edit_of, Chosen, cast_row, Database, State, Shown, Executes, Datatype, NotNull, Unique, Has, bytes_at, inserts, shown_of, finds_any, has_text, few_named, typed_at, all_both, appended, cast_null, obeys_rule, office_schema, collection_table, collection_tree, has_collection, is_collection, with_new_collection, IsOffice, Becomes, tables_of, collection_in, of_collections, idle, becomes, find_text, add_collection_text, class_meanings, only, all_given, reads_named}
 
 pub collection_rows : (db : Database) → IsOffice db → AllByRecursion (λ r. column r 1 ≡ Text (bytes_at r 1)) (db.trees collection_tree)
 collection_rows db office = all_both (λ r typed present. typed_at office_schema db.trees collection_table r typed present 0 refl)
-    (db.trees collection_tree) (of_collections (keeps_rule office.whole Datatype)) (of_collections (keeps_rule office.whole NotNull))
+    (db.trees collection_tree) (of_collections (obeys_rule office.whole Datatype)) (of_collections (obeys_rule office.whole NotNull))
 
 module _ (db : Database) (office : IsOffice db) (name : List ℕ) where
   few : (filter (has_text 1 name) (db.trees collection_tree) ≡ []) ⊎ ((r : Row) × Has (db.trees collection_tree) r × (has_text 1 name r ≡ true) × (filter (has_text 1 name) (db.trees collection_tree) ≡ r ∷ []))
-  few = few_named 1 (db.trees collection_tree) (of_collections office.whole.shaped) (collection_rows db office) (of_collections (keeps_rule office.whole Unique)) name
+  few = few_named 1 (db.trees collection_tree) (of_collections office.whole.shaped) (collection_rows db office) (of_collections (obeys_rule office.whole Unique)) name
 
 some_there : {X : Type 0} (xs : List X) → list_any (λ x. true) xs ≡ not (length xs == 0)
 some_there [] = refl

@@ -1,5 +1,5 @@
 -- The first row of an office whose tables were just made.
-use Rattle.office_tables.proofs.FirstLemmas.{IsTrue, ◌≡◌, ℕ, ℤ, pos, [], ◌∷◌, map, Ok, refl, sym, ap, subst₂, ◌∙◌, Null, Int, Row, edit_of, edited, Chosen, Trees, put_row, Database, cast_row, State, Executes, IsBlank, inserts, blank_shaped, inserted, cast_null, cast_int, office_schema, office_table, OfficeRow, Tables, empty_office, IsMade, IsMadeLeft, IsDistinct, int_at, AreKeptOnce, KeepsOnce, Becomes, tables_of, content_in, office_in, idle, becomes_shaped, same_contents, kept_once}
+use Rattle.office_tables.proofs.FirstLemmas.{IsTrue, ◌≡◌, ℕ, ℤ, pos, [], ◌∷◌, map, Ok, refl, sym, ap, subst₂, ◌∙◌, Null, Int, Row, edit_of, edited, Chosen, Trees, put_row, Database, cast_row, State, Executes, IsBlank, inserts, blank_shaped, inserted, cast_null, cast_int, office_schema, office_table, OfficeRow, Tables, empty_office, IsMade, IsMadeLeft, IsDistinct, int_at, AreStoredOnce, StoresOnce, Becomes, tables_of, content_in, office_in, idle, becomes_shaped, same_contents, stored_once}
 use Rattle.office_tables.proofs.CreateTexts.{start_text, start_terms, start_means}
 
 pub starts_office : (old new : State) (deposits holds : ℤ) (count : ℕ) → IsBlank office_schema old.now → Executes start_text (Int deposits ∷ Int holds ∷ []) old new (Ok count)
@@ -21,15 +21,15 @@ starts_office old new deposits holds count blank h =
     record { office = made.office; are = made.are ∙ rest }
 
 -- where no table has a row, contents are kept once
-blank_once : (db : Database) → IsBlank office_schema db → KeepsOnce db
+blank_once : (db : Database) → IsBlank office_schema db → StoresOnce db
 unfolding IsDistinct
 blank_once db blank =
     let e = blank.empty in
-    subst₂ AreKeptOnce (sym (ap (map (λ (row : Row). int_at row 3)) e.1.1.1.1.1.1.0)) (sym (ap (map content_in) e.1.1.1.1.1.1.1.1.0)) (record { once = tt; marked = tt; used = tt })
+    subst₂ AreStoredOnce (sym (ap (map (λ (row : Row). int_at row 3)) e.1.1.1.1.1.1.0)) (sym (ap (map content_in) e.1.1.1.1.1.1.1.1.0)) (record { once = tt; marked = tt; used = tt })
 
-pub starts_once : (old new : State) (deposits holds : ℤ) (count : ℕ) → IsBlank office_schema old.now → Executes start_text (Int deposits ∷ Int holds ∷ []) old new (Ok count) → KeepsOnce new.now
+pub starts_once : (old new : State) (deposits holds : ℤ) (count : ℕ) → IsBlank office_schema old.now → Executes start_text (Int deposits ∷ Int holds ∷ []) old new (Ok count) → StoresOnce new.now
 starts_once old new deposits holds count blank h =
-    kept_once (same_contents old new _ count _ (inserts start_text (Int deposits ∷ Int holds ∷ []) old new office_schema blank.schema_is 0 office_table refl idle start_terms 5 start_means refl refl count h) refl refl) (blank_once old.now blank)
+    stored_once (same_contents old new _ count _ (inserts start_text (Int deposits ∷ Int holds ∷ []) old new office_schema blank.schema_is 0 office_table refl idle start_terms 5 start_means refl refl count h) refl refl) (blank_once old.now blank)
 
 -- what a crash leaves of an office that was made and committed
 pub leaves_made : (end : State) (tables : Tables) → ((db : Trees) → IsTrue end.is_open → end.may_leave db → db ≡ end.committed.trees) → IsMade end tables

@@ -1,5 +1,5 @@
 -- What a deposit that was put tells of the rows before it: its number and its accession are new, and its collection and its class are there.
-use Rattle.office_tables.proofs.FirstLemmas.{◌≡◌, ℕ, ℤ, [], ◌∷◌, filter, slice_get, option_map, Bool, true, Option, Some, None, Ok, IsTrue, map, refl, sym, ap, ap₂, subst, ◌∙◌, AllByRecursion, list_any, and_parts, Null, Int, Text, Row, with_rowid, Chosen, or_null, bound_value, cast_row, State, Executes, Enforced, agree, Unique, ForeignKey, plain, joined, same_name, Has, all_has, all_from, found_by, bytes_itself, int_itself, Changes, inserts, put, was_put, none_before, IsText, has_text, one_named, any_parent, has_number, one_numbered, any_mapped, cast_null, cast_int, keeps_rule, office_schema, deposit_table, class_tree, collection_tree, deposit_tree, DepositRow, DueRow, put_by, kept_row, with_kept, is_deposit, deposit_numbered, has_accession, deposit_by, is_class, has_class, is_collection, has_collection, IsOffice, Becomes, tables_of, deposit_in, due_in, class_in, collection_in, IsAdded, of_deposits, idle, becomes, adding, placed, cast_maybe, maybe_back, put_text, put_terms, deposit_meanings}
+use Rattle.office_tables.proofs.FirstLemmas.{◌≡◌, ℕ, ℤ, [], ◌∷◌, filter, slice_get, option_map, Bool, true, Option, Some, None, Ok, IsTrue, map, refl, sym, ap, ap₂, subst, ◌∙◌, AllByRecursion, list_any, and_parts, Null, Int, Text, Row, with_rowid, Chosen, or_null, bound_value, cast_row, State, Executes, Enforced, agree, Unique, ForeignKey, plain, joined, same_name, Has, all_has, all_from, found_by, bytes_itself, int_itself, Changes, inserts, put, was_put, none_before, IsText, has_text, one_named, any_parent, has_number, one_numbered, any_mapped, cast_null, cast_int, obeys_rule, office_schema, deposit_table, class_tree, collection_tree, deposit_tree, DepositRow, DueRow, put_by, new_due_row, with_deposit_and_due, is_deposit, deposit_numbered, has_accession, deposit_by, is_class, has_class, is_collection, has_collection, IsOffice, Becomes, tables_of, deposit_in, due_in, class_in, collection_in, IsAdded, of_deposits, idle, becomes, adding, placed, cast_maybe, maybe_back, put_text, put_terms, deposit_meanings}
 use Rattle.office_tables.proofs.ClassLemmas.{IsClassRow, class_rows}
 use Rattle.office_tables.proofs.CollectionLemmas.{collection_rows}
 use Rattle.office_tables.proofs.DepositLemmas.{accessions}
@@ -28,13 +28,13 @@ module _ (old new : State) (d : DepositRow) (due : Option ℤ) (holds : ℤ) (ke
   cast_is : cast_row deposit_table row ≡ row
   cast_is = rw (cast_null, cast_int d.number, cast_int d.closed, cast_int d.deposited, cast_int d.files, cast_int d.bytes, cast_maybe due, cast_int holds) refl
 
-  after : Becomes new.now (with_kept d due holds (tables_of old.now))
+  after : Becomes new.now (with_deposit_and_due d due holds (tables_of old.now))
   after =
       let number : DepositRow → ℤ = λ e. e.number in
       let is_d : deposit_in row ≡ d = ap (λ g. record d { gone = g }) (sym kept) in
       let at_its_place = placed deposit_in number (λ r. refl) old new deposit_table row (stored_of d due holds) d.number count (adding deposit_table row old).news (of_deposits office.whole.shaped) cast_is change in
       let due_at_its_place = placed due_in (λ (e : DueRow). e.number) (λ r. refl) old new deposit_table row (stored_of d due holds) d.number count (adding deposit_table row old).news (of_deposits office.whole.shaped) cast_is change in
-      let is_due : due_in row ≡ kept_row d.number due holds = ap (λ day. kept_row d.number day holds) (maybe_back due []) in
+      let is_due : due_in row ≡ new_due_row d.number due holds = ap (λ day. new_due_row d.number day holds) (maybe_back due []) in
       becomes old new (adding deposit_table row old) count (adding deposit_table row old).news office (refl, (refl, tt)) change _ (ap₂ (λ rows dues. record (tables_of old.now) { deposits = rows; dues = dues })
       (at_its_place ∙ ap (λ x. put_by number x (map deposit_in (old.now.trees deposit_tree))) is_d)
       (due_at_its_place ∙ ap (λ x. put_by (λ (e : DueRow). e.number) x (map due_in (old.now.trees deposit_tree))) is_due))
@@ -53,7 +53,7 @@ module _ (old new : State) (d : DepositRow) (due : Option ℤ) (holds : ℤ) (ke
 
   accession_was_new : deposit_by d.accession (tables_of old.now).deposits ≡ None
   accession_was_new =
-      let alike = one_named 2 (new.now.trees deposit_tree) (of_deposits after.office.whole.shaped) (accessions new.now after.office) (of_deposits (keeps_rule after.office.whole Unique)) d.accession in
+      let alike = one_named 2 (new.now.trees deposit_tree) (of_deposits after.office.whole.shaped) (accessions new.now after.office) (of_deposits (obeys_rule after.office.whole Unique)) d.accession in
       let none = none_passes (has_text 2 d.accession) (bytes_itself d.accession) alike in
       found_by (has_accession d.accession) (has_text 2 d.accession) deposit_in (old.now.trees deposit_tree) (all_from _ (old.now.trees deposit_tree) (λ r there. refl)) ∙ ap (λ rs. option_map deposit_in (slice_get rs 0)) none
 
@@ -64,7 +64,7 @@ module _ (old new : State) (d : DepositRow) (due : Option ℤ) (holds : ℤ) (ke
   held : (list_any (λ parent. agree plain (1 ∷ []) parent (3 ∷ []) row) (new.now.trees collection_tree) ≡ true) × (list_any (λ parent. agree plain (1 ∷ []) parent (4 ∷ []) row) (new.now.trees class_tree) ≡ true)
   unfolding joined same_name
   held =
-      let each = all_has _ (new.now.trees deposit_tree) row (of_deposits (keeps_rule after.office.whole ForeignKey)) was_there in
+      let each = all_has _ (new.now.trees deposit_tree) row (of_deposits (obeys_rule after.office.whole ForeignKey)) was_there in
       let two = and_parts _ _ each in
       (two.0, (and_parts _ _ two.1).0)
 

@@ -1,5 +1,5 @@
 -- What the statements on deposits do to the rows of an office.
-use Rattle.office_tables.proofs.FirstLemmas.{IsTrue, Bool, false, ap₂, if◌then◌else◌, ◌≡◌, ◌⊎◌, ℕ, ℤ, List, [], ◌∷◌, map, filter, drop, slice_get, option_map, true, Some, Ok, refl, sym, ap, subst, ◌∙◌, AllByRecursion, Null, Int, Text, Row, column, id_in, edit_of, edited, Given, cast, cast_row, rowid, Database, State, Shown, Executes, is_int, Has, ids_of, all_has, all_from, int_is, Datatype, NotNull, Unique, int_at, bytes_at, shown_of, finds_one, has_text, few_named, by_number, has_number, each_numbered, few_numbered, typed_at, all_both, decoded, cast_null, cast_int, keeps_rule, revises, office_schema, deposit_table, deposit_tree, DepositRow, is_deposit, deposit_numbered, has_accession, deposit_by, last_number, with_gone, IsOffice, Becomes, tables_of, deposit_in, due_in, shown_deposit, of_deposits, idle, becomes, reads_last, keeps_int, deposit_with, deposit_text, accession_text, deposits_text, last_text, deposit_columns, gone_text, deposit_meanings, col, reads_named, reads_numbered, lists_all}
+use Rattle.office_tables.proofs.FirstLemmas.{IsTrue, Bool, false, ap₂, if◌then◌else◌, ◌≡◌, ◌⊎◌, ℕ, ℤ, List, [], ◌∷◌, map, filter, drop, slice_get, option_map, true, Some, Ok, refl, sym, ap, subst, ◌∙◌, AllByRecursion, Null, Int, Text, Row, column, id_in, edit_of, edited, Given, cast, cast_row, rowid, Database, State, Shown, Executes, is_int, Has, ids_of, all_has, all_from, int_is, Datatype, NotNull, Unique, int_at, bytes_at, shown_of, finds_one, has_text, few_named, by_number, has_number, each_numbered, few_numbered, typed_at, all_both, decoded, cast_null, cast_int, obeys_rule, revises, office_schema, deposit_table, deposit_tree, DepositRow, is_deposit, deposit_numbered, has_accession, deposit_by, last_number, with_gone, IsOffice, Becomes, tables_of, deposit_in, due_in, shown_deposit, of_deposits, idle, becomes, reads_last, keeps_int, deposit_with, deposit_text, accession_text, deposits_text, last_text, deposit_columns, gone_text, deposit_meanings, col, reads_named, reads_numbered, lists_all}
 use Rattle.sqlite.specs.Kind.TheVariants as kind
 
 -- a stored deposit, as the rules of its table leave it
@@ -12,7 +12,7 @@ IsDepositRow r = (column r 2 ≡ Text (bytes_at r 2)) × (column r 3 ≡ Text (b
 pub deposit_rows : (db : Database) → IsOffice db → AllByRecursion IsDepositRow (db.trees deposit_tree)
 deposit_rows db office = all_both (λ r t p.
     let at = typed_at office_schema db.trees deposit_table r t p in
-    (at 1 refl, at 2 refl, at 3 refl, at 4 refl, at 5 refl, at 6 refl, at 7 refl, at 9 refl, at 10 refl, at 8 refl)) (db.trees deposit_tree) (of_deposits (keeps_rule office.whole Datatype)) (of_deposits (keeps_rule office.whole NotNull))
+    (at 1 refl, at 2 refl, at 3 refl, at 4 refl, at 5 refl, at 6 refl, at 7 refl, at 9 refl, at 10 refl, at 8 refl)) (db.trees deposit_tree) (of_deposits (obeys_rule office.whole Datatype)) (of_deposits (obeys_rule office.whole NotNull))
 
 -- ---- one deposit
 
@@ -28,7 +28,7 @@ accessions db office = all_from _ (db.trees deposit_tree) (λ r there. (all_has 
 
 pub few_accessions : (db : Database) → IsOffice db → (accession : List ℕ)
     → (filter (has_text 2 accession) (db.trees deposit_tree) ≡ []) ⊎ ((r : Row) × Has (db.trees deposit_tree) r × (has_text 2 accession r ≡ true) × (filter (has_text 2 accession) (db.trees deposit_tree) ≡ r ∷ []))
-few_accessions db office accession = few_named 2 (db.trees deposit_tree) (of_deposits office.whole.shaped) (accessions db office) (of_deposits (keeps_rule office.whole Unique)) accession
+few_accessions db office accession = few_named 2 (db.trees deposit_tree) (of_deposits office.whole.shaped) (accessions db office) (of_deposits (obeys_rule office.whole Unique)) accession
 
 pub finds_accession : (old new : State) (accession : List ℕ) (rows : List Row) → IsOffice old.now → Shown accession_text (Text accession ∷ []) old new rows
     → (new.now ≡ old.now) × (deposit_by accession (tables_of old.now).deposits ≡ option_map shown_deposit (slice_get rows 0))

@@ -1,6 +1,6 @@
 -- What the statements on deposits mean under the schema of an office.
 use Rattle.office_tables.proofs.Common.{ℕ, List, [], ◌∷◌, ◌++◌, ◌+◌, take, drop, codes, refl, Null, Term, lit, col, Insert, Update, Values, understood, everything, scan, as_program, Asks, by_number, rising, by_text, Means, office_schema, deposit_tree}
-use Rattle.office_tables.proofs.LastRow.{AsksLast}
+use Rattle.office_contents.proofs.LastRow.{AsksLast}
 
 -- ---- reads
 

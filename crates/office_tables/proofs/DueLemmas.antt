@@ -2,7 +2,7 @@
 use Rattle.office_tables.proofs.FirstLemmas.{IsTrue, ◌≡◌, ◌⊎◌, ◌&&◌, codes, Float, is_nan, ℕ, ℤ, pos, ◌+ℤ◌, List, [], ◌∷◌, map, filter, slice_get, option_map, Bool, true, false, Option, Some, None, Ok, refl, sym, ap, ap₂, subst, subst₂, ◌∙◌, inl, inr, if◌then◌else◌, int_cmp, is_le, is_ge, Value, Null, Int, Real, Text, Row, column, value_cmp, id_in, edit_of, edited, Given, cast, cast_row, rowid, Binary, unary, binary, is_true, fits_i64, from_truth, State, Shown, Executes, Compare, Arith, Eq, Ge, Le, Add, TypeOf, int_or, real, cases_Bool, value_cmp-Int, is_int, Has, ids_of, all_has, all_from, mapped_has, int_is, ascending_weaker, map-map, filter-map, int_at, bytes_at, maybe_int, same_int, same_text, Update, scan, as_program, passes, shown_of, finds_one, Means, reads_same, reads_rising, IsText, has_text, by_text, each_passes, by_number, has_number, each_numbered, few_numbered, rising, decoded, cast_null, cast_int, map_alike, revises, rows_after, office_schema, deposit_table, deposit_tree, DepositRow, DueRow, is_due_of, is_due_between, due_numbered, with_due, with_dues, with_holds, beside, more_holds, with_more_holds, with_more_holds_class, is_within, is_of_class, of_class, least_number, is_by, is_disposable, IsOffice, Becomes, tables_of, deposit_in, due_in, of_deposits, idle, becomes, keeps_int, null_is, deposit_with, Term, lit, col, eval, reads_numbered, lists_all}
 use Rattle.sqlite.specs.Kind.TheVariants as kind
 use Rattle.sql_meaning.proofs.ManyRows.{revises_all}
-use Rattle.office_rows.specs.Told.{place_row, closing_of, due_places, class_closings}
+use Rattle.office_rows.specs.Told.{disposable_row, closing_of, disposable_rows, class_closings}
 use Rattle.office_tables.specs.Dues.{shown_due, shown_beside, shown_place, shown_closing, FitMore, dues_of}
 use Rattle.office_tables.proofs.DepositLemmas.{IsDepositRow, deposit_rows, kept_alike}
 use Rattle.office_tables.proofs.DueTexts.{class_rows_text, class_rows_columns, due_of_text, due_of_columns, set_due_text, clear_due_text, set_dues_text, clear_dues_text, by_numbers, set_holds_text, add_holds_text, more_columns, add_holds_class_text, due_rows_text, is_due, due_rows_columns, beside_text, due_meanings}
@@ -243,7 +243,7 @@ lists_beside old new rows office h =
     (read.0, beside_is (old.now.trees deposit_tree) ∙ read.1)
 
 pub lists_due : (old new : State) (day : ℤ) (rows : List Row) → IsOffice old.now → Shown due_rows_text (Int day ∷ Int least_number ∷ []) old new rows
-    → (new.now ≡ old.now) × (due_places day (tables_of old.now) ≡ map shown_place rows)
+    → (new.now ≡ old.now) × (disposable_rows day (tables_of old.now) ≡ map shown_place rows)
 lists_due old new day rows office h =
     let db = old.now.trees in
     let params : Row = Int day ∷ Int least_number ∷ [] in
@@ -253,9 +253,9 @@ lists_due old new day rows office h =
     let up = ascending_weaker _ _ (λ a b lower. rw lower refl) (db deposit_tree) (of_deposits office.whole.shaped).0 in
     let each = all_from (λ r. passes params is_due r ≡ keep r) (db deposit_tree) (λ r there. passes_due day r (all_has IsDepositRow (db deposit_tree) r typed there)) in
     let is = reads_rising office_schema due_rows_text deposit_tree is_due due_rows_columns rising due_meanings.asks_due_rows params old new office.whole.schema_is rows h keep each up in
-    let shows : map shown_place (map (shown_of params due_rows_columns) (filter keep (db deposit_tree))) ≡ map (λ r. place_row (pair r)) (filter keep (db deposit_tree)) = map-map shown_place (shown_of params due_rows_columns) (filter keep (db deposit_tree)) in
-    let places : due_places day (tables_of old.now) ≡ map (λ r. place_row (pair r)) (filter keep (db deposit_tree)) =
-    ap (λ ps. map place_row (filter (is_disposable day) ps)) (beside_is (db deposit_tree)) ∙ ap (map place_row) (filter-map (is_disposable day) pair (db deposit_tree)) ∙ map-map place_row pair (filter keep (db deposit_tree)) in (
+    let shows : map shown_place (map (shown_of params due_rows_columns) (filter keep (db deposit_tree))) ≡ map (λ r. disposable_row (pair r)) (filter keep (db deposit_tree)) = map-map shown_place (shown_of params due_rows_columns) (filter keep (db deposit_tree)) in
+    let places : disposable_rows day (tables_of old.now) ≡ map (λ r. disposable_row (pair r)) (filter keep (db deposit_tree)) =
+    ap (λ ps. map disposable_row (filter (is_disposable day) ps)) (beside_is (db deposit_tree)) ∙ ap (map disposable_row) (filter-map (is_disposable day) pair (db deposit_tree)) ∙ map-map disposable_row pair (filter keep (db deposit_tree)) in (
       reads_same office_schema due_rows_text deposit_tree is_due due_rows_columns rising due_meanings.asks_due_rows params old new office.whole.schema_is rows h,
       places ∙ sym shows ∙ ap (map shown_place) (sym is),
     )

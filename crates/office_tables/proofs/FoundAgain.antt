@@ -1,10 +1,10 @@
 -- The trees fix the schema, so a database that is found with the trees of another is that database.
-use Rattle.office_tables.proofs.Common.{◌≡◌, Some, None, List, IsTrue, refl, sym, ap, subst, ◌∙◌, State, IsLive, Trees, Row, Database, IsDatabase, Tables, version_of, this_version, Becomes, IsOffice, tables_of, IsLeft, KeepsTables, IsKnownAsOther, IsFailure, TableFault}
+use Rattle.office_tables.proofs.Common.{◌≡◌, Some, None, List, IsTrue, refl, sym, ap, subst, ◌∙◌, State, IsLive, Trees, Row, Database, IsDatabase, Tables, version_of, this_version, Becomes, IsOffice, tables_of, IsLeft, HasSameTables, IsKnownAsOther, IsFailure, TableFault}
 use Rattle.office_tables.specs.Found.{GoesOnAs}
 use Rattle.sqlite_trees.specs.Objects.{catalog_tree}
 use Rattle.sqlite_catalog.specs.Listing.{Lists}
 use Rattle.sqlite_catalog.proofs.ReadLemmas.{lists_once}
-use Rattle.office_tables.specs.declared.fault.TableFault.TheVariants.{NotAnOffice, OtherVersion, Memory, Store}
+use Rattle.office_contents.specs.declared.fault.TableFault.TheVariants.{NotAnOffice, OtherVersion, Memory, Store}
 
 -- databases that list the same objects have one schema
 pub same_schema : (a b : Database) → IsDatabase a → IsDatabase b → a.trees catalog_tree ≡ b.trees catalog_tree → a.schema ≡ b.schema
@@ -23,7 +23,7 @@ pub becomes_again : (tables : Tables) (left : Trees) (b : Database) → IsLeft t
 becomes_again tables left b h q e = found_again (λ d. Becomes d tables) h.0 b h.1.office.whole.listed q (e ∙ h.2) h.1
 
 -- a call that keeps what the connection shows keeps the database whose trees it holds
-pub goes_on : (old new : State) → IsLive old → KeepsTables old new → GoesOnAs old new
+pub goes_on : (old new : State) → IsLive old → HasSameTables old new → GoesOnAs old new
 goes_on old new live kept db whole left is_open =
     let same = kept is_open in
     (same.1 ∙ same_database old.now db (live same.0).0 whole left, same.2 ∙ sym same.1)

@@ -1,6 +1,6 @@
 -- The contents that are kept once are those of the files.
-use Rattle.office_tables.proofs.Common.{◌≡◌, ℕ, ℤ, pos, List, [], ◌∷◌, map, length, unwrap_or, option_map, Option, Some, refl, sym, ap, subst, ◌∙◌, AllByRecursion, Row, Database, Has, all_has, has_mapped, mapped_has, int_at, FileRow, ContentRow, bytes_under, content_numbered, file_tree, IsOffice, tables_of, contents_of, file_in, KeepsOnce, IsMarked, AreContents, references_of}
-use Rattle.office_tables.proofs.ContentLemmas.{fetched, content_there, used_held}
+use Rattle.office_tables.proofs.Common.{◌≡◌, ℕ, ℤ, pos, List, [], ◌∷◌, map, length, unwrap_or, option_map, Option, Some, refl, sym, ap, subst, ◌∙◌, AllByRecursion, Row, Database, Has, all_has, has_mapped, mapped_has, int_at, FileRow, ContentRow, bytes_under, content_numbered, file_tree, IsOffice, tables_of, contents_of, file_in, StoresOnce, IsMarked, AreContents, references_of}
+use Rattle.office_contents.proofs.ContentLemmas.{fetched, content_there, used_held}
 
 abbrev bytes_of : ContentRow → List ℕ
 bytes_of c = c.bytes
@@ -15,7 +15,7 @@ sizes_are : (cs : List ContentRow) → AllByRecursion IsMarked cs → map (λ (c
 sizes_are [] marked = refl
 sizes_are (c ∷ cs) marked = rw (marked.0.size) (ap (λ more. pos (length c.bytes) ∷ more) (sizes_are cs marked.1))
 
-pub are_contents : (db : Database) → IsOffice db → KeepsOnce db → AreContents (map content_of (tables_of db).files) (contents_of db)
+pub are_contents : (db : Database) → IsOffice db → StoresOnce db → AreContents (map content_of (tables_of db).files) (contents_of db)
 are_contents db office kept =
     let cs = contents_of db in
     let decode : Row → FileRow = file_in cs in

@@ -1,5 +1,5 @@
 -- What the statements on holds do to the rows of an office.
-use Rattle.office_tables.proofs.FirstLemmas.{arith, ◌+◌, slice_index_or, IsTrue, ◌≡◌, ◌⊎◌, ◌&&◌, ◌||◌, not, unwrap_or, bytes_eq, ℕ, ℤ, pos, Bor, Bool, true, false, List, [], ◌∷◌, ◌++◌, map, filter, slice_get, option_map, Option, Some, None, Ok, Less, refl, ap, ap₂, subst, subst₂, sym, ◌∙◌, inl, inr, AllByRecursion, int_eq, int_cmp, nat_cmp, is_eq, is_lt, ints, IsPermutation, IsSorted, cases_Bool, map-append, int_cmp_total, is_eq-slice_cmp, IsPermutation-refl, IsPermutation-sym, IsPermutation-trans, IsPermutation-append_left, IsPermutation-cons, IsPermutation-middle, IsPermutation-map, Value, Null, Int, Text, Row, column, bytes, value_cmp, or_null, bound_value, id_in, edit_of, with_rowid, Chosen, Given, rowid, IsAscending, Term, Database, cast, cast_row, State, Shown, Executes, Datatype, NotNull, value_cmp-Int, value_cmp-Text, value_cmp-apart, Binary, binary, unary, is_true, truth, from_truth, not3, Compare, Is, Not, Eq, ascending_weaker, ascending-map, ascending-filter, map-map, filter-map, sorted_unique, IsSorted-map, same_text, same_int, found_by, int_itself, ids_of, all_has, all_from, int_is, is_int, IsShaped, int_at, bytes_at, maybe_int, maybe_bytes, maybe_bytes_at, Changes, inserts, none_before, Enforced, passes, shown_of, finds_one, Asks, reads_same, reads_rising, by_number, has_number, each_numbered, few_numbered, one_numbered, rising, typed_at, all_both, decoded, cast_null, cast_int, keeps_rule, revises, office_schema, hold_4_table, hold_tree, HoldRow, put_by, is_hold, hold_numbered, last_number, with_hold, with_released, is_live, holds_deposit, holds_collection, holds_class, is_live_on, is_live_within, is_live_of_class, is_live_over, live_holds, IsOffice, Becomes, tables_of, hold_in, of_holds, idle, becomes, AreOthers, adding, placed, reads_last, cast_maybe, keeps_int, keeps_text, maybe_back, null_is, only, reads_numbered}
+use Rattle.office_tables.proofs.FirstLemmas.{arith, ◌+◌, slice_index_or, IsTrue, ◌≡◌, ◌⊎◌, ◌&&◌, ◌||◌, not, unwrap_or, bytes_eq, ℕ, ℤ, pos, Bor, Bool, true, false, List, [], ◌∷◌, ◌++◌, map, filter, slice_get, option_map, Option, Some, None, Ok, Less, refl, ap, ap₂, subst, subst₂, sym, ◌∙◌, inl, inr, AllByRecursion, int_eq, int_cmp, nat_cmp, is_eq, is_lt, ints, IsPermutation, IsSorted, cases_Bool, map-append, int_cmp_total, is_eq-slice_cmp, IsPermutation-refl, IsPermutation-sym, IsPermutation-trans, IsPermutation-append_left, IsPermutation-cons, IsPermutation-middle, IsPermutation-map, Value, Null, Int, Text, Row, column, bytes, value_cmp, or_null, bound_value, id_in, edit_of, with_rowid, Chosen, Given, rowid, IsAscending, Term, Database, cast, cast_row, State, Shown, Executes, Datatype, NotNull, value_cmp-Int, value_cmp-Text, value_cmp-apart, Binary, binary, unary, is_true, truth, from_truth, not3, Compare, Is, Not, Eq, ascending_weaker, ascending-map, ascending-filter, map-map, filter-map, sorted_unique, IsSorted-map, same_text, same_int, found_by, int_itself, ids_of, all_has, all_from, int_is, is_int, IsShaped, int_at, bytes_at, maybe_int, maybe_bytes, maybe_bytes_at, Changes, inserts, none_before, Enforced, passes, shown_of, finds_one, Asks, reads_same, reads_rising, by_number, has_number, each_numbered, few_numbered, one_numbered, rising, typed_at, all_both, decoded, cast_null, cast_int, obeys_rule, revises, office_schema, hold_4_table, hold_tree, HoldRow, put_by, is_hold, hold_numbered, last_number, with_hold, with_released, is_live, holds_deposit, holds_collection, holds_class, is_live_on, is_live_within, is_live_of_class, is_live_over, live_holds, IsOffice, Becomes, tables_of, hold_in, of_holds, idle, becomes, AreOthers, adding, placed, reads_last, cast_maybe, keeps_int, keeps_text, maybe_back, null_is, only, reads_numbered}
 use Rattle.sqlite.specs.Kind.TheVariants as kind
 use Rattle.sqlite_trees.specs.declared.store.Shape.TheVariants as shape
 use Rattle.office_tables.specs.ShownHolds.{shown_hold}
@@ -86,7 +86,7 @@ IsStoredHold r = ((column r 2 ≡ Null) ⊎ (column r 2 ≡ Int (int_at r 2))) �
 pub hold_rows : (db : Database) → IsOffice db → AllByRecursion IsStoredHold (db.trees hold_tree)
 hold_rows db office = all_both (λ r typed present.
     let at = typed_at office_schema db.trees hold_4_table r typed present in
-    (at 1 refl, at 2 refl, at 3 refl, at 4 refl, at 5 refl, at 6 refl)) (db.trees hold_tree) (of_holds (keeps_rule office.whole Datatype)) (of_holds (keeps_rule office.whole NotNull))
+    (at 1 refl, at 2 refl, at 3 refl, at 4 refl, at 5 refl, at 6 refl)) (db.trees hold_tree) (of_holds (obeys_rule office.whole Datatype)) (of_holds (obeys_rule office.whole NotNull))
 
 abbrev ended : ℤ → Row → Row
 ended day r = rowid r ∷ Null ∷ column r 2 ∷ column r 3 ∷ column r 4 ∷ column r 5 ∷ column r 6 ∷ Int day ∷ []

@@ -1,11 +1,6 @@
 pub mod Common
-pub mod TablePlaces
-pub mod Frames
 pub mod InOrder
-pub mod InTurn
-pub mod Columns
 pub mod MaybeEmpty
-pub mod RowsRead
 pub mod ClassTexts
 pub mod ClassLemmas
 pub mod CollectionLemmas
@@ -13,7 +8,6 @@ pub mod CreateTexts
 pub mod CreateLemmas
 pub mod Looking
 pub mod OfficeLemmas
-pub mod LastRow
 pub mod HoldTexts
 pub mod HoldLemmas
 pub mod ReleaseLemmas
@@ -23,10 +17,6 @@ pub mod PuttingEach
 pub mod DepositTexts
 pub mod DepositLemmas
 pub mod DepositAdded
-pub mod ContentTexts
-pub mod ContentLemmas
-pub mod FileTexts
-pub mod FileLemmas
 pub mod OtherBytes
 pub mod OpenLemmas
 pub mod OrderLemmas

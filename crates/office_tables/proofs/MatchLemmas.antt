@@ -1,5 +1,5 @@
 -- What the statement on the deciding rule answers.
-use Rattle.office_tables.proofs.FirstLemmas.{and-true, ◌≡◌, ◌&&◌, ◌||◌, ℕ, ℤ, List, [], ◌∷◌, map, filter, take, slice_get, option_map, Bool, true, false, codes, Some, Less, refl, sym, ap, ap₂, ◌∙◌, bytes_eq, AllByRecursion, int_cmp, is_eq, is_ge, is_eq-slice_cmp, Value, Null, Int, Text, Row, column, value_cmp, Term, Binary, binary, is_true, from_truth, IsSureAnswer, output, output_cmp, Output, IsAscending, Schema, Database, State, Shown, reads_as, overlay, Compare, Or, Eq, Ge, Le, Key, Datatype, NotNull, value_cmp-Int, value_cmp-Text, all_has, all_from, first_taken, ascending_weaker, int_at, bytes_at, Scans, scan, passes, shown_of, scanned, answers_rising, shown_same, finds_one, typed_at, all_both, keeps_rule, office_schema, rule_5_table, rule_tree, IsOffice, tables_of, rule_in, shown_rule, of_rules, rule_columns, Attempt, counts_on, fits_attempt, fits_name, matching_rule}
+use Rattle.office_tables.proofs.FirstLemmas.{and-true, ◌≡◌, ◌&&◌, ◌||◌, ℕ, ℤ, List, [], ◌∷◌, map, filter, take, slice_get, option_map, Bool, true, false, codes, Some, Less, refl, sym, ap, ap₂, ◌∙◌, bytes_eq, AllByRecursion, int_cmp, is_eq, is_ge, is_eq-slice_cmp, Value, Null, Int, Text, Row, column, value_cmp, Term, Binary, binary, is_true, from_truth, IsSureAnswer, output, output_cmp, Output, IsAscending, Schema, Database, State, Shown, reads_as, overlay, Compare, Or, Eq, Ge, Le, Key, Datatype, NotNull, value_cmp-Int, value_cmp-Text, all_has, all_from, first_taken, ascending_weaker, int_at, bytes_at, Scans, scan, passes, shown_of, scanned, answers_rising, shown_same, finds_one, typed_at, all_both, obeys_rule, office_schema, rule_5_table, rule_tree, IsOffice, tables_of, rule_in, shown_rule, of_rules, rule_columns, Attempt, counts_on, fits_attempt, fits_name, matching_rule}
 use Rattle.office_tables.proofs.DueLemmas.{truth_back, by_day}
 use Rattle.office_tables.proofs.MatchTexts.{AsksFirst, match_text, matching, match_order, asks_match}
 
@@ -55,7 +55,7 @@ IsRuleRow r = (column r 3 ≡ Text (bytes_at r 3)) × (column r 4 ≡ Text (byte
 pub rule_rows : (db : Database) → IsOffice db → AllByRecursion IsRuleRow (db.trees rule_tree)
 rule_rows db office = all_both (λ r t p.
     let at = typed_at office_schema db.trees rule_5_table r t p in
-    (at 2 refl, at 3 refl, at 4 refl, at 5 refl, at 6 refl, at 7 refl)) (db.trees rule_tree) (of_rules (keeps_rule office.whole Datatype)) (of_rules (keeps_rule office.whole NotNull))
+    (at 2 refl, at 3 refl, at 4 refl, at 5 refl, at 6 refl, at 7 refl)) (db.trees rule_tree) (of_rules (obeys_rule office.whole Datatype)) (of_rules (obeys_rule office.whole NotNull))
 
 until_is : (r : Row) (day : ℤ) → column r 8 ≡ Int (int_at r 8) → (is_true (binary (Compare Ge Binary) (column r 8) (Int day)) && true) ≡ is_ge (int_cmp (int_at r 8) day)
 unfolding binary

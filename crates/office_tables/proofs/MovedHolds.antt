@@ -1,5 +1,5 @@
 -- The holds, taken over into the table whose holds may name a class.
-use Rattle.office_tables.proofs.FirstLemmas.{◌≡◌, ◌⊎◌, ◌==◌, ℕ, [], map, drop, length, Ok, IsTrue, refl, ap, ◌∙◌, inl, inr, AllByRecursion, cases_Bool, Null, Int, Text, Row, column, cast, cast_row, Schema, rowid, Database, State, Executes, Datatype, NotNull, is_int, all_has, int_is, int_at, bytes_at, IsWhole, Sets, Grows, IsIdle, typed_at, all_both, cast_null, keeps_rule, shown_of, hold_table, hold_4_table, old_hold_tree, hold_tree, hold_in, AllRows, moved_hold, BecomesAt, rows_at, schema_at, old_hold_in, Third, Fourth, of_office, of_callers, of_old_rules, of_classes, of_collections, of_deposits, of_files, of_old_holds, of_contents, copy_holds_text, copied_hold, empty_holds_text, eight, moving_meanings, keeps_int, keeps_text, takes_over, empties, starts_empty, rows_taken, others_kept}
+use Rattle.office_tables.proofs.FirstLemmas.{◌≡◌, ◌⊎◌, ◌==◌, ℕ, [], map, drop, length, Ok, IsTrue, refl, ap, ◌∙◌, inl, inr, AllByRecursion, cases_Bool, Null, Int, Text, Row, column, cast, cast_row, Schema, rowid, Database, State, Executes, Datatype, NotNull, is_int, all_has, int_is, int_at, bytes_at, IsWhole, Sets, Grows, IsIdle, typed_at, all_both, cast_null, obeys_rule, shown_of, hold_table, hold_4_table, old_hold_tree, hold_tree, hold_in, AllRows, moved_hold, BecomesAt, rows_at, schema_at, old_hold_in, Third, Fourth, of_office, of_callers, of_old_rules, of_classes, of_collections, of_deposits, of_files, of_old_holds, of_contents, copy_holds_text, copied_hold, empty_holds_text, eight, moving_meanings, keeps_int, keeps_text, takes_over, empties, starts_empty, rows_taken, others_kept}
 use Rattle.sqlite.specs.Kind.TheVariants as kind
 
 -- ---- the two statements
@@ -17,7 +17,7 @@ IsStored r = ((column r 2 ≡ Null) ⊎ (column r 2 ≡ Int (int_at r 2))) × ((
 stored_rows : (db : Database) → IsWhole fourth db → AllByRecursion IsStored (db.trees old_hold_tree)
 stored_rows db whole = all_both (λ r typed present.
     let at = typed_at fourth db.trees hold_table r typed present in
-    (at 1 refl, at 2 refl, at 3 refl, at 4 refl, at 5 refl)) (db.trees old_hold_tree) (of_old_holds (keeps_rule whole Datatype)) (of_old_holds (keeps_rule whole NotNull))
+    (at 1 refl, at 2 refl, at 3 refl, at 4 refl, at 5 refl)) (db.trees old_hold_tree) (of_old_holds (obeys_rule whole Datatype)) (of_old_holds (obeys_rule whole NotNull))
 
 moves_row : (r : Row) → IsStored r → IsTrue (is_int (rowid r)) → cast_row hold_4_table (shown_of [] copied_hold r) ≡ moved_hold r
 moves_row r it whole =

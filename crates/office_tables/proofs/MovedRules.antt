@@ -1,5 +1,5 @@
 -- The rules, taken over into the table whose rules have days.
-use Rattle.office_tables.proofs.FirstLemmas.{◌≡◌, ℕ, [], ◌∷◌, map, drop, Ok, IsTrue, refl, ap, ◌∙◌, inr, AllByRecursion, Int, Text, Row, column, cast, cast_row, Schema, rowid, Database, State, Executes, Binary, Datatype, NotNull, is_int, all_has, int_is, int_at, bytes_at, IsWhole, Sets, Grows, typed_at, all_both, cast_null, cast_int, keeps_rule, shown_of, rule_table, rule_5_table, old_rule_tree, old_hold_tree, rule_tree, rule_in, AllRows, moved_rule, BecomesAt, rows_at, first_day, last_day, schema_at, old_rule_in, Fourth, Fifth, of_office, of_callers, of_old_rules, of_classes, of_collections, of_deposits, of_files, of_old_holds, of_contents, of_holds, copy_rules_text, copied_rule, empty_rules_text, eight, moving_meanings, takes_over, empties, starts_empty, rows_taken, others_kept, idle, keeps_int, keeps_text}
+use Rattle.office_tables.proofs.FirstLemmas.{◌≡◌, ℕ, [], ◌∷◌, map, drop, Ok, IsTrue, refl, ap, ◌∙◌, inr, AllByRecursion, Int, Text, Row, column, cast, cast_row, Schema, rowid, Database, State, Executes, Binary, Datatype, NotNull, is_int, all_has, int_is, int_at, bytes_at, IsWhole, Sets, Grows, typed_at, all_both, cast_null, cast_int, obeys_rule, shown_of, rule_table, rule_5_table, old_rule_tree, old_hold_tree, rule_tree, rule_in, AllRows, moved_rule, BecomesAt, rows_at, first_day, last_day, schema_at, old_rule_in, Fourth, Fifth, of_office, of_callers, of_old_rules, of_classes, of_collections, of_deposits, of_files, of_old_holds, of_contents, of_holds, copy_rules_text, copied_rule, empty_rules_text, eight, moving_meanings, takes_over, empties, starts_empty, rows_taken, others_kept, idle, keeps_int, keeps_text}
 use Rattle.sqlite.specs.Kind.TheVariants as kind
 
 abbrev fifth : Schema
@@ -11,7 +11,7 @@ IsStored r = (column r 2 ≡ Int (int_at r 2)) × (column r 3 ≡ Text (bytes_at
 stored_rows : (db : Database) → IsWhole fifth db → AllByRecursion IsStored (db.trees old_rule_tree)
 stored_rows db whole = all_both (λ r typed present.
     let at = typed_at fifth db.trees rule_table r typed present in
-    (at 1 refl, at 2 refl, at 3 refl, at 4 refl, at 5 refl)) (db.trees old_rule_tree) (of_old_rules (keeps_rule whole Datatype)) (of_old_rules (keeps_rule whole NotNull))
+    (at 1 refl, at 2 refl, at 3 refl, at 4 refl, at 5 refl)) (db.trees old_rule_tree) (of_old_rules (obeys_rule whole Datatype)) (of_old_rules (obeys_rule whole NotNull))
 
 moves_row : (r : Row) → IsStored r → IsTrue (is_int (rowid r)) → cast_row rule_5_table (shown_of [] copied_rule r) ≡ moved_rule r
 moves_row r it whole =

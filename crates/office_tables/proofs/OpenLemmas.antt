@@ -1,5 +1,5 @@
 -- What opening finds in the database of an office of each version is what its rows say.
-use Rattle.office_tables.proofs.FirstLemmas.{◌≡◌, ◌&&◌, ap₂, ℤ, pos, negsuc, ◌==◌, arith, List, [], ◌∷◌, codes, map, drop, find, filter, slice_get, option_map, Bool, true, false, Option, Some, None, Equal, Ok, IsTrue, refl, sym, ap, subst, subst₂, ◌∙◌, inl, inr, ints, cases_Bool, and_parts, nat_tests, AllByRecursion, int_cmp, int_eq, is_eq, Int, Row, column, Term, col, Binary, Key, id_in, rowid, Select, understood, reads_listing, IsSourceOf, Database, Reads, command_of, everything, is_int, Datatype, NotNull, same_name, Schema, Has, all_has, all_from, has_kept, int_is, int_at, found_by, lone, none_pass, one_numbered, Asks, scan, as_program, passes, shown_of, Scans, scanned, answer_sound, answer_complete, typed_at, all_both, keeps_rule, Table, Index, IsWhole, office_table, office_tree, OfficeRow, is_known, version_of, schema_at, tables_at, TableVersion, Third, office_in, of_office, has_office, look_text, Looks, ShowsVersion, shows_office, is_one, is_limit_told}
+use Rattle.office_tables.proofs.FirstLemmas.{◌≡◌, ◌&&◌, ap₂, ℤ, pos, negsuc, ◌==◌, arith, List, [], ◌∷◌, codes, map, drop, find, filter, slice_get, option_map, Bool, true, false, Option, Some, None, Equal, Ok, IsTrue, refl, sym, ap, subst, subst₂, ◌∙◌, inl, inr, ints, cases_Bool, and_parts, nat_tests, AllByRecursion, int_cmp, int_eq, is_eq, Int, Row, column, Term, col, Binary, Key, id_in, rowid, Select, understood, reads_listing, IsSourceOf, Database, Reads, command_of, everything, is_int, Datatype, NotNull, same_name, Schema, Has, all_has, all_from, has_kept, int_is, int_at, found_by, lone, none_pass, one_numbered, Asks, scan, as_program, passes, shown_of, Scans, scanned, answer_sound, answer_complete, typed_at, all_both, obeys_rule, Table, Index, IsWhole, office_table, office_tree, OfficeRow, is_known, version_of, schema_at, tables_at, TableVersion, Third, office_in, of_office, has_office, look_text, Looks, ShowsVersion, shows_office, is_one, is_limit_told}
 use Rattle.office_tables.specs.Opening.{is_int as is_whole}
 use Rattle.office_tables.proofs.Looking.{all_passed_over, known_there}
 
@@ -14,7 +14,7 @@ with_office more indexes = record { tables = office_table ∷ more; indexes = in
 office_rows : (more : List Table) (indexes : List Index) (db : Database) → IsWhole (with_office more indexes) db → AllByRecursion IsOfficeRow (db.trees office_tree)
 office_rows more indexes db office = all_both (λ r t p.
     let at = typed_at (with_office more indexes) db.trees office_table r t p in
-    (at 1 refl, at 2 refl, at 3 refl)) (db.trees office_tree) (of_office (keeps_rule office Datatype)) (of_office (keeps_rule office NotNull))
+    (at 1 refl, at 2 refl, at 3 refl)) (db.trees office_tree) (of_office (obeys_rule office Datatype)) (of_office (obeys_rule office NotNull))
 
 -- the schema of each version has the table
 at_once : (version : TableVersion) → has_office (schema_at version) ≡ true

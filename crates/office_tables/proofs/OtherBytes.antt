@@ -1,6 +1,6 @@
 -- What the rows of an office tell where they differ in the bytes of contents alone.
 use Rattle.office_tables.proofs.Common.{◌≡◌, ◌&&◌, ℕ, ℤ, Bool, true, false, cond, List, [], ◌∷◌, map, filter, slice_get, bytes_eq, Option, Some, None, option_map, unwrap_or, refl, sym, ap, subst, ◌∙◌, inl, inr, true≢false, AllByRecursion, int_eq, same_Some, bytes_eq-Decides, sha256, Row, Database, filter-map, Has, all_from, all_has, has_filtered, has_found, mapped_has, bytes_at, int_at, found_by, ContentRow, FileRow, bytes_under, content_numbered, file_at, files_of, is_content, is_file_at, is_file_of, DiffersInBytes, IsMarked, content_at, content_referred, is_intact, references_of, without_bytes, caller_tree, class_tree, collection_tree, deposit_tree, file_tree, hold_tree, office_tree, rule_tree, IsOffice, caller_in, class_in, collection_in, contents_of, deposit_in, due_in, file_in, hold_in, office_in, rule_in, tables_of}
-use Rattle.office_tables.proofs.FileLemmas.{only_row, references_are}
+use Rattle.office_contents.proofs.FileLemmas.{only_row, references_are}
 
 abbrev referred : Row → ℤ
 referred r = int_at r 3

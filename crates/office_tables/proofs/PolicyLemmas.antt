@@ -1,10 +1,10 @@
 -- What the statements on callers and rules do to the rows of an office.
-use Rattle.office_tables.proofs.FirstLemmas.{◌≡◌, ℕ, List, [], ◌∷◌, ◌++◌, map, slice_get, option_map, true, false, Ok, refl, ap, sym, ◌∙◌, append-nil, append_assoc, slice_index_or as get_or, drop, length, ◌+◌, ◌<◌, AllByRecursion, at_drop_more, map-append, Null, Int, Text, Row, column, edit_of, Chosen, Given, col, cast_row, Database, State, Shown, Executes, Datatype, NotNull, Unique, ids_of, all_from, bytes_at, inserts, none_pass, few_named, typed_at, all_both, appended, cast_null, cast_int, keeps_rule, drops, office_schema, caller_table, rule_5_table, caller_tree, rule_tree, Tables, CallerRow, RuleRow, is_caller, caller_named, with_caller, with_rule, with_callers, with_rules, without_callers, without_rules, with_policy, IsOffice, Becomes, tables_of, caller_in, rule_in, shown_rule, of_callers, of_rules, idle, becomes, placed, role_text, rules_text, drop_callers_text, drop_rules_text, add_caller_text, add_rule_text, rule_terms, policy_meanings, all_given, finds_named, lists_all}
+use Rattle.office_tables.proofs.FirstLemmas.{◌≡◌, ℕ, List, [], ◌∷◌, ◌++◌, map, slice_get, option_map, true, false, Ok, refl, ap, sym, ◌∙◌, append-nil, append_assoc, slice_index_or as get_or, drop, length, ◌+◌, ◌<◌, AllByRecursion, at_drop_more, map-append, Null, Int, Text, Row, column, edit_of, Chosen, Given, col, cast_row, Database, State, Shown, Executes, Datatype, NotNull, Unique, ids_of, all_from, bytes_at, inserts, none_pass, few_named, typed_at, all_both, appended, cast_null, cast_int, obeys_rule, drops, office_schema, caller_table, rule_5_table, caller_tree, rule_tree, Tables, CallerRow, RuleRow, is_caller, caller_named, with_caller, with_rule, with_callers, with_rules, without_callers, without_rules, with_policy, IsOffice, Becomes, tables_of, caller_in, rule_in, shown_rule, of_callers, of_rules, idle, becomes, placed, role_text, rules_text, drop_callers_text, drop_rules_text, add_caller_text, add_rule_text, rule_terms, policy_meanings, all_given, finds_named, lists_all}
 
 -- each name of a caller is a text
 names : (db : Database) → IsOffice db → AllByRecursion (λ r. column r 1 ≡ Text (bytes_at r 1)) (db.trees caller_tree)
 names db office = all_both (λ r typed present. typed_at office_schema db.trees caller_table r typed present 0 refl)
-    (db.trees caller_tree) (of_callers (keeps_rule office.whole Datatype)) (of_callers (keeps_rule office.whole NotNull))
+    (db.trees caller_tree) (of_callers (obeys_rule office.whole Datatype)) (of_callers (obeys_rule office.whole NotNull))
 
 -- ---- reads
 
@@ -12,7 +12,7 @@ pub finds_role : (old new : State) (name : List ℕ) (rows : List Row) → IsOff
     → (new.now ≡ old.now) × (option_map (λ (c : CallerRow). c.role) (caller_named name (tables_of old.now).callers) ≡ option_map (λ row. bytes_at row 0) (slice_get rows 0))
 finds_role old new name rows office h =
     let named = names old.now office in
-    let few = few_named 1 (old.now.trees caller_tree) (of_callers office.whole.shaped) named (of_callers (keeps_rule office.whole Unique)) name in
+    let few = few_named 1 (old.now.trees caller_tree) (of_callers office.whole.shaped) named (of_callers (obeys_rule office.whole Unique)) name in
     finds_named old new rows office 1 policy_meanings.asks_role name named few caller_in (is_caller name) (λ r. refl) (λ (c : CallerRow). c.role) (λ row. bytes_at row 0) (λ r. refl) h
 
 pub lists_rules : (old new : State) (rows : List Row) → IsOffice old.now → Shown rules_text [] old new rows

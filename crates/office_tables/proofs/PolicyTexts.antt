@@ -1,6 +1,6 @@
 -- What the statements on callers and rules mean under the schema of an office.
 use Rattle.office_tables.proofs.Common.{ℕ, List, [], ◌∷◌, codes, refl, Null, Term, lit, col, Insert, Delete, Values, understood, everything, scan, as_program, Asks, rising, by_text, Means, office_schema, caller_tree, rule_tree}
-use Rattle.office_tables.proofs.Columns.{only, all_given}
+use Rattle.office_contents.proofs.Columns.{only, all_given}
 
 abbrev pub role_text : List ℕ
 role_text = codes "SELECT role FROM caller WHERE name = ?1"

@@ -1,6 +1,6 @@
 -- Rows that a loop puts one after another: what is so before each turn, and that a turn keeps it.
 use Rattle.office_tables.proofs.FirstLemmas.{◌≡◌, ℕ, List, ◌∷◌, drop, slice_index_or as get_or, length, ◌+◌, ◌<◌, Ok, MutBor, Ghosts, HasCleanDisk, Held, state, Tables, GoesOnInside, GoesOnInTurn, Writes, LeavesContents, IsOffice, tables_of, TableFault, same_after}
-use Rattle.office_tables.proofs.InTurn.{clean_first, turn_next}
+use Rattle.office_contents.proofs.InTurn.{clean_first, turn_next}
 use Rattle.office_tables.proofs.PolicyLemmas.{next_added}
 
 -- all but the rest of the rows are put

@@ -1,5 +1,5 @@
 -- That an office has these rows comes out of a truncation.
-use Rattle.office_tables.proofs.Common.{◌≡◌, ℕ, ℤ, pos, List, [], map, length, bytes_eq, Bool, true, refl, list_any, int_eq, sha256, Trees, Schema, Database, IsDatabase, AreShaped, IsOfficeAt, emptied_at, schema_at, TableVersion, Fifth, Tables, ContentRow, Becomes, contents_of, IsMarked, AreKeptOnce, KeepsOnce, references_of, IsLeft}
+use Rattle.office_tables.proofs.Common.{◌≡◌, ℕ, ℤ, pos, List, [], map, length, bytes_eq, Bool, true, refl, list_any, int_eq, sha256, Trees, Schema, Database, IsDatabase, AreShaped, IsOfficeAt, emptied_at, schema_at, TableVersion, Fifth, Tables, ContentRow, Becomes, contents_of, IsMarked, AreStoredOnce, StoresOnce, references_of, IsLeft}
 use Rattle.std.proofs.lemmas.Map.Keys.{IsDistinct-prop}
 use Rattle.std.proofs.Math.Logic.{∥∥₁_elim, ∥∥₁_map}
 use Rattle.std.specs.Coded.{Coded, Coded-set, codes}
@@ -55,7 +55,7 @@ marked_prop c p q = λ i. record { mark = bytes_set c.mark (sha256 c.bytes) p.ma
     ints_set : IsSet ℤ
     ints_set = Coded-set (hlevel codes)
 
-once_prop : (refs : List ℤ) (cs : List ContentRow) → IsProp (AreKeptOnce refs cs)
+once_prop : (refs : List ℤ) (cs : List ContentRow) → IsProp (AreStoredOnce refs cs)
 once_prop refs cs p q = λ i. record {
   once = IsDistinct-prop bytes_eq (map (λ (c : ContentRow). c.bytes) cs) p.once q.once i;
   marked = AllByRecursion-prop IsMarked marked_prop cs p.marked q.marked i;
@@ -66,5 +66,5 @@ once_prop refs cs p q = λ i. record {
     bool_set = Coded-set (hlevel codes)
 
 -- that contents are kept once comes out of a truncation
-pub once_from : (db : Database) → ∥ KeepsOnce db ∥₁ → KeepsOnce db
+pub once_from : (db : Database) → ∥ StoresOnce db ∥₁ → StoresOnce db
 once_from db h = ∥∥₁_elim h (once_prop (references_of db) (contents_of db)) (λ once. once)

@@ -1,5 +1,5 @@
 -- The version in the row of the office.
-use Rattle.office_tables.proofs.FirstLemmas.{◌≡◌, ℕ, ℤ, pos, [], ◌∷◌, map, Ok, IsTrue, refl, ap, ◌∙◌, inr, if◌then◌else◌, AllByRecursion, Null, Int, Row, column, cast, cast_row, edit_of, Given, Schema, rowid, Database, State, Executes, Datatype, NotNull, is_int, ids_of, all_has, int_is, int_at, IsWhole, Sets, typed_at, all_both, decoded, cast_null, cast_int, keeps_rule, sets, revises, by_number, has_number, each_numbered, few_numbered, OfficeRow, is_office_row, office_table, office_tree, office_in, AllRows, all_in_version, in_version, BecomesAt, rows_at, schema_at, Fifth, of_office, of_callers, of_old_rules, of_classes, of_collections, of_deposits, of_files, of_old_holds, of_contents, of_holds, of_rules, version_text, versioned, moving_meanings, keeps_int, idle}
+use Rattle.office_tables.proofs.FirstLemmas.{◌≡◌, ℕ, ℤ, pos, [], ◌∷◌, map, Ok, IsTrue, refl, ap, ◌∙◌, inr, if◌then◌else◌, AllByRecursion, Null, Int, Row, column, cast, cast_row, edit_of, Given, Schema, rowid, Database, State, Executes, Datatype, NotNull, is_int, ids_of, all_has, int_is, int_at, IsWhole, Sets, typed_at, all_both, decoded, cast_null, cast_int, obeys_rule, sets, revises, by_number, has_number, each_numbered, few_numbered, OfficeRow, is_office_row, office_table, office_tree, office_in, AllRows, all_in_version, in_version, BecomesAt, rows_at, schema_at, Fifth, of_office, of_callers, of_old_rules, of_classes, of_collections, of_deposits, of_files, of_old_holds, of_contents, of_holds, of_rules, version_text, versioned, moving_meanings, keeps_int, idle}
 use Rattle.sqlite.specs.Kind.TheVariants as kind
 
 abbrev fifth : Schema
@@ -11,7 +11,7 @@ IsStored r = (column r 2 ≡ Int (int_at r 2)) × (column r 3 ≡ Int (int_at r 
 stored_rows : (db : Database) → IsWhole fifth db → AllByRecursion IsStored (db.trees office_tree)
 stored_rows db whole = all_both (λ r t p.
     let at = typed_at fifth db.trees office_table r t p in
-    (at 1 refl, at 2 refl, at 3 refl)) (db.trees office_tree) (of_office (keeps_rule whole Datatype)) (of_office (keeps_rule whole NotNull))
+    (at 1 refl, at 2 refl, at 3 refl)) (db.trees office_tree) (of_office (obeys_rule whole Datatype)) (of_office (obeys_rule whole NotNull))
 
 abbrev set_to : ℤ → Row → Row
 set_to version r = rowid r ∷ Null ∷ Int version ∷ column r 3 ∷ column r 4 ∷ []

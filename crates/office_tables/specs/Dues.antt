@@ -5,7 +5,7 @@ use Rattle.sqlite.specs.Order.{Row}
 use Rattle.sqlite.specs.Ops.{fits_i64}
 use Rattle.sql_meaning.specs.Columns.{int_at, bytes_at, maybe_int_at}
 use Rattle.office_rows.specs.Rows.{DepositRow, DueRow, Tables, beside}
-use Rattle.office_rows.specs.Told.{PlaceRow, ClosingRow}
+use Rattle.office_rows.specs.Told.{DisposableRow, ClosingRow}
 use Rattle.office_tables.specs.Deposits.{shown_deposit}
 
 abbrev pub shown_due : Row → DueRow
@@ -14,7 +14,7 @@ shown_due shown = record { number = int_at shown 0; due = maybe_int_at shown 1; 
 abbrev pub shown_beside : Row → DepositRow × DueRow
 shown_beside shown = (shown_deposit shown, record { number = int_at shown 0; due = maybe_int_at shown 9; holds = int_at shown 10 })
 
-abbrev pub shown_place : Row → PlaceRow
+abbrev pub shown_place : Row → DisposableRow
 shown_place row = record { number = int_at row 0; collection = bytes_at row 1; class = bytes_at row 2; due = maybe_int_at row 3 }
 
 abbrev pub shown_closing : Row → ClosingRow

@@ -13,11 +13,11 @@ use Rattle.sql_meaning.specs.Making.{Builds}
 use Rattle.sql_meaning.specs.Growing.{Grows}
 use Rattle.sql_meaning.specs.Whole.{IsWhole}
 use Rattle.office_rows.specs.Rows.{OfficeRow, ContentRow, Tables, is_office_row}
-use Rattle.office_tables.specs.Stored.{contents_of}
-use Rattle.office_tables.specs.Contents.{references_of}
-use Rattle.office_tables.specs.Versions.{IsOfficeAt, tables_at, first_day, last_day}
-use Rattle.office_tables.specs.declared.version.TableVersion.{TableVersion}
-use Rattle.office_tables.specs.declared.version.TableVersion.TheVariants.{Third, Fourth, Fifth}
+use Rattle.office_contents.specs.Stored.{contents_of}
+use Rattle.office_contents.specs.Contents.{references_of}
+use Rattle.office_contents.specs.Versions.{IsOfficeAt, tables_at, first_day, last_day}
+use Rattle.office_contents.specs.declared.version.TableVersion.{TableVersion}
+use Rattle.office_contents.specs.declared.version.TableVersion.TheVariants.{Third, Fourth, Fifth}
 
 -- the rows of the tables, the contents that are kept, and the number of the content of each file
 pub record AllRows : Type 0 where

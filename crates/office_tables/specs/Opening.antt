@@ -14,21 +14,21 @@ use Rattle.sqlite.specs.Held.{Held, state}
 use Rattle.sqlite_schema.specs.Names.{table_named, column_named}
 use Rattle.sqlite_resolve.specs.declared.compiled.Compiled.{Compiled}
 use Rattle.office_rows.specs.Rows.{Tables, is_limit, version_of}
-use Rattle.office_tables.specs.Tables.{Becomes}
-use Rattle.office_tables.specs.Contents.{KeepsOnce}
-use Rattle.office_tables.specs.declared.fault.TableFault.{TableFault}
+use Rattle.office_contents.specs.Tables.{Becomes}
+use Rattle.office_contents.specs.Contents.{StoresOnce}
+use Rattle.office_contents.specs.declared.fault.TableFault.{TableFault}
 
 -- ---- what is left
 
 -- the tables are as they were, and all of them are committed
-abbrev pub KeepsTables : State → State → Type 0
-KeepsTables old new = IsTrue new.is_open → IsTrue old.is_open × (new.now ≡ old.now) × (new.committed ≡ old.now)
+abbrev pub HasSameTables : State → State → Type 0
+HasSameTables old new = IsTrue new.is_open → IsTrue old.is_open × (new.now ≡ old.now) × (new.committed ≡ old.now)
 
 -- an office with these rows, and all of it is committed
 pub record IsMade (new : State) (tables : Tables) : Type 0 where
   pub is_open : IsTrue new.is_open
   pub becomes : Becomes new.now tables
-  pub once : KeepsOnce new.now
+  pub once : StoresOnce new.now
   pub committed : new.committed ≡ new.now
 
 -- what a crash may leave, where it leaves the trees of an office with these rows
@@ -37,7 +37,7 @@ IsLeft tables left = (made : Database) × Becomes made tables × (left ≡ made.
 
 -- the same of an office that was just made, whose contents are kept once
 abbrev pub IsMadeLeft : Tables → Trees → Type 0
-IsMadeLeft tables left = (made : Database) × Becomes made tables × KeepsOnce made × (left ≡ made.trees)
+IsMadeLeft tables left = (made : Database) × Becomes made tables × StoresOnce made × (left ≡ made.trees)
 
 -- ---- a connection that is taken, and handed back
 

@@ -2,7 +2,7 @@
 use Rattle.std.specs.Prelude.{ℕ, ℤ, pos, List, Option, Some, None, Bool}
 use Rattle.sqlite.specs.Order.{Row}
 use Rattle.office_rows.specs.Rows.{HoldRow, holds_class, holds_collection, holds_deposit}
-use Rattle.office_tables.specs.Stored.{hold_at}
+use Rattle.office_contents.specs.Stored.{hold_at}
 use Rattle.office_tables.specs.declared.holds.HoldTarget.{HoldTarget}
 use Rattle.office_tables.specs.declared.holds.HoldTarget.TheVariants.{Deposit, Collection, Class}
 

@@ -2,12 +2,11 @@
 
 ghost use Rattle.std.specs.Prelude.{◌≡◌, option_map, if◌then◌else◌};
 ghost use Rattle.office_rows.specs.Rows.{class_named, has_class, with_class, with_new_class, with_years, has_collection, with_collection, with_new_collection};
-ghost use Rattle.office_tables.specs.Contents.{LeavesContents, LeavesOnce};
-ghost use Rattle.office_tables.specs.Calls.{GoesOnInside, Keeps, Tells, Writes};
+ghost use Rattle.office_contents.specs.Contents.{LeavesContents, LeavesOnce};
+ghost use Rattle.office_contents.specs.Calls.{GoesOnInside, Keeps, Tells, Writes};
 
-use crate::fault::Result;
 use crate::rows::read_first;
-use crate::run::{ask, change};
+use office_contents::{Result, ask, change};
 use sqlite::{Alter, Transaction, params};
 
 /// The years of the class of that name, -1 where its deposits are kept permanently; `None` where there is no such class.

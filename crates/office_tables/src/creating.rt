@@ -8,17 +8,16 @@ ghost use Rattle.sqlite.specs.Held.{state};
 ghost use Rattle.sql_meaning.specs.Making.{Builds};
 ghost use Rattle.sql_meaning.specs.Growing.{Grows};
 ghost use Rattle.sql_meaning.specs.Whole.{IsBlank, IsWhole};
-ghost use Rattle.office_tables.specs.Calls.{GoesOnInTurn, GoesOnInside};
-ghost use Rattle.office_tables.specs.Faults.{IsFailure};
-ghost use Rattle.office_tables.specs.Schema.{no_schema, office_schema};
+ghost use Rattle.office_contents.specs.Calls.{GoesOnInTurn, GoesOnInside};
+ghost use Rattle.office_contents.specs.Faults.{IsFailure};
+ghost use Rattle.office_contents.specs.Schema.{no_schema, office_schema};
 ghost use Rattle.office_rows.specs.Rows.{this_version, empty_office, IsLimit};
-ghost use Rattle.office_tables.specs.Tables.{Becomes};
-ghost use Rattle.office_tables.specs.Opening.{KeepsTables, IsMade, IsMadeLeft};
-ghost use Rattle.office_tables.specs.Contents.{KeepsOnce};
+ghost use Rattle.office_contents.specs.Tables.{Becomes};
+ghost use Rattle.office_tables.specs.Opening.{HasSameTables, IsMade, IsMadeLeft};
+ghost use Rattle.office_contents.specs.Contents.{StoresOnce};
 
-use crate::fault::{Result, TableFault};
 use crate::opening::OfficeLimits;
-use crate::run::change;
+use office_contents::{Result, TableFault, change};
 use sqlite::{Alter, Connection, Transaction, params};
 use sqlite_schema::schema::Schema;
 
@@ -86,7 +85,7 @@ fn start<S: Alter>(tx: &mut Transaction<'_, S>, limits: OfficeLimits) -> Result<
         (empty_office this_version (pos limits.max_deposits) (pos limits.max_holds))) }
     ensures once { HasCleanDisk (state S.Store tx.new.conn.now)
         → IsBlank office_schema (state S.Store tx.old.conn.now).now
-        → OnOk result (KeepsOnce (state S.Store tx.new.conn.now).now) }
+        → OnOk result (StoresOnce (state S.Store tx.new.conn.now).now) }
 {
     change(
         tx,
@@ -107,7 +106,7 @@ fn make_office<S: Alter>(tx: &mut Transaction<'_, S>, limits: OfficeLimits) -> R
         (empty_office this_version (pos limits.max_deposits) (pos limits.max_holds))) }
     ensures once { HasCleanDisk (state S.Store tx.new.conn.now)
         → (state S.Store tx.old.conn.now).now.schema ≡ no_schema
-        → OnOk result (KeepsOnce (state S.Store tx.new.conn.now).now) }
+        → OnOk result (StoresOnce (state S.Store tx.new.conn.now).now) }
 {
     define_tables(tx)?;
     start(tx, limits)?;
@@ -144,7 +143,7 @@ pub fn create<S: Alter>(conn: &mut Connection<S>, max_deposits: u32, max_holds: 
         ((db : Trees) → (state S.Store conn.new).may_leave db
         → IsMadeLeft (empty_office this_version (pos max_deposits) (pos max_holds)) db) }
     ensures refused { HasCleanDisk (state S.Store conn.new)
-        → OnErr result (KeepsTables (state S.Store conn.old) (state S.Store conn.new)) }
+        → OnErr result (HasSameTables (state S.Store conn.old) (state S.Store conn.new)) }
     ensures failure { IfErr result IsFailure }
     ensures not_empty { (state S.Store conn.old).now.schema ≢ no_schema
         → result ≡ Err TableFault.Store }

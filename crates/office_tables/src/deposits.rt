@@ -4,15 +4,14 @@ ghost use Rattle.std.specs.Prelude.{◌≡◌, IsTrue, OnOk, None, pos, option_m
 ghost use Rattle.sqlite.specs.State.{HasCleanDisk};
 ghost use Rattle.sqlite.specs.Held.{state};
 ghost use Rattle.sql_meaning.specs.Columns.{int_at};
-ghost use Rattle.office_rows.specs.Rows.{deposit_numbered, deposit_by, has_class, has_collection, last_number, with_deposit, with_gone, with_kept};
-ghost use Rattle.office_tables.specs.Tables.{IsOffice};
-ghost use Rattle.office_tables.specs.Contents.{LeavesContents, LeavesOnce};
-ghost use Rattle.office_tables.specs.Calls.{GoesOnInside, Keeps, Shows, Tells, Writes};
+ghost use Rattle.office_rows.specs.Rows.{deposit_numbered, deposit_by, has_class, has_collection, last_number, with_deposit, with_gone, with_deposit_and_due};
+ghost use Rattle.office_contents.specs.Tables.{IsOffice};
+ghost use Rattle.office_contents.specs.Contents.{LeavesContents, LeavesOnce};
+ghost use Rattle.office_contents.specs.Calls.{GoesOnInside, Keeps, Shows, Tells, Writes};
 ghost use Rattle.office_tables.specs.Deposits.{shown_deposit, added_row, IsAdded};
 
-use crate::fault::Result;
 use crate::rows::{Shown, first_number, read_all, read_first};
-use crate::run::{ask, change};
+use office_contents::{Result, ask, change};
 use sqlite::{Alter, Row, Transaction, params};
 use std::alloc::Global;
 use std::marker::Model;
@@ -305,7 +304,7 @@ pub fn put_deposit_and_due<S: Alter>(
 ) -> Result<()>
     ensures inside { GoesOnInside S.Store tx.old.conn tx.new.conn result }
     ensures becomes { Writes S.Store tx.old.conn.now tx.new.conn.now result
-        (with_kept (added_row deposit.entry) due holds) }
+        (with_deposit_and_due (added_row deposit.entry) due holds) }
     ensures new_number { Tells S.Store tx.old.conn.now tx.new.conn.now result (λ tables _.
         deposit_numbered (pos deposit.entry.number) tables.deposits ≡ None) }
     ensures new_accession { Tells S.Store tx.old.conn.now tx.new.conn.now result (λ tables _.

@@ -2,15 +2,14 @@
 
 ghost use Rattle.std.specs.Prelude.{◌≡◌, Some, None, pos, option_map, slice_get, map};
 ghost use Rattle.office_rows.specs.Rows.{beside, due_numbered, is_of_class, is_within, with_due, with_dues, with_holds, with_more_holds, with_more_holds_class};
-ghost use Rattle.office_rows.specs.Told.{due_places, class_closings};
-ghost use Rattle.office_tables.specs.Calls.{GoesOnInside, Keeps, Shows, Tells, Writes};
-ghost use Rattle.office_tables.specs.Contents.{LeavesContents, LeavesOnce};
+ghost use Rattle.office_rows.specs.Told.{disposable_rows, class_closings};
+ghost use Rattle.office_contents.specs.Calls.{GoesOnInside, Keeps, Shows, Tells, Writes};
+ghost use Rattle.office_contents.specs.Contents.{LeavesContents, LeavesOnce};
 ghost use Rattle.office_tables.specs.Dues.{shown_due, shown_beside, shown_place, shown_closing, FitMore, dues_of};
 
 use crate::deposits::DepositRow;
-use crate::fault::Result;
 use crate::rows::{Shown, read_all, read_first};
-use crate::run::{ask, change};
+use office_contents::{Result, ask, change};
 use sqlite::{Alter, Row, Transaction, params};
 use std::alloc::Global;
 use std::marker::Model;
@@ -54,7 +53,7 @@ impl Model for DepositAndDue {
 
 /// The collection and the class of a deposit, and when it falls due.
 #[derive(Debug, Drop)]
-pub struct PlaceRow {
+pub struct DisposableRow {
     pub number: u32,
     pub collection: String,
     pub class: String,
@@ -62,10 +61,10 @@ pub struct PlaceRow {
     pub due: Option<i64>,
 }
 
-impl Model for PlaceRow {
+impl Model for DisposableRow {
     ghost use Rattle.std.specs.Prelude.{List, ℕ, ℤ, Option, string_bytes, refl, pos};
     ghost use Rattle.std.specs.Coded.{code_by, coded×, coded_list, coded_option, coded_ℕ, coded_ℤ};
-    ghost use Rattle.office_rows.specs.Told.{PlaceRow as Place};
+    ghost use Rattle.office_rows.specs.Told.{DisposableRow as Place};
 
     ghost Value = { Place };
 
@@ -337,7 +336,7 @@ pub fn add_holds_class<S: Alter>(tx: &mut Transaction<'_, S>, class: &str, by: i
 fn rows_due<S: Alter>(tx: &mut Transaction<'_, S>, day: i64) -> Result<Vec<Row>>
     ensures inside { GoesOnInside S.Store tx.old.conn tx.new.conn result }
     ensures found { Shows S.Store tx.old.conn.now tx.new.conn.now result (λ tables rows.
-        due_places day tables ≡ map shown_place rows.items) }
+        disposable_rows day tables ≡ map shown_place rows.items) }
 {
     ask(
         tx,
@@ -346,11 +345,11 @@ fn rows_due<S: Alter>(tx: &mut Transaction<'_, S>, day: i64) -> Result<Vec<Row>>
     )
 }
 
-impl Shown for PlaceRow {
+impl Shown for DisposableRow {
     ghost shown_in = { shown_place };
 
-    fn read(row: &Row) -> Result<PlaceRow> {
-        Ok(PlaceRow {
+    fn read(row: &Row) -> Result<DisposableRow> {
+        Ok(DisposableRow {
             number: row.get(0)?,
             collection: row.get(1)?,
             class: row.get(2)?,
@@ -366,11 +365,11 @@ pub fn due_rows<S: Alter>(
     alloc: Global,
     tx: &mut Transaction<'_, S>,
     day: i64,
-) -> Result<Vec<PlaceRow>>
+) -> Result<Vec<DisposableRow>>
     ensures inside { GoesOnInside S.Store tx.old.conn tx.new.conn result }
     ensures same { Keeps S.Store tx.old.conn.now tx.new.conn.now result }
     ensures found { Tells S.Store tx.old.conn.now tx.new.conn.now result (λ tables places.
-        places.items ≡ due_places day tables) }
+        places.items ≡ disposable_rows day tables) }
 {
     let rows = rows_due(tx, day)?;
     read_all(alloc, &rows)

@@ -3,16 +3,15 @@
 ghost use Rattle.std.specs.List.{list_any};
 ghost use Rattle.std.specs.Prelude.{◌≡◌, ℕ, IfErr, OnOk, pos, Some, None, true, map, filter, ◌++◌, option_map, slice_get};
 ghost use Rattle.sql_meaning.specs.Columns.{int_at};
-ghost use Rattle.office_tables.specs.Faults.{IsFailure};
+ghost use Rattle.office_contents.specs.Faults.{IsFailure};
 ghost use Rattle.office_rows.specs.Rows.{hold_numbered, last_number, with_hold, with_released, live_holds, is_live_on, is_live_within, is_live_of_class};
-ghost use Rattle.office_tables.specs.Contents.{LeavesContents, LeavesOnce};
-ghost use Rattle.office_tables.specs.Calls.{GoesOnInside, Keeps, Shows, Tells, Writes};
+ghost use Rattle.office_contents.specs.Contents.{LeavesContents, LeavesOnce};
+ghost use Rattle.office_contents.specs.Calls.{GoesOnInside, Keeps, Shows, Tells, Writes};
 ghost use Rattle.office_tables.specs.ShownHolds.{shown_hold, placed_row, is_on};
 ghost use Rattle.office_tables.specs.Releases.{is_outside_of, is_over};
 
-use crate::fault::Result;
 use crate::rows::{Shown, first_number, number_shown, read_first};
-use crate::run::{ask, change};
+use office_contents::{Result, ask, change};
 use sqlite::{Alter, Row, Transaction, params};
 use std::alloc::Global;
 use std::marker::Model;

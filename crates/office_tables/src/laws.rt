@@ -5,8 +5,8 @@ ghost use Rattle.sqlite.specs.Effect.{Database};
 ghost use Rattle.sqlite_rules.specs.Lists.{Has};
 ghost use Rattle.office_rows.specs.Rows.{AreInOrder, ContentRow, FileRow, NumbersRise, RuleRow, file_at, live_holds};
 ghost use Rattle.office_rows.specs.Matching.{Attempt, fits_attempt, matching_rule};
-ghost use Rattle.office_tables.specs.Tables.{IsOffice, contents_of, tables_of};
-ghost use Rattle.office_tables.specs.Contents.{AreContents, KeepsOnce, content_at, is_intact, references_of};
+ghost use Rattle.office_contents.specs.Tables.{IsOffice, contents_of, tables_of};
+ghost use Rattle.office_contents.specs.Contents.{AreContents, StoresOnce, content_at, is_intact, references_of};
 
 /// In an office the numbers of deposits, those of holds and the places of rules rise from row to row, so none comes twice.
 pub fn rows_in_order()
@@ -21,7 +21,7 @@ pub fn live_holds_in_order()
 
 /// Where contents are kept once, they are exactly those of the files, each once, under its own SHA-256 and with its length.
 pub fn contents_are_those_of_files()
-    ensures { (db : Database) → IsOffice db → KeepsOnce db
+    ensures { (db : Database) → IsOffice db → StoresOnce db
         → AreContents (map (λ f. f.content) (tables_of db).files) (contents_of db) }
 {}
 
@@ -32,7 +32,7 @@ pub fn files_have_their_contents()
         → (c : ContentRow)
         × (content_at n path (tables_of db).files (references_of db) (contents_of db) ≡ Some c)
         × (f.content ≡ c.bytes) }
-    ensures intact { (db : Database) → IsOffice db → KeepsOnce db → (n : ℤ) (path : List ℕ) (f : FileRow)
+    ensures intact { (db : Database) → IsOffice db → StoresOnce db → (n : ℤ) (path : List ℕ) (f : FileRow)
         → file_at n path (tables_of db).files ≡ Some f
         → is_intact (content_at n path (tables_of db).files (references_of db) (contents_of db)) ≡ true }
 {}

@@ -5,18 +5,13 @@ mod classes;
 mod creating;
 mod deposits;
 mod dues;
-mod fault;
-mod files;
 mod holds;
-mod kept;
 pub mod laws;
 mod moving;
 mod opening;
 mod policy;
 mod recovery;
 mod rows;
-mod run;
-mod version;
 
 pub use classes::{class_of, has_collection, put_class, put_collection};
 pub use creating::create;
@@ -25,19 +20,17 @@ pub use deposits::{
     put_deposit, put_deposit_and_due,
 };
 pub use dues::{
-    ClosingRow, DepositAndDue, DueRow, PlaceRow, add_holds, add_holds_class, deposits_and_dues,
-    due_row, due_rows, rows_of_class, set_due, set_dues, set_holds,
-};
-pub use fault::{Result, TableFault};
-pub use files::{
-    FileRow, drop_files, file_of, files_of, intact_file_of, intact_files_of, put_file, put_marked,
+    ClosingRow, DepositAndDue, DisposableRow, DueRow, add_holds, add_holds_class,
+    deposits_and_dues, due_row, due_rows, rows_of_class, set_due, set_dues, set_holds,
 };
 pub use holds::{
     HoldRow, HoldTarget, end_hold, has_release_outside, hold_row, last_hold, live_holds, put_hold,
 };
-pub use kept::{ContentSize, contents};
 pub use moving::{move_holds, renew_fourth};
+pub use office_contents::{
+    ContentSize, FileRow, Result, TableFault, TableVersion, contents, drop_files, file_of,
+    files_of, intact_file_of, intact_files_of, put_file, put_marked,
+};
 pub use opening::{OfficeLimits, has_office, limits, open_tables, version_told};
 pub use policy::{CallerRow, RuleRow, match_rule, put_policy, role_of, rules};
 pub use recovery::adopt;
-pub use version::TableVersion;

@@ -3,13 +3,12 @@
 ghost use Rattle.std.specs.Prelude.{pos, OnOk, map};
 ghost use Rattle.sqlite.specs.State.{HasCleanDisk};
 ghost use Rattle.sqlite.specs.Held.{state};
-ghost use Rattle.office_tables.specs.Calls.{GoesOnInTurn};
+ghost use Rattle.office_contents.specs.Calls.{GoesOnInTurn};
 ghost use Rattle.office_tables.specs.Moving.{AllRows, all_in_version, BecomesAt, TakesOver};
-ghost use Rattle.office_tables.specs.declared.version.TableVersion.TheVariants.{Third, Fourth, Fifth};
+ghost use Rattle.office_contents.specs.declared.version.TableVersion.TheVariants.{Third, Fourth, Fifth};
 
 use crate::creating::define;
-use crate::fault::Result;
-use crate::run::change;
+use office_contents::{Result, change};
 use sqlite::{Alter, Transaction, params};
 
 /// Makes a newer table beside an older one, copies the rows, and empties the older one.

@@ -6,14 +6,13 @@ ghost use Rattle.sqlite.specs.Held.{state};
 ghost use Rattle.sqlite.specs.Order.{Row as SqlRow, column};
 ghost use Rattle.sqlite.specs.declared.types.Value.TheVariants.{Int};
 ghost use Rattle.office_rows.specs.Rows.{this_version, limits_of, version_of};
-ghost use Rattle.office_tables.specs.Calls.{GoesOnInside, Keeps, Shows, Tells};
-ghost use Rattle.office_tables.specs.Tables.{shown_limits};
-ghost use Rattle.office_tables.specs.Versions.{IsOfficeAt, tables_at};
-ghost use Rattle.office_tables.specs.declared.version.TableVersion.{TableVersion};
-ghost use Rattle.office_tables.specs.Opening.{shows_office, known_row, ShowsVersion, has_office, HasVersion, HasOtherVersion, IsKnownAsOther, NotAnOffice, KeepsTables};
+ghost use Rattle.office_contents.specs.Calls.{GoesOnInside, Keeps, Shows, Tells};
+ghost use Rattle.office_contents.specs.Tables.{shown_limits};
+ghost use Rattle.office_contents.specs.Versions.{IsOfficeAt, tables_at};
+ghost use Rattle.office_contents.specs.declared.version.TableVersion.{TableVersion};
+ghost use Rattle.office_tables.specs.Opening.{shows_office, known_row, ShowsVersion, has_office, HasVersion, HasOtherVersion, IsKnownAsOther, NotAnOffice, HasSameTables};
 
-use crate::fault::{Result, TableFault};
-use crate::run::ask;
+use office_contents::{Result, TableFault, ask};
 use office_rows::is_limit;
 use sqlite::types::ValueRef;
 use sqlite::{Alter, Connection, Row, Transaction, params};
@@ -100,7 +99,7 @@ pub fn open_tables<S: Alter>(conn: &mut Connection<S>) -> Result<()>
     ensures outside { (state S.Store conn.new).in_transaction ≡ false }
     ensures survives { Survives (state S.Store conn.old) (state S.Store conn.new) (λ _. ⊥) }
     ensures same { HasCleanDisk (state S.Store conn.new)
-        → KeepsTables (state S.Store conn.old) (state S.Store conn.new) }
+        → HasSameTables (state S.Store conn.old) (state S.Store conn.new) }
     ensures opened { HasCleanDisk (state S.Store conn.new)
         → OnOk result
         (IsTrue (has_office (state S.Store conn.old).now.schema)

@@ -2,16 +2,15 @@
 
 ghost use Rattle.std.specs.Prelude.{◌≡◌, ℕ, IfOk, IfErr, map, option_map, slice_get, string_bytes};
 ghost use Rattle.sql_meaning.specs.Columns.{bytes_at};
-ghost use Rattle.office_tables.specs.Faults.{IsFailure};
+ghost use Rattle.office_contents.specs.Faults.{IsFailure};
 ghost use Rattle.office_rows.specs.Rows.{caller_named, without_callers, without_rules, with_caller, with_rule, with_callers, with_rules, with_policy};
-ghost use Rattle.office_tables.specs.Contents.{LeavesContents, LeavesOnce};
+ghost use Rattle.office_contents.specs.Contents.{LeavesContents, LeavesOnce};
 ghost use Rattle.office_rows.specs.Matching.{matching_rule};
-ghost use Rattle.office_tables.specs.Calls.{GoesOnInTurn, GoesOnInside, Keeps, Shows, Tells, Writes};
+ghost use Rattle.office_contents.specs.Calls.{GoesOnInTurn, GoesOnInside, Keeps, Shows, Tells, Writes};
 ghost use Rattle.office_tables.specs.ShownPolicy.{shown_rule};
 
-use crate::fault::Result;
 use crate::rows::{Shown, read_all, read_first};
-use crate::run::{ask, change};
+use office_contents::{Result, ask, change};
 use sqlite::{Alter, Row, Transaction, params};
 use std::alloc::Global;
 use std::marker::Model;

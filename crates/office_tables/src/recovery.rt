@@ -5,15 +5,15 @@ ghost use Rattle.std.specs.Prelude.{◌≡◌, Err, None, Some, false, IsTrue, I
 ghost use Rattle.sqlite.specs.State.{Survives};
 ghost use Rattle.sqlite.specs.Held.{state};
 ghost use Rattle.office_rows.specs.Rows.{Tables, this_version, version_of};
-ghost use Rattle.office_tables.specs.Faults.{IsFailure};
+ghost use Rattle.office_contents.specs.Faults.{IsFailure};
 ghost use Rattle.office_tables.specs.Opening as opening;
-ghost use Rattle.office_tables.specs.Opening.{HasOtherVersion, HasVersion, IfRefused, IfTaken, KeepsTables, IsKnownAsOther, IsLeft, has_office};
-ghost use Rattle.office_tables.specs.Versions.{IfKnownOffice};
-ghost use Rattle.office_tables.specs.declared.fault.TableFault.TheVariants.{NotAnOffice, OtherVersion};
+ghost use Rattle.office_tables.specs.Opening.{HasOtherVersion, HasVersion, IfRefused, IfTaken, HasSameTables, IsKnownAsOther, IsLeft, has_office};
+ghost use Rattle.office_contents.specs.Versions.{IfKnownOffice};
+ghost use Rattle.office_contents.specs.declared.fault.TableFault.TheVariants.{NotAnOffice, OtherVersion};
 ghost use Rattle.office_tables.specs.Found.{GoesOnAs};
 
-use crate::fault::TableFault;
 use crate::opening::open_tables;
+use office_contents::TableFault;
 use sqlite::{Alter, Connection};
 
 /// Takes a connection that shows an office of this version. It doesn't test the rows of the other
@@ -26,7 +26,7 @@ pub fn adopt<S: Alter>(
     requires outside { (state S.Store conn).in_transaction ≡ false }
     // The tables are as they were.
     ensures outside { IfOk result (λ office. (state S.Store office).in_transaction ≡ false) }
-    ensures same { IfTaken S.Store result (KeepsTables (state S.Store conn)) }
+    ensures same { IfTaken S.Store result (HasSameTables (state S.Store conn)) }
     ensures survives { IfOk result (λ office.
         Survives (state S.Store conn) (state S.Store office) (λ _. ⊥)) }
     ensures version { IfTaken S.Store result (λ _.
@@ -40,7 +40,7 @@ pub fn adopt<S: Alter>(
 
     // A refusal leaves them so too.
     ensures refused_outside { IfErr result (λ e. (state S.Store e.0).in_transaction ≡ false) }
-    ensures refused_same { IfRefused S.Store result (λ s _. KeepsTables (state S.Store conn) s) }
+    ensures refused_same { IfRefused S.Store result (λ s _. HasSameTables (state S.Store conn) s) }
     ensures refused_survives { IfErr result (λ e.
         Survives (state S.Store conn) (state S.Store e.0) (λ _. ⊥)) }
     ensures refused { IfRefused S.Store result (λ s _. GoesOnAs (state S.Store conn) s) }

@@ -3,9 +3,9 @@
 ghost use Rattle.std.specs.Prelude.{◌≡◌, IfOk, IfErr, map, option_map, pos, slice_get};
 ghost use Rattle.sqlite.specs.Order.{Row as SqlRow};
 ghost use Rattle.sql_meaning.specs.Columns.{int_at};
-ghost use Rattle.office_tables.specs.Faults.{IsFailure};
+ghost use Rattle.office_contents.specs.Faults.{IsFailure};
 
-use crate::fault::Result;
+use office_contents::Result;
 use sqlite::Row;
 use std::alloc::Global;
 

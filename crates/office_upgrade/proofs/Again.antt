@@ -1,5 +1,5 @@
 -- What was kept, and what was left, of an office of a known version, after an upgrade and after a refusal.
-use Rattle.office_upgrade.proofs.Common.{◌≡◌, ◌⊎◌, None, Some, IsTrue, refl, sym, ap, subst, ◌∙◌, inl, inr, Database, IsDatabase, Trees, State, HasCleanDisk, Survives, IsLive, survives_weaker, version_of, HasVersion, KeepsTables, NotAnOffice, AllRows, BecomesAt, renewed, IsOfficeAt, tables_at, version_number, IsOfficeOf, IsUpgrade, IsLeftAt, Upgrades, UpgradeLasts, TakesUp, KeepsOffice, LeavesOffice, GoesBack, OpensOlder, NewestSurvives, TellsKnown, TellsUnknown, HasUnknownVersion, TableVersion, Fifth, is_there, tells_version}
+use Rattle.office_upgrade.proofs.Common.{◌≡◌, ◌⊎◌, None, Some, IsTrue, refl, sym, ap, subst, ◌∙◌, inl, inr, Database, IsDatabase, Trees, State, HasCleanDisk, Survives, IsLive, survives_weaker, version_of, HasVersion, HasSameTables, NotAnOffice, AllRows, BecomesAt, renewed, IsOfficeAt, tables_at, version_number, IsOfficeOf, IsUpgrade, IsLeftAt, Upgrades, UpgradeLasts, TakesUp, HasSameOffice, LeavesOffice, GoesBack, OpensOlder, NewestSurvives, TellsKnown, TellsUnknown, HasUnknownVersion, TableVersion, Fifth, is_there, tells_version}
 use Rattle.office_tables.proofs.FoundAgain.{same_database}
 
 becomes_again : (version : TableVersion) (rows : AllRows) (left : Trees) (b : Database) → IsLeftAt version rows left → IsDatabase b → b.trees ≡ left → BecomesAt version b rows
@@ -42,13 +42,13 @@ leaves_office old new live outside s clean settled version rows told was_open fo
       | inr upgraded ↦ inr (upgraded.leaves version rows (record { becomes = becomes; told = told }))
     ]
 
-pub keeps_office : (old new : State) → KeepsTables old new → KeepsOffice old new
+pub keeps_office : (old new : State) → HasSameTables old new → HasSameOffice old new
 keeps_office old new kept version rows was is_open =
     let it = kept is_open in
     let before = was it.0 in
     (subst (λ (d : Database). BecomesAt version d rows) (sym it.1) before.0, it.2 ∙ sym it.1)
 
-pub goes_back : (old new : State) → IsLive old → KeepsTables old new → GoesBack old new
+pub goes_back : (old new : State) → IsLive old → HasSameTables old new → GoesBack old new
 goes_back old new live kept version rows left is_open =
     let it = kept is_open in
     (subst (λ (d : Database). BecomesAt version d rows) (sym it.1) (found_becomes version rows old live it.0 left), it.2 ∙ sym it.1)

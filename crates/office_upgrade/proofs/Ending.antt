@@ -4,9 +4,9 @@ use Rattle.sqlite.specs.Store.{Ghosts}
 use Rattle.sqlite.proofs.Callers.{survives_begin}
 use Rattle.sql_meaning.specs.Inside.{Stays}
 use Rattle.sql_meaning.proofs.Inside.{survives_commit}
-use Rattle.office_tables.specs.Faults.{IsFailure}
-use Rattle.office_tables.specs.declared.fault.TableFault.{TableFault}
-use Rattle.office_tables.specs.declared.fault.TableFault.TheVariants.{NotAnOffice, OtherVersion, Memory, Store}
+use Rattle.office_contents.specs.Faults.{IsFailure}
+use Rattle.office_contents.specs.declared.fault.TableFault.{TableFault}
+use Rattle.office_contents.specs.declared.fault.TableFault.TheVariants.{NotAnOffice, OtherVersion, Memory, Store}
 
 -- a version is one number alone
 pub not_fourth : (version : ℤ) → version ≡ pos 3 → version ≡ pos 4 → ⊥

@@ -1,4 +1,4 @@
 pub mod Common
 pub mod Ending
 pub mod Again
-pub mod Kept
+pub mod Stored

@@ -6,11 +6,11 @@ use Rattle.sqlite.specs.Tree.{Trees}
 use Rattle.sqlite.specs.State.{State, Survives}
 use Rattle.office_rows.specs.Rows.{Tables, this_version, version_of}
 use Rattle.office_tables.specs.Opening.{HasVersion}
-use Rattle.office_tables.specs.Tables.{IsOffice, tables_of}
+use Rattle.office_contents.specs.Tables.{IsOffice, tables_of}
 use Rattle.office_tables.specs.Moving.{AllRows, BecomesAt, renewed}
-use Rattle.office_tables.specs.Versions.{version_number}
-use Rattle.office_tables.specs.declared.version.TableVersion.{TableVersion}
-use Rattle.office_tables.specs.declared.version.TableVersion.TheVariants.{Fifth}
+use Rattle.office_contents.specs.Versions.{version_number}
+use Rattle.office_contents.specs.declared.version.TableVersion.{TableVersion}
+use Rattle.office_contents.specs.declared.version.TableVersion.TheVariants.{Fifth}
 
 -- the rows tell the version
 abbrev pub TellsVersion : TableVersion → AllRows → Type 0
@@ -58,18 +58,18 @@ HasUnknownVersion db = (other : ℤ) × ((version : TableVersion) → other ≢ 
 -- ---- what is kept, and what is found again
 
 -- while the store is open it has an office of that version with these rows, and all of it is committed
-abbrev pub IsKeptAt : TableVersion → AllRows → State → Type 0
-IsKeptAt version rows s = IsTrue s.is_open → BecomesAt version s.now rows × (s.committed ≡ s.now)
+abbrev pub IsStoredAt : TableVersion → AllRows → State → Type 0
+IsStoredAt version rows s = IsTrue s.is_open → BecomesAt version s.now rows × (s.committed ≡ s.now)
 
 -- whichever office of a known version was kept, it is kept with the newest tables
 abbrev pub Upgrades : State → State → Type 0
-Upgrades old new = (version : TableVersion) (rows : AllRows) → TellsNoOther version rows → IsKeptAt version rows old
-    → IsKeptAt Fifth (renewed version rows) new
+Upgrades old new = (version : TableVersion) (rows : AllRows) → TellsNoOther version rows → IsStoredAt version rows old
+    → IsStoredAt Fifth (renewed version rows) new
 
 -- whichever a crash may have left, it is taken up, with the newest tables
 abbrev pub TakesUp : State → State → Type 0
 TakesUp old new = (version : TableVersion) (rows : AllRows) → TellsNoOther version rows → IsLeftAt version rows old.now.trees
-    → IsKeptAt Fifth (renewed version rows) new
+    → IsStoredAt Fifth (renewed version rows) new
 
 -- whichever was there, kept or left by a crash, a crash leaves it with the newest tables, and leaves nothing else
 abbrev pub UpgradeLasts : State → State → Type 0
@@ -91,9 +91,9 @@ abbrev pub NewestSurvives : State → State → Type 0
 NewestSurvives old new = IsOffice old.now → version_of (tables_of old.now) ≡ Some this_version → Survives old new (λ _. ⊥)
 
 -- whatever office was kept, it still is
-abbrev pub KeepsOffice : State → State → Type 0
-KeepsOffice old new = (version : TableVersion) (rows : AllRows) → IsKeptAt version rows old → IsKeptAt version rows new
+abbrev pub HasSameOffice : State → State → Type 0
+HasSameOffice old new = (version : TableVersion) (rows : AllRows) → IsStoredAt version rows old → IsStoredAt version rows new
 
 -- whatever office a crash may have left, it is kept by its own version
 abbrev pub GoesBack : State → State → Type 0
-GoesBack old new = (version : TableVersion) (rows : AllRows) → IsLeftAt version rows old.now.trees → IsKeptAt version rows new
+GoesBack old new = (version : TableVersion) (rows : AllRows) → IsLeftAt version rows old.now.trees → IsStoredAt version rows new

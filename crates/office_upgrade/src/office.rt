@@ -4,15 +4,15 @@ ghost use Rattle.std.specs.Prelude.{Err, None, Some, ◌≡◌, false, IfOk, IfE
 ghost use Rattle.sqlite.specs.State.{Survives};
 ghost use Rattle.sqlite.specs.Held.{state};
 ghost use Rattle.office_rows.specs.Rows.{this_version, version_of};
-ghost use Rattle.office_tables.specs.Faults.{IsFailure};
-ghost use Rattle.office_tables.specs.Tables.{IsOffice, tables_of};
+ghost use Rattle.office_contents.specs.Faults.{IsFailure};
+ghost use Rattle.office_contents.specs.Tables.{IsOffice, tables_of};
 ghost use Rattle.office_tables.specs.Opening as opening;
-ghost use Rattle.office_tables.specs.Opening.{IfRefused, IfTaken, KeepsTables, HasVersion, has_office};
-ghost use Rattle.office_tables.specs.declared.fault.TableFault.TheVariants.{NotAnOffice, OtherVersion};
+ghost use Rattle.office_tables.specs.Opening.{IfRefused, IfTaken, HasSameTables, HasVersion, has_office};
+ghost use Rattle.office_contents.specs.declared.fault.TableFault.TheVariants.{NotAnOffice, OtherVersion};
 ghost use Rattle.office_tables.specs.Moving.{AllRows, BecomesAt};
-ghost use Rattle.office_tables.specs.Versions.{IfKnownOffice, version_number};
-ghost use Rattle.office_upgrade.specs.Upgrading.{IsOlder, IsUpgrade, IsLeftAt, TellsVersion, TellsKnown, TellsUnknown, Upgrades, UpgradeLasts, TakesUp, KeepsOffice, LeavesOffice, GoesBack, OpensOlder, NewestSurvives, HasUnknownVersion};
-ghost use Rattle.office_tables.specs.declared.version.TableVersion.{TableVersion as Version};
+ghost use Rattle.office_contents.specs.Versions.{IfKnownOffice, version_number};
+ghost use Rattle.office_upgrade.specs.Upgrading.{IsOlder, IsUpgrade, IsLeftAt, TellsVersion, TellsKnown, TellsUnknown, Upgrades, UpgradeLasts, TakesUp, HasSameOffice, LeavesOffice, GoesBack, OpensOlder, NewestSurvives, HasUnknownVersion};
+ghost use Rattle.office_contents.specs.declared.version.TableVersion.{TableVersion as Version};
 
 use crate::upgrading::upgrade;
 use office_tables::TableFault;
@@ -33,10 +33,10 @@ pub fn upgrade_office<S: Alter>(
     ensures is_open { IfTaken S.Store result (OpensOlder (state S.Store conn)) }
     // Tables that show no older version stay as they are, those that are the newest among them.
     ensures kept { IfTaken S.Store result (λ s.
-        (IsOlder (state S.Store conn).now → ⊥) → KeepsTables (state S.Store conn) s) }
+        (IsOlder (state S.Store conn).now → ⊥) → HasSameTables (state S.Store conn) s) }
     ensures newest { IfTaken S.Store result (λ s. IsOffice (state S.Store conn).now
         → version_of (tables_of (state S.Store conn).now) ≡ Some this_version
-        → KeepsTables (state S.Store conn) s) }
+        → HasSameTables (state S.Store conn) s) }
     ensures newest_survives { IfOk result (λ office.
         NewestSurvives (state S.Store conn) (state S.Store office)) }
     ensures upgraded { IfTaken S.Store result (Upgrades (state S.Store conn)) }
@@ -54,8 +54,8 @@ pub fn upgrade_office<S: Alter>(
 
     // A refusal leaves the office as it was.
     ensures refused_outside { IfErr result (λ e. (state S.Store e.0).in_transaction ≡ false) }
-    ensures refused_same { IfRefused S.Store result (λ s _. KeepsTables (state S.Store conn) s) }
-    ensures refused { IfRefused S.Store result (λ s _. KeepsOffice (state S.Store conn) s) }
+    ensures refused_same { IfRefused S.Store result (λ s _. HasSameTables (state S.Store conn) s) }
+    ensures refused { IfRefused S.Store result (λ s _. HasSameOffice (state S.Store conn) s) }
     ensures goes_back { IfRefused S.Store result (λ s _. GoesBack (state S.Store conn) s) }
     ensures refused_newest_survives { IfErr result (λ e.
         NewestSurvives (state S.Store conn) (state S.Store e.0)) }

@@ -5,16 +5,16 @@ ghost use Rattle.sqlite.specs.State.{HasCleanDisk, Survives};
 ghost use Rattle.sqlite.specs.Held.{state};
 ghost use Rattle.sqlite.specs.Tree.{Trees};
 ghost use Rattle.office_rows.specs.Rows.{this_version, version_of};
-ghost use Rattle.office_tables.specs.Faults.{IsFailure};
-ghost use Rattle.office_tables.specs.Tables.{IsOffice, tables_of};
-ghost use Rattle.office_tables.specs.Calls.{CommitsNothing, ContinuesInTurn};
-ghost use Rattle.office_tables.specs.Opening.{ShowsVersion, has_office, HasVersion, NotAnOffice, KeepsTables};
-ghost use Rattle.office_tables.specs.declared.fault.TableFault.TheVariants as fault;
+ghost use Rattle.office_contents.specs.Faults.{IsFailure};
+ghost use Rattle.office_contents.specs.Tables.{IsOffice, tables_of};
+ghost use Rattle.office_contents.specs.Calls.{CommitsNothing, ContinuesInTurn};
+ghost use Rattle.office_tables.specs.Opening.{ShowsVersion, has_office, HasVersion, NotAnOffice, HasSameTables};
+ghost use Rattle.office_contents.specs.declared.fault.TableFault.TheVariants as fault;
 ghost use Rattle.office_tables.specs.Moving.{AllRows, BecomesAt, renewed};
-ghost use Rattle.office_tables.specs.Versions.{version_number};
+ghost use Rattle.office_contents.specs.Versions.{version_number};
 ghost use Rattle.office_upgrade.specs.Upgrading.{IsOfficeOf, IsOlder, IsUpgrade, IsRenewed, IsLeftAt, HasUnknownVersion, TellsVersion};
-ghost use Rattle.office_tables.specs.declared.version.TableVersion.{TableVersion as Version};
-ghost use Rattle.office_tables.specs.declared.version.TableVersion.TheVariants.{Fifth};
+ghost use Rattle.office_contents.specs.declared.version.TableVersion.{TableVersion as Version};
+ghost use Rattle.office_contents.specs.declared.version.TableVersion.TheVariants.{Fifth};
 
 use office_tables::{TableFault, has_office, move_holds, renew_fourth, version_told};
 use sqlite::{Alter, Connection, Transaction};
@@ -126,14 +126,14 @@ pub fn upgrade<S: Alter>(conn: &mut Connection<S>) -> Result<(), TableFault>
     ensures kept { HasCleanDisk (state S.Store conn.new)
         → OnOk result
         ((IsOlder (state S.Store conn.old).now → ⊥)
-        → KeepsTables (state S.Store conn.old) (state S.Store conn.new)) }
+        → HasSameTables (state S.Store conn.old) (state S.Store conn.new)) }
     ensures newest { HasCleanDisk (state S.Store conn.new)
         → OnOk result
         (IsOffice (state S.Store conn.old).now
         → version_of (tables_of (state S.Store conn.old).now) ≡ Some this_version
-        → KeepsTables (state S.Store conn.old) (state S.Store conn.new)) }
+        → HasSameTables (state S.Store conn.old) (state S.Store conn.new)) }
     ensures refused { HasCleanDisk (state S.Store conn.new)
-        → OnErr result (KeepsTables (state S.Store conn.old) (state S.Store conn.new)) }
+        → OnErr result (HasSameTables (state S.Store conn.old) (state S.Store conn.new)) }
     ensures opened { HasCleanDisk (state S.Store conn.new)
         → OnOk result
         (IsTrue (has_office (state S.Store conn.old).now.schema)

@@ -6,8 +6,8 @@ use Rattle.sqlite_trees.specs.declared.store.Shape.TheVariants as shape
 pub use Rattle.sql_meaning.specs.Whole.{with_rows}
 
 -- each row of a whole database keeps each rule of its schema
-pub keeps_rule : {schema : Schema} {db : Database} → IsWhole schema db → (rule : Constraint) → Keeps rule schema db.trees
-keeps_rule {schema} {db} whole rule = subst (λ s. Keeps rule s db.trees) whole.schema_is (whole.listed.obeys.rules rule)
+pub obeys_rule : {schema : Schema} {db : Database} → IsWhole schema db → (rule : Constraint) → Keeps rule schema db.trees
+obeys_rule {schema} {db} whole rule = subst (λ s. Keeps rule s db.trees) whole.schema_is (whole.listed.obeys.rules rule)
 
 one_or_other : (P : Type 0) (a b : ℕ) → (a ≡ b → P) → (a ≢ b → P) → P
 one_or_other P a b same other = elim (cases_lt a b) [

@@ -30,7 +30,7 @@ fn page_bytes(told: u16) -> u64
 }
 
 /// How many pages of that length are kept of a file of this length: at most 128 MiB of them.
-fn pages_to_keep(bytes: u64, page_bytes: u64) -> usize
+fn cached_pages(bytes: u64, page_bytes: u64) -> usize
     requires { 0 < page_bytes }
     ensures exact { result ≡ min (bytes + 8192000) 134217728 / page_bytes }
     ensures most { result * page_bytes ≤ 134217728 }
@@ -62,9 +62,7 @@ fn told_in(rt: &HostRuntime, path: &str) -> u16 {
 /// How many pages are kept of the file at the path, as it is found.
 pub fn pages_of(rt: &HostRuntime, path: &str) -> usize {
     match fs::metadata(rt, path) {
-        Ok(found) if found.is_file() => {
-            pages_to_keep(found.len(), page_bytes(told_in(rt, path)))
-        }
-        _ => pages_to_keep(0, PAGE_BYTES),
+        Ok(found) if found.is_file() => { cached_pages(found.len(), page_bytes(told_in(rt, path))) }
+        _ => cached_pages(0, PAGE_BYTES),
     }
 }

@@ -1,10 +1,10 @@
-use Rattle.bag_text.proofs.Lemmas.{◌≡◌, List, length, ap, arith, err_from_is_err_and, nat_tests, lines, Kept, pairs_from, pairs_of, sound_lines, first_sound, none_marked, all_read, next_line, line_fails}
+use Rattle.bag_text.proofs.Lemmas.{◌≡◌, List, length, ap, arith, err_from_is_err_and, nat_tests, lines, CodePair, pairs_from, pairs_of, sound_lines, first_sound, none_marked, all_read, next_line, line_fails}
 use Rattle.bag_text.proofs.info.read_pairs.Goals as goal
 
 pub loop-rest-init : goal.loop-rest-init
 loop-rest-init c = record {
   room = omega arith;
-  so_far = ap (λ (x : List Kept). pairs_from 1 (pairs_of x) (lines c.args.text.now)) c.new-pairs.ensures.items;
+  so_far = ap (λ (x : List CodePair). pairs_from 1 (pairs_of x) (lines c.args.text.now)) c.new-pairs.ensures.items;
   sound = sound_lines c.args.text.now c.requires;
   marked = none_marked c.new-pairs.result.items c.new-pairs.ensures.items;
 }

@@ -1,4 +1,4 @@
-use Rattle.commands.proofs.CheckLemmas.{says_valid, says_invalid}
+use Rattle.commands.proofs.Lemmas.{says_valid, says_invalid}
 use Rattle.commands.proofs.check.bag_outcome.Goals as goal
 
 pub returns-in-Ok : goal.returns-in-Ok

@@ -1,5 +1,4 @@
-use Rattle.std.proofs.Common.{arith}
-use Rattle.commands.proofs.CheckLemmas.{says_of_bag, says_unreadable}
+use Rattle.commands.proofs.Lemmas.{arith, says_of_bag, says_unreadable}
 use Rattle.commands.proofs.check.bytes_outcome.Goals as goal
 
 pub returns-in-Ok : goal.returns-in-Ok

@@ -1,4 +1,4 @@
-use Rattle.commands.proofs.CheckLemmas.{too_long_is_said, valid_is_said, invalid_is_said, unreadable_is_said}
+use Rattle.commands.proofs.Lemmas.{too_long_is_said, valid_is_said, invalid_is_said, unreadable_is_said}
 use Rattle.commands.proofs.check.check_outcome.Goals as goal
 
 pub returns-clause-valid : goal.returns-clause-valid

@@ -1,6 +1,4 @@
-use Rattle.std.proofs.Common.{List, ℕ, subst, take}
-use Rattle.commands.specs.Checking.{SaysOfBytes, bytes_to_read}
-use Rattle.commands.proofs.KnownLemmas.{of_known}
+use Rattle.commands.proofs.Lemmas.{List, ℕ, subst, take, SaysOfBytes, bytes_to_read, of_known}
 use Rattle.commands.proofs.check.judge.Goals as goal
 
 pub returns-clause-says : goal.returns-clause-says

@@ -1,7 +1,5 @@
-use Rattle.std.proofs.Common.{rules, ◌≡◌, ◌++◌, ◌∷◌, [], refl}
-use Rattle.std.specs.Prelude.{string_bytes, codes, decimal}
+use Rattle.commands.proofs.Lemmas.{rules, ◌≡◌, ◌++◌, ◌∷◌, [], refl, string_bytes, codes, decimal, pieces}
 use Rattle.bag_text.specs.Declaration.{version_text}
-use Rattle.commands.proofs.CheckLemmas.{pieces}
 use Rattle.commands.proofs.check.valid_outcome.Goals as goal
 
 pub returns : goal.returns

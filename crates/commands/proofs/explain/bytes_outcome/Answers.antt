@@ -1,6 +1,4 @@
-use Rattle.std.proofs.Common.{subst}
-use Rattle.commands.specs.PolicyFiles.{IsRead}
-use Rattle.commands.proofs.ExplainLemmas.{refusal_is_explained}
+use Rattle.commands.proofs.Lemmas.{subst, IsRead, refusal_is_explained}
 use Rattle.commands.proofs.explain.bytes_outcome.Goals as goal
 
 pub returns-in-Err : goal.returns-in-Err

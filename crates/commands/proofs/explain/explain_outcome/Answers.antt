@@ -1,6 +1,4 @@
-use Rattle.std.proofs.Common.{Some, None}
-use Rattle.office_core.specs.declared.rule.Effect.TheVariants.{Allow, Deny}
-use Rattle.commands.proofs.ExplainLemmas.{decision_is_said, fault_is_said, missing_day_is_said}
+use Rattle.commands.proofs.Lemmas.{Some, None, Allow, Deny, decision_is_said, fault_is_said, missing_day_is_said}
 use Rattle.commands.proofs.explain.explain_outcome.Goals as goal
 
 pub returns-clause-allowed : goal.returns-clause-allowed

@@ -1,6 +1,4 @@
-use Rattle.std.proofs.Common.{List, ℕ, subst}
-use Rattle.commands.specs.Explaining.{Explains}
-use Rattle.commands.proofs.KnownLemmas.{of_known}
+use Rattle.commands.proofs.Lemmas.{List, ℕ, subst, Explains, of_known}
 use Rattle.commands.proofs.explain.explain_policy.Goals as goal
 
 pub returns-clause-says : goal.returns-clause-says

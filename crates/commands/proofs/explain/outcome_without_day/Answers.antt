@@ -1,5 +1,4 @@
-use Rattle.std.proofs.Common.{◌∙◌, inr, sym}
-use Rattle.commands.proofs.ExplainLemmas.{missing_day_is_explained, policy_is_explained}
+use Rattle.commands.proofs.Lemmas.{◌∙◌, inr, sym, missing_day_is_explained, policy_is_explained}
 use Rattle.commands.proofs.explain.outcome_without_day.Goals as goal
 
 pub returns : goal.returns

@@ -1,5 +1,4 @@
-use Rattle.std.proofs.Common.{inl}
-use Rattle.commands.proofs.ExplainLemmas.{policy_is_explained}
+use Rattle.commands.proofs.Lemmas.{inl, policy_is_explained}
 use Rattle.commands.proofs.explain.spelled_outcome.Goals as goal
 
 pub returns-in-Some : goal.returns-in-Some

@@ -1,4 +1,4 @@
-use Rattle.std.proofs.Common.{inl, inr, refl}
+use Rattle.commands.proofs.Common.{inl, inr, refl}
 use Rattle.commands.proofs.PolicyLemmas.{read_is_spelled, refused_is_first}
 use Rattle.commands.proofs.policy_file.policy_of_bytes.Goals as goal
 

@@ -1,7 +1,4 @@
-use Rattle.std.proofs.Common.{rules, ◌≡◌}
-use Rattle.serde_json.specs.View.{view}
-use Rattle.desk_answers.specs.Bodies.{content_of}
-use Rattle.desk_answers.specs.Responses.{json}
+use Rattle.desk_answers.proofs.Common.{rules, ◌≡◌, view, content_of, json}
 use Rattle.desk_answers.proofs.Walk.{written_body}
 use Rattle.desk_answers.proofs.answers.content_of.Goals as goal
 

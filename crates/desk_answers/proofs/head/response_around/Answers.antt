@@ -1,5 +1,4 @@
-use Rattle.std.proofs.Common.{◌≡◌, ◌++◌, ◌∙◌, length, sym, ap}
-use Rattle.desk_answers.specs.Responses.{head_text}
+use Rattle.desk_answers.proofs.Common.{◌≡◌, ◌++◌, ◌∙◌, length, sym, ap, head_text}
 use Rattle.desk_answers.proofs.ListTexts.{turned}
 use Rattle.desk_answers.proofs.head.response_around.Goals as goal
 

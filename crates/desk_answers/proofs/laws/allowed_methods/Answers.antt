@@ -1,4 +1,4 @@
-use Rattle.std.proofs.Common.{refl}
+use Rattle.desk_answers.proofs.Common.{refl}
 use Rattle.desk_answers.proofs.LawLemmas.{allow_stands, answer_code_is_other, methods_in_order}
 use Rattle.desk_answers.proofs.laws.allowed_methods.Goals as goal
 

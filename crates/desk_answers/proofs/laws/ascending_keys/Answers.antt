@@ -1,4 +1,4 @@
-use Rattle.std.proofs.Common.{refl}
+use Rattle.desk_answers.proofs.Common.{refl}
 use Rattle.desk_answers.proofs.Walk.{answer_is_orderly}
 use Rattle.desk_answers.proofs.laws.ascending_keys.Goals as goal
 

@@ -1,4 +1,4 @@
-use Rattle.std.proofs.Common.{length}
+use Rattle.desk_answers.proofs.Common.{length}
 use Rattle.desk_answers.proofs.methods.+methods_text.Given as goal
 
 abbrev pub decreases-methods_text : goal.decreases-methods_text

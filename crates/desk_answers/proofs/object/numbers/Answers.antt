@@ -1,5 +1,4 @@
-use Rattle.serde_json.specs.View.{view}
-use Rattle.desk_answers.specs.Objects.{whole}
+use Rattle.desk_answers.proofs.Common.{view, whole}
 use Rattle.desk_answers.proofs.Lists.{map-take_next}
 use Rattle.desk_answers.proofs.object.numbers.Goals as goal
 

@@ -1,6 +1,4 @@
-use Rattle.std.proofs.Common.{◌≡◌, map, take}
-use Rattle.serde_json.specs.View.{view}
-use Rattle.desk_answers.specs.Objects.{whole}
+use Rattle.desk_answers.proofs.Common.{◌≡◌, map, take, view, whole}
 use Rattle.desk_answers.proofs.object.numbers.Given as goal
 
 abbrev pub invariant-loop-number : goal.invariant-loop-number

@@ -1,4 +1,4 @@
-use Rattle.std.proofs.Common.{◌++◌, ◌∙◌, ap}
+use Rattle.desk_answers.proofs.Common.{◌++◌, ◌∙◌, ap}
 use Rattle.desk_answers.proofs.ListTexts.{rest_text, whole_text}
 use Rattle.desk_answers.proofs.told.list_text.Goals as goal
 

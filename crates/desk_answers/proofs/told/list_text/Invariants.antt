@@ -1,4 +1,4 @@
-use Rattle.std.proofs.Common.{◌≡◌, false, ◌++◌, drop}
+use Rattle.desk_answers.proofs.Common.{◌≡◌, false, ◌++◌, drop}
 use Rattle.desk_answers.proofs.ListTexts.{rest_text}
 use Rattle.desk_answers.proofs.told.list_text.Given as goal
 

@@ -1,7 +1,4 @@
-use Rattle.std.proofs.Common.{◌≡◌, map}
-use Rattle.form_urlencoded.specs.Parse.{raw_pairs_left}
-use Rattle.desk_forms.specs.Queries.{text_of, query_pairs}
-use Rattle.desk_forms.specs.QueryReading.{has_only}
+use Rattle.desk_forms.proofs.Common.{◌≡◌, map, raw_pairs_left, text_of, query_pairs, has_only}
 use Rattle.desk_forms.proofs.query.check_keys.Given as goal
 
 -- the pairs that are left decide

@@ -1,8 +1,6 @@
-use Rattle.std.proofs.Common.{◌≡◌, ◌++◌, map, option_map}
+use Rattle.desk_forms.proofs.Common.{◌≡◌, ◌++◌, map, option_map, raw_pairs_left, text_of, query_pairs, values_under}
 use Rattle.std.specs.Option.{option_to_list}
 use Rattle.std.specs.Cow.{cow_str_bytes}
-use Rattle.form_urlencoded.specs.Parse.{raw_pairs_left}
-use Rattle.desk_forms.specs.Queries.{text_of, query_pairs, values_under}
 use Rattle.desk_forms.proofs.query.find_value.Given as goal
 
 abbrev pub invariant-pairs : goal.invariant-pairs

@@ -1,6 +1,4 @@
-use Rattle.std.proofs.Common.{◌≡◌, ◌∙◌, ap, map}
-use Rattle.office_core.specs.Policies.{is_one_of}
-use Rattle.desk_forms.specs.Queries.{text_of}
+use Rattle.desk_forms.proofs.Common.{◌≡◌, ◌∙◌, ap, map, is_one_of, text_of}
 use Rattle.desk_forms.proofs.QueryLemmas.{list_any-lent}
 use Rattle.desk_forms.proofs.query.is_known.Goals as goal
 

@@ -1,6 +1,4 @@
-use Rattle.std.proofs.Common.{ℕ, List, [], ◌∷◌, codes, rules}
-use Rattle.std.proofs.lemmas.Bool.Decides.{not_from_Decides}
-use Rattle.desk_forms.specs.Queries.{query_pairs}
+use Rattle.desk_forms.proofs.Common.{ℕ, List, [], ◌∷◌, codes, rules, not_from_Decides, query_pairs}
 use Rattle.desk_forms.proofs.QueryLemmas.{Decides-has_only}
 use Rattle.desk_forms.proofs.query.read_deposit_query.Goals as goal
 

@@ -1,9 +1,5 @@
-use Rattle.std.proofs.Common.{◌≡◌, refl, sym, ◌∙◌}
-use Rattle.std.proofs.lemmas.Result.{err_from_is_err_and}
+use Rattle.desk_hearing.proofs.Lemmas.{◌≡◌, refl, sym, ◌∙◌, err_from_is_err_and, Truncated, refusal_of_head, asked_route, route_refused, query_refused, front_announced, head_uncut, route_uncut, query_uncut}
 use Rattle.desk_heads.specs.View.{contents_seen}
-use Rattle.desk_routes.specs.declared.refusal.DeskRefusal.TheVariants.{Truncated}
-use Rattle.desk_hearing.specs.Hearing.{refusal_of_head}
-use Rattle.desk_hearing.proofs.JudgingLemmas.{asked_route, route_refused, query_refused, front_announced, head_uncut, route_uncut, query_uncut}
 use Rattle.desk_hearing.proofs.judging.judge_front.Goals as goal
 
 pub returns-in_err-head-clause-uncut : goal.returns-in_err-head-clause-uncut

@@ -1,6 +1,4 @@
-use Rattle.std.proofs.Common.{Err, refl, ap}
-use Rattle.std.proofs.lemmas.Result.{err_from_is_err_and}
-use Rattle.desk_hearing.proofs.JudgingLemmas.{years_refused, body_refused}
+use Rattle.desk_hearing.proofs.Lemmas.{Err, refl, ap, err_from_is_err_and, years_refused, body_refused}
 use Rattle.desk_hearing.proofs.question.ask_of.Goals as goal
 
 pub returns-in_err-read_years-in-Class-clause-asked : goal.returns-in_err-read_years-in-Class-clause-asked

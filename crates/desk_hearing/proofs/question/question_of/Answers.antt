@@ -1,10 +1,7 @@
-use Rattle.std.proofs.Common.{Err, refl, ap, ◌∙◌, subst}
-use Rattle.std.proofs.lemmas.Result.{err_from_is_err_and}
+use Rattle.desk_hearing.proofs.Lemmas.{Err, refl, ap, ◌∙◌, subst, err_from_is_err_and, AllowsQuery, keys_refused, listing_refused}
 use Rattle.percent_encoding.specs.Percent.{percent_decode}
-use Rattle.desk_hearing.specs.Steps.{AllowsQuery}
-use Rattle.desk_hearing.specs.declared.ask.Ask.TheVariants as asks
+use Rattle.desk_hearing.specs.declared.owned_request.OwnedRequest.TheVariants as owned
 use Rattle.desk_hearing.specs.declared.question.Question.TheVariants as questions
-use Rattle.desk_hearing.proofs.JudgingLemmas.{keys_refused, listing_refused}
 use Rattle.desk_hearing.proofs.question.question_of.Goals as goal
 
 pub returns-in_err-check_keys-clause-asked : goal.returns-in_err-check_keys-clause-asked
@@ -31,9 +28,9 @@ returns-in_ok-to_owned-in-DefineClass-clause-asked c =
 pub returns-in_ok-name-in-DefineCollection-clause-asked : goal.returns-in_ok-name-in-DefineCollection-clause-asked
 returns-in_ok-name-in-DefineCollection-clause-asked c =
     let none = subst (λ route. AllowsQuery route c.args.query.now) c.in-DefineCollection.is (c.in_ok-check_keys.ensures.taken.0 refl) in
-    rw c.in-DefineCollection.is (none, ap (λ name. questions.Whole (asks.DefineCollection name)) c.in_ok-name-in-DefineCollection.ensures)
+    rw c.in-DefineCollection.is (none, ap (λ name. questions.Whole (owned.DefineCollection name)) c.in_ok-name-in-DefineCollection.ensures)
 
 pub returns-in_ok-path-in-DownloadFile-clause-asked : goal.returns-in_ok-path-in-DownloadFile-clause-asked
 returns-in_ok-path-in-DownloadFile-clause-asked c =
     let none = subst (λ route. AllowsQuery route c.args.query.now) c.in-DownloadFile.is (c.in_ok-check_keys.ensures.taken.0 refl) in
-    rw c.in-DownloadFile.is (none, ap (λ path. questions.Whole (asks.DownloadFile c.in-DownloadFile.deposit path)) (c.in_ok-path-in-DownloadFile.ensures ∙ ap percent_decode c.as_str.ensures.text))
+    rw c.in-DownloadFile.is (none, ap (λ path. questions.Whole (owned.DownloadFile c.in-DownloadFile.deposit path)) (c.in_ok-path-in-DownloadFile.ensures ∙ ap percent_decode c.as_str.ensures.text))

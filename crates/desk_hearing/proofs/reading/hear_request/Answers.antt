@@ -1,7 +1,4 @@
-use Rattle.std.proofs.Common.{◌+◌, ◌<◌, ◌≤◌, Ok, Err, take, subst}
-use Rattle.std.proofs.lemmas.Result.{err_from_is_err_and}
-use Rattle.desk_hearing.specs.Steps.{AnswersFront}
-use Rattle.desk_hearing.proofs.ReadingLemmas.{head_given, head_end, front_given, judged_uncut, filled, fill_given, fill_end, ask_given, ask_uncut, heard_given, whole_of, part_is}
+use Rattle.desk_hearing.proofs.Lemmas.{◌+◌, ◌<◌, ◌≤◌, Ok, Err, take, subst, err_from_is_err_and, AnswersFront, head_given, head_end, front_given, judged_uncut, filled, fill_given, fill_end, ask_given, ask_uncut, heard_given, whole_of, part_is}
 use Rattle.desk_hearing.proofs.reading.hear_request.Goals as goal
 
 pub returns-in_err-head-clause-given : goal.returns-in_err-head-clause-given

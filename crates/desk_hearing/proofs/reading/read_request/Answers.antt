@@ -1,5 +1,4 @@
-use Rattle.std.proofs.lemmas.Result.{err_from_is_err_and}
-use Rattle.desk_hearing.proofs.ReadingLemmas.{unremembered}
+use Rattle.desk_hearing.proofs.Lemmas.{err_from_is_err_and, unremembered}
 use Rattle.desk_hearing.proofs.reading.read_request.Goals as goal
 
 pub returns-in_err-routes-clause-whole : goal.returns-in_err-routes-clause-whole

@@ -1,6 +1,4 @@
-use Rattle.std.proofs.Common.{◌≡◌, ◌-◌, ◌≤◌, ℕ, List, length}
-use Rattle.std.specs.Io.KnownBytes.{Consumes}
-use Rattle.desk_devices.specs.Devices.{device_of, failures_of}
+use Rattle.desk_listening.proofs.Common.{◌≡◌, ◌-◌, ◌≤◌, ℕ, List, length, Consumes, device_of, failures_of}
 use Rattle.desk_listening.proofs.draining.drain.Given as goal
 
 -- what came is counted, and no call has failed

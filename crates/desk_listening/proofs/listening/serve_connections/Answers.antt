@@ -1,14 +1,5 @@
-use mir.Val.{bool_byte}
-use Rattle.std.proofs.Common.{◌≡◌, ◌+◌, ◌∷◌, ◌++◌, [], ◌∙◌, ap, subst, sym, refl, arith}
-use Rattle.std.proofs.lemmas.List.{length_push}
+use Rattle.desk_listening.proofs.Common.{bool_byte, ◌≡◌, ◌+◌, ◌∷◌, ◌++◌, [], ◌∙◌, ap, subst, sym, refl, arith, length_push, log_of, Watch, more_lines, no_line, connections_after, IsAfterAll, lines_of, Treats}
 use Rattle.desk_log.specs.Lines.{end_line}
-use Rattle.desk_log.specs.Logging.{log_of}
-use Rattle.desk_log.specs.declared.watch.Watch.{Watch}
-use Rattle.desk_log.proofs.LoggingLemmas.{more_lines, no_line}
-use Rattle.desk_log.proofs.WatchingLemmas.{connections_after}
-use Rattle.desk_listening.specs.Listening.{IsAfterAll}
-use Rattle.desk_listening.specs.Logging.{lines_of}
-use Rattle.desk_listening.specs.Peers.{Treats}
 use Rattle.desk_listening.proofs.Connections.{counted, is_run, one_more, small, takes_more}
 use Rattle.desk_listening.proofs.Lines.{lines_more, no_end, watch_more}
 use Rattle.desk_listening.proofs.listening.serve_connections.Goals as goal

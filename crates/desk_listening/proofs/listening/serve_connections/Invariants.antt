@@ -1,10 +1,4 @@
-use Rattle.std.proofs.Common.{◌≡◌, ◌≤◌, List, length, count_by}
-use Rattle.desk_log.specs.Logging.{IsLogged, log_of}
-use Rattle.desk_log.specs.Watching.{IsCounted}
-use Rattle.desk_listening.specs.Accepting.{TakesAll}
-use Rattle.desk_listening.specs.Listening.{Connection, IsAfterAll, is_answered}
-use Rattle.desk_listening.specs.Logging.{lines_of, watch_of}
-use Rattle.desk_listening.specs.Peers.{Treats}
+use Rattle.desk_listening.proofs.Common.{◌≡◌, ◌≤◌, List, length, count_by, IsLogged, log_of, IsCounted, TakesAll, Connection, IsAfterAll, is_answered, lines_of, watch_of, Treats}
 use Rattle.desk_listening.proofs.listening.serve_connections.Given as goal
 
 abbrev pub invariant-loop-taken : goal.invariant-loop-taken

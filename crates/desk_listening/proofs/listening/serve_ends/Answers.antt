@@ -1,6 +1,4 @@
-use Rattle.std.proofs.Common.{Ok, Err, refl}
-use Rattle.desk_devices.specs.Devices.{device_of}
-use Rattle.desk_listening.specs.Peers.{Drops}
+use Rattle.desk_listening.proofs.Common.{Ok, Err, refl, device_of, Drops}
 use Rattle.desk_listening.proofs.Connections.{left_alone, left_so, left_whole, on_ok_is, reports, told}
 use Rattle.desk_listening.proofs.listening.serve_ends.Goals as goal
 

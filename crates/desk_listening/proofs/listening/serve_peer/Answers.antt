@@ -1,5 +1,4 @@
-use Rattle.std.proofs.Common.{Ok, refl}
-use Rattle.desk_listening.specs.Listening.{lost}
+use Rattle.desk_listening.proofs.Common.{Ok, refl, lost}
 use Rattle.desk_listening.proofs.Connections.{untouched}
 use Rattle.desk_listening.proofs.listening.serve_peer.Goals as goal
 

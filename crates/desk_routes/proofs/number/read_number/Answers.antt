@@ -1,7 +1,6 @@
-use Rattle.std.proofs.Common.{◌≡◌, ◌∙◌, sym, ap, true}
+use Rattle.desk_routes.proofs.Common.{◌≡◌, ◌∙◌, sym, ap, true, is_number}
 use Rattle.std.specs.Result.{result_ok}
 use Rattle.desk_routes.proofs.NumberLemmas.{number_gives, number_is}
-use Rattle.desk_routes.specs.PathReading.{is_number}
 use Rattle.desk_routes.proofs.number.read_number.Goals as goal
 
 pub returns-then-is_number : goal.returns-then-is_number

@@ -1,6 +1,4 @@
-use Rattle.std.proofs.Common.{◌≡◌, ◌==◌, ◌∙◌, ◌+◌, ℕ, Some, None, sym, arith, length}
-use Rattle.std.specs.List.{position_or_len}
-use Rattle.std.proofs.lemmas.List.{take_all, drop_all}
+use Rattle.desk_routes.proofs.Common.{◌≡◌, ◌==◌, ◌∙◌, ◌+◌, ℕ, Some, None, sym, arith, length, position_or_len, take_all, drop_all}
 use Rattle.std.proofs.lemmas.Str.Pattern.{split_once_first}
 use Rattle.desk_routes.proofs.TargetLemmas.{path-before, query-after}
 use Rattle.desk_routes.proofs.target.split_target.Goals as goal

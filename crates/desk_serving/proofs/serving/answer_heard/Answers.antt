@@ -1,4 +1,4 @@
-use Rattle.std.proofs.Common.{arith, refl}
+use Rattle.desk_serving.proofs.Common.{arith, refl}
 use Rattle.desk_serving.proofs.serving.answer_heard.Goals as goal
 
 pub returns : goal.returns
@@ -19,11 +19,11 @@ returns g c = (
       durable = c.step-answer.ensures.durable honest;
       leaves = c.step-answer.ensures.leaves honest;
       made = c.step-answer.ensures.made honest;
-      served_rows = c.step-answer.ensures.served_rows honest;
+      takes_rows_step = c.step-answer.ensures.takes_rows_step honest;
       leaves_rows = c.step-answer.ensures.leaves_rows honest;
       durable_rows = c.step-answer.ensures.durable_rows honest;
     };
   },
-  c.answer_bytes.ensures,
-  c.note_of-note.ensures,
+  c.bytes_and_note-told.ensures.bytes,
+  c.bytes_and_note-told.ensures.note,
 )

@@ -1,5 +1,4 @@
-use Rattle.std.proofs.Common.{rules, ◌≡◌, ap, Err, Some, refl, subst}
-use Rattle.desk_answers.specs.Answers.{answer_text, refusal_text}
+use Rattle.desk_serving.proofs.Common.{rules, ◌≡◌, ap, Err, Some, refl, subst, answer_text, refusal_text}
 use Rattle.desk_hearing.specs.Reading.{HeardOf}
 use Rattle.desk_hearing.specs.declared.fault.HeardFault.TheVariants.{Refused}
 use Rattle.desk_serving.proofs.RefusalLemmas.{cut_short, heard_whole}
@@ -13,8 +12,8 @@ returns-in-Ok-bytes-clause-answered g c =
     let text : c.in-Ok-bytes.bytes.items ≡ answer_text s.0 = rw c.in-Ok-bytes.is at s.2 in
     (h.0, h.1, (s.0, ((c.in-Ok.heard, h.2, s.1), ap Some s.3), text), λ short. absurd (heard_whole h.0 c.in-Ok.heard h.2 short))
 
-pub returns-in-Ok-clause-served : goal.returns-in-Ok-clause-served
-returns-in-Ok-clause-served g c e =
+pub returns-in-Err-clause-served : goal.returns-in-Err-clause-served
+returns-in-Err-clause-served g c e =
     let h = c.in-Ok.ensures.given (λ e. cc) in
     let s = c.answer_heard-bytes.ensures in
     (h.0, s.0, h.1, ((c.in-Ok.heard, h.2, s.1), ap Some s.3))
@@ -32,7 +31,7 @@ returns-in-Ok-bytes-clause-whole g c =
     let text : c.in-Ok-bytes.bytes.items ≡ answer_text s.0 = rw c.in-Ok-bytes.is at s.2 in
     whole_answer g.S.Store c.args.office.now c.answer_heard-bytes.new.office _ _ _ c.in-Ok.heard s.0 _ c.in-Ok.ensures.whole s.1 (ap Some s.3) text
 
-pub returns-in-Ok-clause-whole_served : goal.returns-in-Ok-clause-whole_served
-returns-in-Ok-clause-whole_served g c e =
+pub returns-in-Err-clause-whole_served : goal.returns-in-Err-clause-whole_served
+returns-in-Err-clause-whole_served g c e =
     let s = c.answer_heard-bytes.ensures in
     whole_served g.S.Store c.args.office.now c.answer_heard-bytes.new.office _ _ _ c.in-Ok.heard s.0 c.in-Ok.ensures.whole s.1 (ap Some s.3)

@@ -1,4 +1,4 @@
-use Rattle.std.proofs.Common.{rules, ◌≡◌, refl}
+use Rattle.desk_serving.proofs.Common.{rules, ◌≡◌, refl}
 use Rattle.desk_serving.proofs.ServingLemmas.{whole_begun, whole_written}
 use Rattle.desk_serving.proofs.serving.serve_with_routes.Goals as goal
 

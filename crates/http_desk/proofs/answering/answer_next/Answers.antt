@@ -1,11 +1,4 @@
-use Rattle.std.proofs.Common.{◌≡◌, ◌<◌, ◌∙◌, ℕ, List, ap, length, subst, take}
-use Rattle.std.specs.Io.KnownBytes.{Appends}
-use Rattle.std.proofs.KnownBytes.{Appends-nil}
-use Rattle.desk_devices.specs.Devices.{device_of}
-use Rattle.sqlite.specs.Held.{state}
-use Rattle.desk_serving.specs.Serving.{ServesBytes}
-use Rattle.http_desk.specs.Records.{answer_record}
-use Rattle.http_desk.proofs.ReplayLemmas.{heard_as, unserved}
+use Rattle.http_desk.proofs.Lemmas.{◌≡◌, ◌<◌, ◌∙◌, ℕ, List, ap, length, subst, take, Appends, Appends-nil, device_of, state, ServesBytes, answer_record, heard_as, unserved}
 use Rattle.http_desk.proofs.answering.answer_next.Goals as goal
 
 pub returns-in-Err-Memory-clause-answered : goal.returns-in-Err-Memory-clause-answered

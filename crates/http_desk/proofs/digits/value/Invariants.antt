@@ -1,5 +1,4 @@
-use Rattle.std.proofs.Common.{◌≡◌, ◌<◌, ◌^◌, take}
-use Rattle.std.specs.Str.Parse.{digits_value}
+use Rattle.http_desk.proofs.Common.{◌≡◌, ◌<◌, ◌^◌, take, digits_value}
 use Rattle.http_desk.proofs.digits.value.Given as goal
 
 abbrev pub invariant-loop-digit : goal.invariant-loop-digit

@@ -1,5 +1,4 @@
-use Rattle.std.proofs.Common.{refl}
-use Rattle.http_desk.proofs.FoundLemmas.{wanted_none}
+use Rattle.http_desk.proofs.Lemmas.{refl, wanted_none}
 use Rattle.http_desk.proofs.laws.last_record.Goals as goal
 
 pub returns-clause-end : goal.returns-clause-end

@@ -1,5 +1,4 @@
-use Rattle.http_desk.specs.RecordLists.{max_records}
-use Rattle.http_desk.proofs.ListLemmas.{one_split}
+use Rattle.http_desk.proofs.Lemmas.{max_records, one_split}
 use Rattle.http_desk.proofs.laws.one_list.Goals as goal
 
 pub returns : goal.returns

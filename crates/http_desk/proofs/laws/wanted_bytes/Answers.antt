@@ -1,4 +1,4 @@
-use Rattle.http_desk.proofs.FoundLemmas.{wanted_none, wanted_short, line_begins}
+use Rattle.http_desk.proofs.Lemmas.{wanted_none, wanted_short, line_begins}
 use Rattle.http_desk.proofs.laws.wanted_bytes.Goals as goal
 
 pub returns-clause-none : goal.returns-clause-none

@@ -1,6 +1,4 @@
-use Rattle.std.proofs.Common.{sym, subst}
-use Rattle.std.specs.Str.{IsUtf8}
-use Rattle.http_desk.proofs.LineLemmas.{day_text-utf8}
+use Rattle.http_desk.proofs.Lemmas.{sym, subst, IsUtf8, day_text-utf8}
 use Rattle.http_desk.proofs.record.read_day.Goals as goal
 
 pub returns-in-Err-clause-only : goal.returns-in-Err-clause-only

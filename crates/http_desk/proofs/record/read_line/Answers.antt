@@ -1,9 +1,5 @@
-use Rattle.std.proofs.Common.{◌≡◌, ℕ, ◌-◌, Some, true, List, length, take, drop, sym, ap, ◌∙◌, refl, arith, take_all, length-drop}
+use Rattle.http_desk.proofs.Lemmas.{◌≡◌, ℕ, ◌-◌, Some, true, List, length, take, drop, sym, ap, ◌∙◌, refl, arith, take_all, length-drop, common_steps, Date, has_marks, length_of, line_marks, line_day, line_count, marked_line}
 use Rattle.std.proofs.lemmas.Option.{none-some, same_Some}
-use Rattle.std.proofs.lemmas.Grind.{common_steps}
-use Rattle.jiff.specs.Types.{Date}
-use Rattle.http_desk.specs.RecordReading.{has_marks, length_of}
-use Rattle.http_desk.proofs.LineLemmas.{line_marks, line_day, line_count, marked_line}
 use Rattle.http_desk.proofs.record.read_line.Goals as goal
 
 tail_of : (line : List ℕ) → take (length line - 15) (drop 15 line) ≡ drop 15 line

@@ -1,5 +1,4 @@
-use Rattle.http_desk.specs.declared.record.Found.TheVariants.{More, Bad}
-use Rattle.http_desk.proofs.FoundLemmas.{found_in, only_found, no_line, long_line}
+use Rattle.http_desk.proofs.Lemmas.{More, Bad, found_in, only_found, no_line, long_line}
 use Rattle.http_desk.proofs.record.record_at.Goals as goal
 
 pub returns-in-Some-clause-found : goal.returns-in-Some-clause-found

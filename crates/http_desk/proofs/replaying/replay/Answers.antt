@@ -1,15 +1,4 @@
-use Rattle.std.proofs.Common.{◌≡◌, ◌≢◌, ◌⊎◌, ◌++◌, [], length, refl, sym, ap, ◌∙◌, subst, arith, length-append}
-use Rattle.std.specs.Prelude.{Ok}
-use Rattle.std.proofs.lemmas.Grind.{common_steps}
-use Rattle.std.proofs.lemmas.List.{nil_from_length}
-use Rattle.std.proofs.KnownBytes.{Appends-nil, Consumes-nil}
-use Rattle.desk_devices.specs.Devices.{device_of}
-use Rattle.http_desk.specs.Records.{record_text, WantsMore, CanNotBegin}
-use Rattle.http_desk.specs.RecordLists.{max_records}
-use Rattle.http_desk.proofs.FoundLemmas.{wanted_short}
-use Rattle.http_desk.proofs.ListLemmas.{rest_shorter}
-use Rattle.http_desk.specs.ReplaySteps.{ReadsMore}
-use Rattle.http_desk.proofs.ReplayLemmas.{started, read_on, answered_on, ended, bad_at_end, bad_stop, stopped_by, unremembered, unread, unwritten_stop}
+use Rattle.http_desk.proofs.Lemmas.{◌≡◌, ◌≢◌, ◌⊎◌, ◌++◌, [], length, refl, sym, ap, ◌∙◌, subst, arith, length-append, Ok, common_steps, nil_from_length, Appends-nil, Consumes-nil, device_of, record_text, WantsMore, CanNotBegin, max_records, wanted_short, rest_shorter, ReadsMore, started, read_on, answered_on, ended, bad_at_end, bad_stop, stopped_by, unremembered, unread, unwritten_stop}
 use Rattle.http_desk.proofs.replaying.replay.Goals as goal
 
 pub records-init : goal.records-init

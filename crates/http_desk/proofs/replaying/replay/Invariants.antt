@@ -1,8 +1,4 @@
-use Rattle.std.proofs.Common.{◌≡◌, ◌≤◌, ◌-◌, ◌*◌, ◌+◌, length}
-use Rattle.desk_devices.specs.Devices.{failures_of}
-use Rattle.http_desk.specs.RecordLists.{max_records}
-use Rattle.http_desk.specs.Replaying.{moment_of}
-use Rattle.http_desk.proofs.ReplayLemmas.{Progress}
+use Rattle.http_desk.proofs.Lemmas.{◌≡◌, ◌≤◌, ◌-◌, ◌*◌, ◌+◌, length, failures_of, max_records, moment_of, Progress}
 use Rattle.http_desk.proofs.replaying.replay.Given as goal
 
 abbrev pub invariant-records : goal.invariant-records

@@ -1,6 +1,4 @@
-use Rattle.std.proofs.Common.{refl}
-use Rattle.jiff.specs.Words.{epoch_day}
-use Rattle.office_core.proofs.DayLemmas.{day_number}
+use Rattle.office_by_rows.proofs.Common.{refl, epoch_day, day_number}
 use Rattle.office_by_rows.proofs.Days.{day_back, day_is}
 use Rattle.office_by_rows.proofs.laws.days_are_numbered.Goals as goal
 

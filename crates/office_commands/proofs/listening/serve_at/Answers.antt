@@ -1,5 +1,4 @@
-use Rattle.std.proofs.Common.{arith}
-use Rattle.office_commands.specs.declared.done.Done.{Done}
+use Rattle.office_commands.proofs.Common.{arith, Done}
 use Rattle.office_commands.proofs.ListeningLemmas.{unheard}
 use Rattle.office_commands.proofs.listening.serve_at.Goals as goal
 

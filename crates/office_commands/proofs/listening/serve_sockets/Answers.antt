@@ -1,8 +1,6 @@
-use Rattle.std.proofs.Common.{Ok, Err}
+use Rattle.office_commands.proofs.Common.{Ok, Err, Served, IsLogOf}
 use Rattle.desk_listening.specs.declared.accepting.AcceptFailed.{AcceptFailed}
-use Rattle.desk_listening.specs.declared.accepting.Served.{Served}
 use Rattle.desk_log.specs.Logging.{log_of}
-use Rattle.office_commands.specs.Tasks.{IsLogOf}
 use Rattle.office_commands.proofs.ListeningLemmas.{all_own, served_all, served_fewer}
 use Rattle.office_commands.proofs.listening.serve_sockets.Goals as goal
 

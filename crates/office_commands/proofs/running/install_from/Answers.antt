@@ -1,5 +1,4 @@
-use Rattle.std.proofs.Common.{refl}
-use Rattle.office_commands.specs.Traffic.{logged_traffic}
+use Rattle.office_commands.proofs.Common.{refl, logged_traffic}
 use Rattle.office_commands.proofs.WorkLemmas.{goes_on, is_refused, says_installed, says_nothing, says_refused}
 use Rattle.office_commands.proofs.running.install_from.Goals as goal
 

@@ -1,4 +1,4 @@
-use Rattle.std.proofs.Common.{refl}
+use Rattle.office_commands.proofs.Common.{refl}
 use Rattle.office_commands.proofs.WorkLemmas.{goes_on, is_refused}
 use Rattle.office_commands.proofs.running.replay_from.Goals as goal
 

@@ -1,5 +1,4 @@
-use Rattle.std.proofs.Common.{ap}
-use Rattle.office_commands.specs.declared.work.Work.TheVariants.{Replay}
+use Rattle.office_commands.proofs.Common.{ap, Replay}
 use Rattle.office_commands.proofs.WorkLemmas.{comes_as, of_host}
 use Rattle.office_commands.proofs.running.replay_in.Goals as goal
 

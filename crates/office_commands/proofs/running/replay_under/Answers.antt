@@ -1,4 +1,4 @@
-use Rattle.std.proofs.Common.{inr}
+use Rattle.office_commands.proofs.Common.{inr}
 use Rattle.office_commands.proofs.running.replay_under.Goals as goal
 
 pub returns-in-Ok : goal.returns-in-Ok

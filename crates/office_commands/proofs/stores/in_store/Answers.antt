@@ -1,4 +1,4 @@
-use Rattle.std.proofs.Common.{◌≢◌, ◌∙◌, codes, inl, inr, refl, rules, sym}
+use Rattle.office_commands.proofs.Common.{◌≢◌, ◌∙◌, codes, inl, inr, refl, rules, sym}
 use Rattle.std.proofs.lemmas.Result.{err_from_is_err_and}
 use Rattle.office_commands.proofs.StoreLemmas.{runs_in_file}
 use Rattle.office_commands.proofs.stores.in_store.Goals as goal

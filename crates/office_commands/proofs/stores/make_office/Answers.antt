@@ -1,8 +1,4 @@
-use Rattle.std.proofs.Common.{◌∙◌, ap₂, subst, sym}
-use Rattle.sqlite.specs.Held.{state}
-use Rattle.office_history.specs.Histories.{History}
-use Rattle.office_history.specs.Runs.{new_history}
-use Rattle.office_engine.specs.Keeping.{IsKeptBy}
+use Rattle.office_commands.proofs.Common.{◌∙◌, ap₂, subst, sym, state, History, new_history, IsStoredBy}
 use Rattle.office_commands.proofs.stores.make_office.Goals as goal
 
 pub returns-in-Ok-clause-not_empty : goal.returns-in-Ok-clause-not_empty
@@ -10,4 +6,4 @@ returns-in-Ok-clause-not_empty g c more = let never = sym c.in-Ok.is ∙ c.creat
 
 pub returns-in-Ok-clause-made : goal.returns-in-Ok-clause-made
 returns-in-Ok-clause-made g c clean =
-    subst (λ (h : History). IsKeptBy h (state g.S.Store c.in-Ok.office)) (ap₂ new_history c.limits.ensures.0 c.limits.ensures.1) (c.in-Ok.ensures.made clean)
+    subst (λ (h : History). IsStoredBy h (state g.S.Store c.in-Ok.office)) (ap₂ new_history c.limits.ensures.0 c.limits.ensures.1) (c.in-Ok.ensures.made clean)

@@ -1,5 +1,4 @@
-use Rattle.std.proofs.Common.{subst, sym}
-use Rattle.office_commands.specs.Deeds.{AreDone}
+use Rattle.office_commands.proofs.Common.{subst, sym, AreDone}
 use Rattle.office_commands.proofs.stores.work_over.Goals as goal
 
 pub returns-clause-works : goal.returns-clause-works

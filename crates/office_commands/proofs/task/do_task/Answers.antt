@@ -1,4 +1,4 @@
-use Rattle.std.proofs.Common.{refl}
+use Rattle.office_commands.proofs.Common.{refl}
 use Rattle.office_commands.proofs.WorkLemmas.{does_ask, does_install, does_replay, does_serve}
 use Rattle.office_commands.proofs.task.do_task.Goals as goal
 

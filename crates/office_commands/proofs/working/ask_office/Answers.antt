@@ -1,5 +1,5 @@
+use Rattle.office_commands.proofs.Common.{Done}
 use Rattle.desk_devices.specs.Devices.{device_of}
-use Rattle.office_commands.specs.declared.done.Done.{Done}
 use Rattle.office_commands.proofs.AskingLemmas.{asks, handed_on, in_part, told_as}
 use Rattle.office_commands.proofs.working.ask_office.Goals as goal
 

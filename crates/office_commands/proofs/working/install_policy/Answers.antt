@@ -1,4 +1,4 @@
-use Rattle.std.proofs.Common.{refl}
+use Rattle.office_commands.proofs.Common.{refl}
 use Rattle.office_commands.proofs.working.install_policy.Goals as goal
 
 pub returns-in-Ok-clause-done : goal.returns-in-Ok-clause-done

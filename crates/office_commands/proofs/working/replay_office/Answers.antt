@@ -1,4 +1,4 @@
-use Rattle.office_commands.specs.declared.done.Done.{Done}
+use Rattle.office_commands.proofs.Common.{Done}
 use Rattle.office_commands.proofs.ReplayingLemmas.{ended, stopped}
 use Rattle.office_commands.proofs.working.replay_office.Goals as goal
 

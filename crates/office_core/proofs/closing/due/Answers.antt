@@ -1,4 +1,4 @@
-use Rattle.std.proofs.Common.{sym}
+use Rattle.office_core.proofs.Common.{sym}
 use Rattle.office_core.proofs.DueLemmas.{due_of_is}
 use Rattle.office_core.proofs.closing.due.Goals as goal
 

@@ -1,6 +1,4 @@
-use Rattle.std.proofs.Common.{FitsSigned, w8, w16}
-use Rattle.std.proofs.lemmas.Int.{to_z-of_z}
-use Rattle.office_core.proofs.OptionLemmas.{some_ok}
+use Rattle.office_core.proofs.Lemmas.{FitsSigned, w8, w16, to_z-of_z, some_ok}
 use Rattle.office_core.proofs.day.civil_date.Goals as goal
 
 pub returns-clause-only : goal.returns-clause-only

@@ -1,8 +1,4 @@
-use Rattle.std.proofs.Common.{arith, ◌≡◌, FitsSigned, w32, w64}
-use Rattle.std.proofs.lemmas.Int.{to_z-of_z}
-use Rattle.jiff_core.proofs.SignedLemmas.{signed_arith}
-use Rattle.jiff.specs.Words.{epoch_day, IsEpochDay}
-use Rattle.office_core.proofs.OptionLemmas.{some_and_ok}
+use Rattle.office_core.proofs.Lemmas.{arith, ◌≡◌, FitsSigned, w32, w64, to_z-of_z, signed_arith, epoch_day, IsEpochDay, some_and_ok}
 use Rattle.office_core.proofs.day.date_at.Goals as goal
 
 pub returns : goal.returns

@@ -1,6 +1,4 @@
-use Rattle.std.proofs.Common.{FitsSigned, w8, w16, arith}
-use Rattle.std.proofs.lemmas.Int.{to_z-of_z}
-use Rattle.jiff_core.proofs.SignedLemmas.{signed_arith}
+use Rattle.office_core.proofs.Common.{FitsSigned, w8, w16, arith, to_z-of_z, signed_arith}
 use Rattle.office_core.proofs.day.date_of.Goals as goal
 
 pub returns-clause-only : goal.returns-clause-only

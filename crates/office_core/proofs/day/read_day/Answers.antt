@@ -1,10 +1,4 @@
-use Rattle.std.proofs.Common.{◌≡◌, ◌∙◌, sym, ap, arith, Some, refl, false, ℕ, is_some}
-use Rattle.std.proofs.lemmas.Bool.{false≢true}
-use Rattle.std.proofs.lemmas.Option.{IfSome_then, none-some}
-use Rattle.jiff_core.proofs.SignedLemmas.{signed_arith}
-use Rattle.office_core.specs.Days.{day_text}
-use Rattle.office_core.specs.DayReading.{day_parts}
-use Rattle.office_core.proofs.DayLemmas.{same_date, text_of_parts, parts_of-day, parts_are, text_are, date_is}
+use Rattle.office_core.proofs.Lemmas.{◌≡◌, ◌∙◌, sym, ap, arith, Some, refl, false, ℕ, is_some, false≢true, IfSome_then, none-some, signed_arith, day_text, day_parts, same_date, text_of_parts, parts_of-day, parts_are, text_are, date_is}
 use Rattle.office_core.proofs.day.read_day.Goals as goal
 
 pub returns-clause-written : goal.returns-clause-written

@@ -1,4 +1,4 @@
-use Rattle.office_core.proofs.RuleLemmas.{kept_decision}
+use Rattle.office_core.proofs.Lemmas.{kept_decision}
 use Rattle.office_core.proofs.laws.added_rules.Goals as goal
 
 pub returns : goal.returns

@@ -1,4 +1,4 @@
-use Rattle.office_core.proofs.RuleLemmas.{allowed_disposal, ready_disposal}
+use Rattle.office_core.proofs.Lemmas.{allowed_disposal, ready_disposal}
 use Rattle.office_core.proofs.laws.allowed_disposal.Goals as goal
 
 pub returns : goal.returns

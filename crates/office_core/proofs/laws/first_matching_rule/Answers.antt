@@ -1,4 +1,4 @@
-use Rattle.office_core.proofs.RuleLemmas.{first_place_is, no_place_is}
+use Rattle.office_core.proofs.Lemmas.{first_place_is, no_place_is}
 use Rattle.office_core.proofs.laws.first_matching_rule.Goals as goal
 
 pub returns-clause-place : goal.returns-clause-place

@@ -1,5 +1,4 @@
-use Rattle.office_core.specs.Rules.{decision_of}
-use Rattle.office_core.proofs.RuleLemmas.{denied_role, denied_verdict}
+use Rattle.office_core.proofs.Lemmas.{decision_of, denied_role, denied_verdict}
 use Rattle.office_core.proofs.laws.no_allow_rule.Goals as goal
 
 pub returns : goal.returns

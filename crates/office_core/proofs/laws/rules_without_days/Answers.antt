@@ -1,4 +1,4 @@
-use Rattle.office_core.proofs.RuleLemmas.{decided_alike, decided_by_patterns, matches_by_patterns}
+use Rattle.office_core.proofs.Lemmas.{decided_alike, decided_by_patterns, matches_by_patterns}
 use Rattle.office_core.proofs.laws.rules_without_days.Goals as goal
 
 pub returns : goal.returns

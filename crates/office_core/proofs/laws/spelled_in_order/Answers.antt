@@ -1,5 +1,4 @@
-use Rattle.std.proofs.Common.{sym, ap, subst}
-use Rattle.office_core.specs.Policies.{SpellsRules, SpellsCallers}
+use Rattle.office_core.proofs.Common.{sym, ap, subst, SpellsRules, SpellsCallers}
 use Rattle.office_core.proofs.PolicyPlaces.{tree_rules, tree_callers}
 use Rattle.office_core.proofs.laws.spelled_in_order.Goals as goal
 

@@ -1,4 +1,4 @@
-use Rattle.office_core.proofs.PolicyNames.{spelled_policy}
+use Rattle.office_core.proofs.Lemmas.{spelled_policy}
 use Rattle.office_core.proofs.laws.spelled_policies.Goals as goal
 
 pub returns : goal.returns

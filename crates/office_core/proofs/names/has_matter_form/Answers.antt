@@ -1,6 +1,5 @@
-use Rattle.std.proofs.Common.{◌≡◌, true, rules}
+use Rattle.office_core.proofs.Common.{◌≡◌, true, rules, is_utf8-from_IsUtf8}
 use Rattle.std.specs.Str.{is_utf8}
-use Rattle.std.proofs.lemmas.Str.{is_utf8-from_IsUtf8}
 use Rattle.office_core.proofs.names.has_matter_form.Goals as goal
 
 pub returns-then-has_length : goal.returns-then-has_length

@@ -1,9 +1,5 @@
-use Rattle.std.proofs.Common.{◌∙◌, ap, sym, subst}
-use Rattle.toml.specs.View.{table_view}
-use Rattle.bag_text.specs.Answers.{Answers}
-use Rattle.office_core.specs.Policies.{named_policy_fault, read_tree}
+use Rattle.office_core.proofs.Lemmas.{◌∙◌, ap, sym, subst, table_view, Answers, named_policy_fault, read_tree, callers_once}
 use Rattle.office_core.proofs.PolicyLemmas.{contents_is}
-use Rattle.office_core.proofs.PolicyNames.{callers_once}
 use Rattle.office_core.proofs.TomlKeys.{parsed_sound}
 use Rattle.office_core.proofs.policy.read_text.Goals as goal
 

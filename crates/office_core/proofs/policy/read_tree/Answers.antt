@@ -1,8 +1,4 @@
-use Rattle.std.proofs.Common.{◌≡◌, Ok, arith}
-use Rattle.toml.specs.View.{table_view}
-use Rattle.office_core.specs.Policies.{caller_entries, has_days, rule_values}
-use Rattle.office_core.specs.PolicyReading.{read_callers, read_rules}
-use Rattle.office_core.proofs.PolicyNames.{read_policy_is}
+use Rattle.office_core.proofs.Lemmas.{◌≡◌, Ok, arith, table_view, caller_entries, has_days, rule_values, read_callers, read_rules, read_policy_is}
 use Rattle.office_core.proofs.policy.read_tree.Goals as goal
 
 pub invariant_of-result : goal.invariant_of-result

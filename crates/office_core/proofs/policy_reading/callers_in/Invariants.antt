@@ -1,7 +1,4 @@
-use Rattle.std.proofs.Common.{◌≡◌, ◌++◌, is_none}
-use Rattle.std.specs.List.{list_any, filter_map}
-use Rattle.toml.specs.View.{members_view}
-use Rattle.office_core.specs.Policies.{entries, caller_in}
+use Rattle.office_core.proofs.Common.{◌≡◌, ◌++◌, is_none, list_any, filter_map, members_view, entries, caller_in}
 use Rattle.office_core.proofs.policy_reading.callers_in.Given as goal
 
 abbrev pub invariant-loop-key : goal.invariant-loop-key

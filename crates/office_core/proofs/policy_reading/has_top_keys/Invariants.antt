@@ -1,7 +1,4 @@
-use Rattle.std.proofs.Common.{◌≡◌}
-use Rattle.std.specs.List.{list_all}
-use Rattle.toml.specs.View.{members_view}
-use Rattle.office_core.specs.Policies.{entries, is_one_of, top_keys}
+use Rattle.office_core.proofs.Common.{◌≡◌, list_all, members_view, entries, is_one_of, top_keys}
 use Rattle.office_core.proofs.policy_reading.has_top_keys.Given as goal
 
 abbrev pub invariant-loop-key : goal.invariant-loop-key

@@ -1,7 +1,4 @@
-use Rattle.std.proofs.Common.{◌≡◌, ◌++◌, suc, length, drop}
-use Rattle.std.specs.List.{filter_map}
-use Rattle.toml.specs.View.{items_view}
-use Rattle.office_core.specs.Policies.{elements, rule_of_value, first_bad}
+use Rattle.office_core.proofs.Common.{◌≡◌, ◌++◌, suc, length, drop, filter_map, items_view, elements, rule_of_value, first_bad}
 use Rattle.office_core.proofs.policy_reading.rules_in.Given as goal
 
 abbrev pub invariant-loop-value : goal.invariant-loop-value

@@ -1,5 +1,4 @@
-use Rattle.office_engine.proofs.Common.{state}
-use Rattle.office_engine.proofs.Ends.{failed_back}
+use Rattle.office_engine.proofs.Lemmas.{state, failed_back}
 use Rattle.office_engine.proofs.installing.end.Goals as goal
 
 pub returns-in-Err-commit-clause-undone : goal.returns-in-Err-commit-clause-undone

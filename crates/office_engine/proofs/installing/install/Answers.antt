@@ -1,7 +1,4 @@
-use Rattle.std.proofs.Common.{◌≡◌, ◌∙◌, inl, inr, IsTrue, not, ap, sym, arith, rules}
-use Rattle.office_engine.proofs.Common.{on_err_weaker, HasCleanDisk, state, Database, survives_weaker, rows_installed, InstallLasts, InstalledRowsLast, Installs, InstallsRows, after_policy}
-use Rattle.office_engine.proofs.Ends.{IsInside, IsSettled, MayCommit, all_rows, commits_next, committed_as, either_left, either_next, histories, inside, may_commit, of_ok, on_committed, survives_inside, unchanged, was_open}
-use Rattle.office_engine.proofs.ServedByRows.{InstallsHistory, InstallsIn, installed_history, installed_in}
+use Rattle.office_engine.proofs.Lemmas.{◌≡◌, ◌∙◌, inl, inr, IsTrue, not, ap, sym, arith, rules, on_err_weaker, HasCleanDisk, state, Database, survives_weaker, rows_installed, InstallLasts, InstalledRowsLast, Installs, InstallsRows, after_policy, IsInside, IsSettled, MayCommit, all_rows, commits_next, committed_as, either_left, either_next, histories, inside, may_commit, of_ok, on_committed, survives_inside, unchanged, was_open, InstallsHistory, InstallsIn, installed_history, installed_in}
 use Rattle.office_engine.proofs.installing.install.Goals as goal
 
 pub returns : goal.returns

@@ -1,6 +1,4 @@
-use Rattle.std.proofs.Common.{inl}
-use Rattle.office_engine.proofs.Common.{state}
-use Rattle.office_engine.proofs.Upgraded.{kept_stands, stopped_goes_on, stopped_in_turn}
+use Rattle.office_engine.proofs.Lemmas.{inl, state, kept_stands, stopped_goes_on, stopped_in_turn}
 use Rattle.office_engine.proofs.laws.a_stopped_upgrade_goes_on.Goals as goal
 
 pub returns-clause-once : goal.returns-clause-once

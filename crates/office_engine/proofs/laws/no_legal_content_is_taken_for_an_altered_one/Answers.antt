@@ -1,5 +1,4 @@
-use Rattle.std.proofs.Common.{ap, ◌∙◌}
-use Rattle.office_engine.proofs.Common.{after, answer, picture, this_version, serve}
+use Rattle.office_engine.proofs.Common.{ap, ◌∙◌, after, answer, picture, this_version, serve}
 use Rattle.office_engine.proofs.ServedWhole.{told_whole}
 use Rattle.office_engine.proofs.laws.no_legal_content_is_taken_for_an_altered_one.Goals as goal
 

@@ -1,8 +1,4 @@
-use Rattle.std.proofs.Common.{ap}
-use Rattle.office_engine.proofs.Common.{Rows}
-use Rattle.office_tables.specs.Moving.{AllRows}
-use Rattle.office_tables.specs.declared.version.TableVersion.TheVariants.{Fifth}
-use Rattle.office_engine.specs.Upgrading.{all_rows_of}
+use Rattle.office_engine.proofs.Common.{ap, Rows, AllRows, Fifth, all_rows_of}
 use Rattle.office_upgrade.specs.Upgrading as rows
 use Rattle.office_engine.proofs.laws.rows_left_are_taken_up.Goals as goal
 

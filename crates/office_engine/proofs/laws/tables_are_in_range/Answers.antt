@@ -1,5 +1,4 @@
-use Rattle.std.proofs.Common.{sym, subst}
-use Rattle.office_engine.proofs.Common.{this_version}
+use Rattle.office_engine.proofs.Common.{sym, subst, this_version}
 use Rattle.office_history.specs.RowRanges.{AreInRange}
 use Rattle.office_engine.proofs.laws.tables_are_in_range.Goals as goal
 

@@ -1,5 +1,4 @@
-use Rattle.std.proofs.Common.{sym, ◌∙◌}
-use Rattle.office_engine.proofs.Common.{this_version}
+use Rattle.office_engine.proofs.Common.{sym, ◌∙◌, this_version}
 use Rattle.office_engine.proofs.laws.tables_tell_the_answer.Goals as goal
 
 pub returns : goal.returns

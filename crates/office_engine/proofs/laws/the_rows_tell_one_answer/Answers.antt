@@ -1,5 +1,4 @@
-use Rattle.std.proofs.Common.{sym, ap, ◌∙◌}
-use Rattle.office_engine.proofs.Common.{same_Some, Answer, Rows}
+use Rattle.office_engine.proofs.Common.{sym, ap, ◌∙◌, same_Some, Answer, Rows}
 use Rattle.office_engine.proofs.laws.the_rows_tell_one_answer.Goals as goal
 
 pub returns : goal.returns

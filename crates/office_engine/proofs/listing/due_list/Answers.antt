@@ -1,8 +1,5 @@
-use Rattle.std.proofs.Common.{◌≡◌, ◌∙◌, Some, not, ap, sym, arith, rules}
-use Rattle.office_engine.proofs.Common.{same_Some, IfOk-weaker, HasCleanDisk, state, due_list, Visit, visit_on}
+use Rattle.office_engine.proofs.Lemmas.{◌≡◌, ◌∙◌, Some, not, ap, sym, arith, rules, same_Some, IfOk-weaker, HasCleanDisk, state, due_list, Visit, visit_on, found_kept, under, shown_found}
 use Rattle.office_by_rows.specs.Answers as by_rows
-use Rattle.office_engine.proofs.Ends.{found_kept, under}
-use Rattle.office_engine.proofs.ServedByRows.{shown_found}
 use Rattle.office_engine.proofs.listing.due_list.Goals as goal
 
 pub returns-clause-listed : goal.returns-clause-listed

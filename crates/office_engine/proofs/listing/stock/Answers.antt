@@ -1,7 +1,5 @@
-use Rattle.std.proofs.Common.{◌≡◌, ◌∙◌, not, true, ap, subst, sym, arith, rules}
-use Rattle.office_engine.proofs.Common.{IfOk-weaker, HasCleanDisk, state, stock, Pictures, Finds}
-use Rattle.office_engine.proofs.Ends.{found_kept, under}
-use Rattle.office_engine.proofs.StockTold.{stock_is}
+use Rattle.office_engine.proofs.Lemmas.{◌≡◌, ◌∙◌, not, true, ap, subst, sym, arith, rules, IfOk-weaker, HasCleanDisk, state, Pictures, Finds, found_kept, under, stock_is}
+use Rattle.office_history.specs.Stocks.{stock}
 use Rattle.office_engine.proofs.listing.stock.Goals as goal
 
 pub returns-clause-counted : goal.returns-clause-counted

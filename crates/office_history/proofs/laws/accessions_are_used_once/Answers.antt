@@ -1,4 +1,4 @@
-use Rattle.office_history.proofs.OnceLemmas.{accessions_apart}
+use Rattle.office_history.proofs.Lemmas.{accessions_apart}
 use Rattle.office_history.proofs.laws.accessions_are_used_once.Goals as goal
 
 pub returns : goal.returns

@@ -1,10 +1,4 @@
-use Rattle.std.proofs.Common.{ap, ◌∙◌}
-use Rattle.office_history.specs.Bags.{report_or_text}
-use Rattle.office_history.specs.Answers.{audit_report}
-use Rattle.office_history.specs.Histories.{deposits}
-use Rattle.office_history.proofs.ListLemmas.{all_numbered}
-use Rattle.office_history.proofs.LegalLemmas.{HasSoundBag, sound_deposits}
-use Rattle.office_history.proofs.KeptLemmas.{audited}
+use Rattle.office_history.proofs.Lemmas.{ap, ◌∙◌, report_or_text, audit_report, deposits, all_numbered, HasSoundBag, sound_deposits, audited}
 use Rattle.office_history.proofs.laws.audits_are_valid.Goals as goal
 
 pub returns : goal.returns

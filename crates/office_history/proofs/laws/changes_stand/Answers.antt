@@ -1,5 +1,4 @@
-use Rattle.office_history.specs.Histories.{ReleasedHold}
-use Rattle.office_history.proofs.LegalLemmas.{changes_stand}
+use Rattle.office_history.proofs.Lemmas.{ReleasedHold, changes_stand}
 use Rattle.office_history.proofs.laws.changes_stand.Goals as goal
 
 pub returns-clause-changes : goal.returns-clause-changes

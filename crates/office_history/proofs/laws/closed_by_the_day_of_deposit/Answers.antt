@@ -1,6 +1,4 @@
-use Rattle.office_history.specs.Histories.{deposits}
-use Rattle.office_history.proofs.ListLemmas.{all_numbered}
-use Rattle.office_history.proofs.RangeLemmas.{WasClosed, closed_deposits}
+use Rattle.office_history.proofs.Lemmas.{deposits, all_numbered, WasClosed, closed_deposits}
 use Rattle.office_history.proofs.laws.closed_by_the_day_of_deposit.Goals as goal
 
 pub returns : goal.returns

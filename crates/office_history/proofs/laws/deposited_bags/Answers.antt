@@ -1,7 +1,4 @@
-use Rattle.std.proofs.Common.{◌∙◌, ap}
-use Rattle.office_history.specs.Bags.{valid_bag, if_valid, report_or_text}
-use Rattle.office_history.proofs.LegalLemmas.{sound_bag}
-use Rattle.office_history.proofs.LawLemmas.{read_of}
+use Rattle.office_history.proofs.Lemmas.{◌∙◌, ap, valid_bag, if_valid, report_or_text, sound_bag, read_of}
 use Rattle.office_history.proofs.laws.deposited_bags.Goals as goal
 
 pub returns-clause-valid : goal.returns-clause-valid

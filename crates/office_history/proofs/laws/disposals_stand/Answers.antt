@@ -1,5 +1,4 @@
-use Rattle.office_history.specs.Histories.{Destroyed}
-use Rattle.office_history.proofs.LegalLemmas.{changes_stand}
+use Rattle.office_history.proofs.Lemmas.{Destroyed, changes_stand}
 use Rattle.office_history.proofs.laws.disposals_stand.Goals as goal
 
 pub returns : goal.returns

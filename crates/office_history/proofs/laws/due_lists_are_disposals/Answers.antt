@@ -1,4 +1,4 @@
-use Rattle.office_history.proofs.KeptLemmas.{listed_is_due, due_is_listed}
+use Rattle.office_history.proofs.Lemmas.{listed_is_due, due_is_listed}
 use Rattle.office_history.proofs.laws.due_lists_are_disposals.Goals as goal
 
 pub returns : goal.returns

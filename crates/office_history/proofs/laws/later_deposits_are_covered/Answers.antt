@@ -1,10 +1,4 @@
-use Rattle.std.proofs.Common.{◌∙◌, ap}
-use Rattle.office_core.specs.declared.request.Request.TheVariants.{HoldCollection}
-use Rattle.office_history.specs.Answers.{after}
-use Rattle.office_history.specs.Histories.{hold_numbered, OnCollection}
-use Rattle.office_history.proofs.HistoryLemmas.{hold_stays}
-use Rattle.office_history.proofs.LawLemmas.{covers_collection}
-use Rattle.office_history.proofs.AnsweredLemmas.{collection_hold}
+use Rattle.office_history.proofs.Lemmas.{◌∙◌, ap, HoldCollection, after, hold_numbered, OnCollection, hold_stays, covers_collection, collection_hold}
 use Rattle.office_history.proofs.laws.later_deposits_are_covered.Goals as goal
 
 pub returns-clause-held : goal.returns-clause-held

@@ -1,12 +1,4 @@
-use Rattle.std.proofs.Common.{◌∙◌, ap}
-use Rattle.bag_text.proofs.ElementLemmas.{has_contains}
-use Rattle.office_core.specs.declared.request.Request.TheVariants.{HoldClass}
-use Rattle.office_history.specs.Answers.{after}
-use Rattle.office_history.specs.Histories.{hold_numbered, live_holds, OnClass}
-use Rattle.office_history.proofs.HistoryLemmas.{hold_stays}
-use Rattle.office_history.proofs.LawLemmas.{covers_class}
-use Rattle.office_history.proofs.CoverLemmas.{among_live}
-use Rattle.office_history.proofs.AnsweredLemmas.{class_hold}
+use Rattle.office_history.proofs.Lemmas.{◌∙◌, ap, has_contains, HoldClass, after, hold_numbered, live_holds, OnClass, hold_stays, covers_class, among_live, class_hold}
 use Rattle.office_history.proofs.laws.later_deposits_of_a_class_are_covered.Goals as goal
 
 pub returns-clause-held : goal.returns-clause-held

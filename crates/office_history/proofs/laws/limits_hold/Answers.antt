@@ -1,4 +1,4 @@
-use Rattle.office_history.proofs.RangeLemmas.{limits_hold}
+use Rattle.office_history.proofs.Lemmas.{limits_hold}
 use Rattle.office_history.proofs.laws.limits_hold.Goals as goal
 
 pub returns : goal.returns

@@ -1,20 +1,14 @@
-use Rattle.std.proofs.Common.{◌≡◌, ◌≤◌, ◌∙◌, ap, sym, subst, ◌+◌, length, length-append, arith}
+use Rattle.office_history.proofs.Lemmas.{◌≡◌, ◌≤◌, ◌∙◌, ap, sym, subst, ◌+◌, length, length-append, arith, deposits, holds, change, after, depositable, deposit_adds, was_allowed, more_deposits, was_placed, holds_after, more_holds}
 use Rattle.office_core.specs.declared.request.Request.TheVariants.{Deposit as MakeDeposit}
-use Rattle.office_history.specs.Histories.{deposits, holds}
-use Rattle.office_history.specs.Answers.{change, after}
-use Rattle.office_history.proofs.Accepted.{depositable}
-use Rattle.office_history.proofs.LawLemmas.{deposit_adds}
-use Rattle.office_history.proofs.OnceLemmas.{was_allowed, more_deposits}
-use Rattle.office_history.proofs.AnsweredLemmas.{was_placed, holds_after, more_holds}
 use Rattle.office_history.proofs.laws.numbers_are_given_once.Goals as goal
 
 pub returns-clause-deposits : goal.returns-clause-deposits
-returns-clause-deposits c = λ h next day later n m caller collection class accession closed bag other collection_2 class_2 accession_2 closed_2 bag_2 e after_it e_2.
-    let was = was_allowed h day caller collection class accession closed bag n e in
-    let is = was_allowed next later other collection_2 class_2 accession_2 closed_2 bag_2 m e_2 in
-    let allowed = depositable h day caller collection class accession closed bag.now was.0 in
-    let mid = after h day caller (MakeDeposit collection class accession closed bag) in
-    let count : length (deposits mid) ≡ length (deposits h) + 1 = ap length (deposit_adds h day caller collection class accession closed bag allowed.0 was.0 allowed.1) ∙ length-append (deposits h) _ in
+returns-clause-deposits c = λ h next day later n m caller other description description_2 bag bag_2 e after_it e_2.
+    let was = was_allowed h day caller description bag n e in
+    let is = was_allowed next later other description_2 bag_2 m e_2 in
+    let allowed = depositable h day caller description bag.now was.0 in
+    let mid = after h day caller (MakeDeposit description bag) in
+    let count : length (deposits mid) ≡ length (deposits h) + 1 = ap length (deposit_adds h day caller description bag allowed.0 was.0 allowed.1) ∙ length-append (deposits h) _ in
     let more : length (deposits mid) ≤ length (deposits next) = subst (λ x. length (deposits mid) ≤ length (deposits x)) (sym after_it.1) (more_deposits mid after_it.0) in
     omega (arith, was.1, is.1, count, more)
 

@@ -1,5 +1,4 @@
-use Rattle.std.proofs.Common.{[], ◌∷◌}
-use Rattle.office_history.specs.Histories.{Installed}
+use Rattle.office_history.proofs.Common.{[], ◌∷◌, Installed}
 use Rattle.office_history.proofs.Alike.{alike_grown, same_picture, same_stock}
 use Rattle.office_history.proofs.AlikeAnswers.{same_answer, alike_after}
 use Rattle.office_history.proofs.Pictured.{alike}

@@ -1,11 +1,5 @@
-use Rattle.std.proofs.Common.{◌≡◌, ◌∙◌, ap, sym, inl, inr, List}
+use Rattle.office_history.proofs.Lemmas.{◌≡◌, ◌∙◌, ap, sym, inl, inr, List, Refusal, History, Change, with_changes, changes_unless, allowed_change, Item, Step, grown_by_none, refused_change}
 use Rattle.office_core.specs.declared.answer.Answer.TheVariants as answers
-use Rattle.office_core.specs.declared.refusal.Refusal.{Refusal}
-use Rattle.office_history.specs.Histories.{History, Change, with_changes}
-use Rattle.office_history.specs.Answers.{changes_unless, allowed_change}
-use Rattle.office_history.specs.Runs.{Item, Step}
-use Rattle.office_history.proofs.Accepted.{grown_by_none}
-use Rattle.office_history.proofs.AnsweredLemmas.{refused_change}
 use Rattle.office_history.proofs.laws.refused_changes_nothing.Goals as goal
 
 pub returns-clause-change : goal.returns-clause-change

@@ -1,10 +1,4 @@
-use Rattle.std.proofs.Common.{◌≡◌, ◌∙◌, ap, Some}
-use Rattle.office_core.specs.declared.request.Request.TheVariants.{Release}
-use Rattle.office_history.specs.Histories.{release_day}
-use Rattle.office_history.specs.Answers.{after}
-use Rattle.office_history.proofs.LawLemmas.{released_stays}
-use Rattle.office_history.proofs.OnceLemmas.{not_among_live, refuses_none}
-use Rattle.office_history.proofs.AnsweredLemmas.{was_released, not_told}
+use Rattle.office_history.proofs.Lemmas.{◌≡◌, ◌∙◌, ap, Some, Release, release_day, after, released_stays, not_among_live, refuses_none, was_released, not_told}
 use Rattle.office_history.proofs.laws.released_holds_are_not_live.Goals as goal
 
 pub returns-clause-listed : goal.returns-clause-listed

@@ -1,10 +1,5 @@
-use Rattle.std.proofs.Common.{◌∙◌, ap, ◌∷◌, []}
+use Rattle.office_history.proofs.Lemmas.{◌∙◌, ap, ◌∷◌, [], DefineClass, with_changes, due, DefinedClass, refusal, changes_unless, revised_due, unrefused}
 use Rattle.office_core.specs.declared.answer.Answer.TheVariants as answers
-use Rattle.office_core.specs.declared.request.Request.TheVariants.{DefineClass}
-use Rattle.office_history.specs.Histories.{with_changes, due, DefinedClass}
-use Rattle.office_history.specs.Refusals.{refusal}
-use Rattle.office_history.specs.Answers.{changes_unless}
-use Rattle.office_history.proofs.LawLemmas.{revised_due, unrefused}
 use Rattle.office_history.proofs.laws.revised_classes_move_due_days.Goals as goal
 
 pub returns : goal.returns

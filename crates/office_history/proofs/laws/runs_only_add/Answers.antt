@@ -1,6 +1,4 @@
-use Rattle.std.proofs.Common.{[], ◌∷◌, refl}
-use Rattle.office_history.specs.Histories.{Installed}
-use Rattle.office_history.proofs.LawLemmas.{run_grows, later_still}
+use Rattle.office_history.proofs.Lemmas.{[], ◌∷◌, refl, Installed, run_grows, later_still}
 use Rattle.office_history.proofs.laws.runs_only_add.Goals as goal
 
 pub returns-clause-runs : goal.returns-clause-runs

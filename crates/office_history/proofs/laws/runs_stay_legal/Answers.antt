@@ -1,4 +1,4 @@
-use Rattle.office_history.proofs.LegalLemmas.{run_legal}
+use Rattle.office_history.proofs.Lemmas.{run_legal}
 use Rattle.office_history.proofs.laws.runs_stay_legal.Goals as goal
 
 pub returns : goal.returns

@@ -1,6 +1,4 @@
-use Rattle.office_history.specs.Histories.{deposits}
-use Rattle.office_history.proofs.ListLemmas.{all_numbered}
-use Rattle.office_history.proofs.LegalLemmas.{HasSoundBag, sound_deposits}
+use Rattle.office_history.proofs.Lemmas.{deposits, all_numbered, HasSoundBag, sound_deposits}
 use Rattle.office_history.proofs.laws.sound_bags.Goals as goal
 
 pub returns : goal.returns

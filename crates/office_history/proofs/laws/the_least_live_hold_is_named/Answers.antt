@@ -1,5 +1,4 @@
-use Rattle.office_history.proofs.OnceLemmas.{held_least}
-use Rattle.office_history.proofs.CoverLemmas.{least_covers, least_is, refused_for_least}
+use Rattle.office_history.proofs.Lemmas.{held_least, least_covers, least_is, refused_for_least}
 use Rattle.office_history.proofs.laws.the_least_live_hold_is_named.Goals as goal
 
 pub returns-clause-named : goal.returns-clause-named

@@ -1,6 +1,4 @@
-use Rattle.office_history.specs.Histories.{deposits, holds}
-use Rattle.office_history.proofs.ListLemmas.{all_numbered}
-use Rattle.office_history.proofs.RangeLemmas.{HasPlace, placed_deposits, HasTarget, placed_holds}
+use Rattle.office_history.proofs.Lemmas.{deposits, holds, all_numbered, HasPlace, placed_deposits, HasTarget, placed_holds}
 use Rattle.office_history.proofs.laws.what_is_named_is_there.Goals as goal
 
 pub returns-clause-deposits : goal.returns-clause-deposits

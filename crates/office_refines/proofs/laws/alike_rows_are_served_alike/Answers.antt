@@ -1,5 +1,4 @@
-use Rattle.std.proofs.Common.{ap, sym, ◌∙◌}
-use Rattle.office_refines.proofs.Common.{same_Some, serve}
+use Rattle.office_refines.proofs.Common.{ap, sym, ◌∙◌, same_Some, serve}
 use Rattle.office_refines.proofs.laws.alike_rows_are_served_alike.Goals as goal
 
 pub returns-clause-answers : goal.returns-clause-answers

@@ -1,4 +1,4 @@
-use Rattle.std.proofs.Common.{ap, is_some}
+use Rattle.office_refines.proofs.Common.{ap, is_some}
 use Rattle.office_refines.proofs.laws.no_legal_office_is_taken_for_an_altered_one.Goals as goal
 
 pub returns : goal.returns

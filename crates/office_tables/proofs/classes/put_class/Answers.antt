@@ -1,4 +1,4 @@
-use Rattle.office_tables.proofs.Lemmas.{rules, w64, to_z-of_z, HasCleanDisk, state, tables_of, kept_once, same_after, clean_first, inside_failed, puts_class}
+use Rattle.office_tables.proofs.Lemmas.{rules, w64, to_z-of_z, HasCleanDisk, state, tables_of, stored_once, same_after, clean_first, inside_failed, puts_class}
 use Rattle.office_tables.proofs.classes.put_class.Goals as goal
 
 pub returns-in_ok-add_class-clause-becomes : goal.returns-in_ok-add_class-clause-becomes
@@ -19,4 +19,4 @@ returns-in_ok-add_class-clause-contents g c clean office =
     same_after (c.in_ok-revise_class.ensures.contents early office) (c.in_ok-add_class.ensures.contents clean (c.in_ok-revise_class.ensures.becomes early office).office)
 
 pub returns-in_ok-add_class-clause-once : goal.returns-in_ok-add_class-clause-once
-returns-in_ok-add_class-clause-once g c clean office kept = kept_once (returns-in_ok-add_class-clause-contents g c clean office) kept
+returns-in_ok-add_class-clause-once g c clean office kept = stored_once (returns-in_ok-add_class-clause-contents g c clean office) kept

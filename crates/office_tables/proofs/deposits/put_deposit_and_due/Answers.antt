@@ -1,5 +1,5 @@
-use Rattle.office_tables.proofs.Lemmas.{kept_once}
+use Rattle.office_tables.proofs.Lemmas.{stored_once}
 use Rattle.office_tables.proofs.deposits.put_deposit_and_due.Goals as goal
 
 pub returns-clause-once : goal.returns-clause-once
-returns-clause-once g c clean office kept = kept_once (c.in_ok-add_deposit.ensures.contents clean office) kept
+returns-clause-once g c clean office kept = stored_once (c.in_ok-add_deposit.ensures.contents clean office) kept

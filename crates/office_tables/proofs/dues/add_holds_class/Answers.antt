@@ -1,4 +1,4 @@
-use Rattle.office_tables.proofs.Lemmas.{w64, to_z-of_z, adds_holds_class, kept_once, add_holds_class_same}
+use Rattle.office_tables.proofs.Lemmas.{w64, to_z-of_z, adds_holds_class, stored_once, add_holds_class_same}
 use Rattle.office_tables.proofs.dues.add_holds_class.Goals as goal
 
 pub returns-clause-becomes : goal.returns-clause-becomes
@@ -11,4 +11,4 @@ pub returns-clause-contents : goal.returns-clause-contents
 returns-clause-contents g c clean office = add_holds_class_same _ _ _ c.in_ok-change.field-0 office (c.in_ok-change.ensures.ran clean)
 
 pub returns-clause-once : goal.returns-clause-once
-returns-clause-once g c clean office kept = kept_once (returns-clause-contents g c clean office) kept
+returns-clause-once g c clean office kept = stored_once (returns-clause-contents g c clean office) kept

@@ -1,4 +1,4 @@
-use Rattle.office_tables.proofs.Lemmas.{rules, HasCleanDisk, state, IsOffice, tables_of, puts_policy, kept_once, same_after, clean_first}
+use Rattle.office_tables.proofs.Lemmas.{rules, HasCleanDisk, state, IsOffice, tables_of, puts_policy, stored_once, same_after, clean_first}
 use Rattle.office_tables.proofs.policy.put_policy.Goals as goal
 
 pub returns : goal.returns
@@ -20,5 +20,5 @@ returns g c =
       becomes = λ clean office. puts_policy (tables_of old.now) c.args.callers.now c.args.rules.now _ _ _ new.now (first clean office) (second clean office) (third clean office)
           (c.in_ok-add_rules.ensures.becomes clean (third clean office).office);
       contents = same;
-      once = λ clean office kept. kept_once (same clean office) kept;
+      once = λ clean office kept. stored_once (same clean office) kept;
     }

@@ -1,4 +1,4 @@
-use Rattle.office_upgrade.proofs.Kept.{stays_once, stays_held}
+use Rattle.office_upgrade.proofs.Stored.{stays_once, stays_held}
 use Rattle.office_upgrade.proofs.laws.contents_stay.Goals as goal
 
 pub returns-clause-once : goal.returns-clause-once

@@ -1,5 +1,5 @@
 use Rattle.office_upgrade.proofs.Common.{rules, ◌≡◌, ◌⊎◌, IsTrue, Ok, Err, true, false, refl, subst, sym, ◌∙◌, inl, inr, state, HasCleanDisk, HasVersion, version_number, Fifth, is_there}
-use Rattle.office_tables.specs.declared.fault.TableFault.TheVariants as fault
+use Rattle.office_contents.specs.declared.fault.TableFault.TheVariants as fault
 use Rattle.office_upgrade.proofs.Ending.{Lasts, clean_before, commits, fails_only, lasts, lasts_back, taken_from}
 use Rattle.office_upgrade.proofs.upgrading.upgrade.Goals as goal
 

@@ -1,7 +1,5 @@
-use Rattle.std.proofs.Common.{sym, ◌∙◌, bytes_eq}
-use Rattle.std.proofs.lemmas.Slice.Eq.{bytes_eq-Decides}
+use Rattle.office_core.proofs.Lemmas.{sym, ◌∙◌, bytes_eq, bytes_eq-Decides, IfSome_from, find_some}
 use Rattle.office_core.specs.Actions.{action_text, actions}
-use Rattle.office_core.proofs.OptionLemmas.{IfSome_from, find_some}
 use Rattle.office_core.proofs.action.Action.read.Goals as goal
 
 pub returns-clause-written : goal.returns-clause-written

@@ -1,7 +1,4 @@
-use Rattle.std.proofs.Common.{ap}
-use Rattle.jiff.specs.Types.{Date}
-use Rattle.office_core.specs.Days.{first_day}
-use Rattle.office_core.proofs.DayLemmas.{same_date}
+use Rattle.office_core.proofs.Lemmas.{ap, Date, first_day, same_date}
 use Rattle.office_core.proofs.day.Day.first.Goals as goal
 
 pub returns : goal.returns

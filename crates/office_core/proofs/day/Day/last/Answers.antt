@@ -1,7 +1,4 @@
-use Rattle.std.proofs.Common.{ap}
-use Rattle.jiff.specs.Types.{Date}
-use Rattle.office_core.specs.Days.{last_day}
-use Rattle.office_core.proofs.DayLemmas.{same_date}
+use Rattle.office_core.proofs.Lemmas.{ap, Date, last_day, same_date}
 use Rattle.office_core.proofs.day.Day.last.Goals as goal
 
 pub returns : goal.returns

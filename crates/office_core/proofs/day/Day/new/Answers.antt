@@ -1,8 +1,4 @@
-use Rattle.std.proofs.Common.{arith, ◌≡◌, w32, FitsSigned, refl}
-use Rattle.std.proofs.lemmas.Int.{to_z-of_z}
-use Rattle.jiff_core.proofs.SignedLemmas.{signed_arith}
-use Rattle.jiff.specs.Words.{epoch_day}
-use Rattle.office_core.proofs.DayLemmas.{number_day}
+use Rattle.office_core.proofs.Lemmas.{arith, ◌≡◌, w32, FitsSigned, refl, to_z-of_z, signed_arith, epoch_day, number_day}
 use Rattle.office_core.proofs.day.Day.new.Goals as goal
 
 pub returns-clause-range : goal.returns-clause-range

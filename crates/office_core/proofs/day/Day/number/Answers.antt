@@ -1,6 +1,4 @@
-use Rattle.std.proofs.Common.{arith}
-use Rattle.jiff_core.proofs.SignedLemmas.{signed_arith}
-use Rattle.office_core.proofs.DayLemmas.{day_number}
+use Rattle.office_core.proofs.Lemmas.{arith, signed_arith, day_number}
 use Rattle.office_core.proofs.day.Day.number.Goals as goal
 
 pub returns-clause-range : goal.returns-clause-range

@@ -1,5 +1,4 @@
-use Rattle.office_engine.proofs.Common.{state, this_version, picture}
-use Rattle.office_engine.proofs.Kept.{history_goes_on, known_version, rows_left}
+use Rattle.office_engine.proofs.Lemmas.{state, this_version, picture, history_goes_on, known_version, rows_left}
 use Rattle.office_engine.proofs.office.Office.adopt.Goals as goal
 
 pub returns-in-Ok-clause-goes_on : goal.returns-in-Ok-clause-goes_on

@@ -1,5 +1,4 @@
-use Rattle.office_engine.proofs.Common.{state}
-use Rattle.office_engine.proofs.Kept.{new_survives}
+use Rattle.office_engine.proofs.Lemmas.{state, new_survives}
 use Rattle.office_engine.proofs.office.Office.create.Goals as goal
 
 pub returns-in-Ok-clause-survives : goal.returns-in-Ok-clause-survives

@@ -1,5 +1,4 @@
-use Rattle.std.proofs.Common.{IfOk, subst}
-use Rattle.office_engine.proofs.Common.{HasCleanDisk, state, AreToldDue}
+use Rattle.office_engine.proofs.Common.{IfOk, subst, HasCleanDisk, state, AreToldDue}
 use Rattle.office_engine.proofs.office.Office.due_list.Goals as goal
 
 pub returns-clause-rows : goal.returns-clause-rows

@@ -1,5 +1,4 @@
-use Rattle.std.proofs.Common.{OnOk, subst}
-use Rattle.office_engine.proofs.Common.{HasCleanDisk, state, InstalledRowsLast, InstallsRows, LeavesEither, LeavesInstalled, LeavesInstalledRows, after_policy}
+use Rattle.office_engine.proofs.Common.{OnOk, subst, HasCleanDisk, state, InstalledRowsLast, InstallsRows, LeavesEither, LeavesInstalled, LeavesInstalledRows, after_policy}
 use Rattle.office_engine.proofs.office.Office.install.Goals as goal
 
 pub returns-clause-leaves : goal.returns-clause-leaves

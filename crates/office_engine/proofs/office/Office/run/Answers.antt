@@ -1,6 +1,4 @@
-use Rattle.std.proofs.Common.{arith, rules}
-use Rattle.office_engine.proofs.Common.{⊤, HasCleanDisk, state, survives_then, Pictures, IsOfficeWith, IsTurn}
-use Rattle.office_engine.proofs.Ends.{left_settled}
+use Rattle.office_engine.proofs.Lemmas.{arith, rules, ⊤, HasCleanDisk, state, survives_then, Pictures, IsOfficeWith, IsTurn, left_settled}
 use Rattle.office_engine.proofs.RunTurns.{left_rows, left_run, on_err, ran, ran_rows, survived, survives_run, turns_end, turns_next, turns_shut}
 use Rattle.office_engine.proofs.office.Office.run.Goals as goal
 
@@ -20,7 +18,7 @@ loop-item-preserved g c = record {
         durable = c.step.ensures.durable clean;
         leaves = c.step.ensures.leaves clean;
         made = c.step.ensures.made clean;
-        served_rows = c.step.ensures.served_rows clean;
+        takes_rows_step = c.step.ensures.takes_rows_step clean;
         leaves_rows = c.step.ensures.leaves_rows clean;
         durable_rows = c.step.ensures.durable_rows clean;
       } in

@@ -1,5 +1,4 @@
-use Rattle.std.proofs.Common.{◌≡◌, ◌≤◌, take, length, vec_len, vec_capacity}
-use Rattle.office_engine.proofs.Common.{⊤, HasCleanDisk, Survives, state, InTurn}
+use Rattle.office_engine.proofs.Common.{◌≡◌, ◌≤◌, take, length, vec_len, vec_capacity, ⊤, HasCleanDisk, Survives, state, InTurn}
 use Rattle.office_engine.proofs.office.Office.run.Given as goal
 
 abbrev pub invariant-loop-item : goal.invariant-loop-item

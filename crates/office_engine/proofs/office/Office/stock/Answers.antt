@@ -1,5 +1,4 @@
-use Rattle.std.proofs.Common.{IfOk, subst}
-use Rattle.office_engine.proofs.Common.{HasCleanDisk, state, IsToldStock}
+use Rattle.office_engine.proofs.Common.{IfOk, subst, HasCleanDisk, state, IsToldStock}
 use Rattle.office_engine.proofs.office.Office.stock.Goals as goal
 
 pub returns-clause-rows : goal.returns-clause-rows

@@ -1,5 +1,4 @@
-use Rattle.office_engine.proofs.Common.{state}
-use Rattle.office_engine.proofs.Upgraded.{upgrades, takes_up, lasts, opens_older, leaves, stays, goes_back, upgrade_survives, left_fails}
+use Rattle.office_engine.proofs.Lemmas.{state, upgrades, takes_up, lasts, opens_older, leaves, stays, goes_back, upgrade_survives, left_fails}
 use Rattle.office_engine.proofs.office.Office.upgrade.Goals as goal
 
 pub returns-in-Ok-clause-upgraded : goal.returns-in-Ok-clause-upgraded

@@ -1,5 +1,0 @@
-use Rattle.desk_routes.proofs.ReadingLemmas.{one-spelled}
-use Rattle.desk_routes.proofs.laws.one_place.Goals as goal
-
-pub returns : goal.returns
-returns c = one-spelled

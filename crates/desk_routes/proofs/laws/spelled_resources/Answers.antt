@@ -1,0 +1,5 @@
+use Rattle.desk_routes.proofs.ReadingLemmas.{reading-spelled, spelling-read}
+use Rattle.desk_routes.proofs.laws.spelled_resources.Goals as goal
+
+pub returns : goal.returns
+returns c = λ path resource. (reading-spelled path resource, spelling-read path resource)

@@ -1,0 +1,5 @@
+use Rattle.office_access.proofs.Lemmas.{◌∙◌, Store, there_told}
+use Rattle.office_access.proofs.due.stored_due_row.Goals as goal
+
+pub returns-clause-rows : goal.returns-clause-rows
+returns-clause-rows g c clean office = there_told c.in_ok-found.found Store c.there.result c.there.ensures (λ kept some. some ∙ c.in_ok-found.ensures.found clean office)

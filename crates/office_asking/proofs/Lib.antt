@@ -1,5 +1,0 @@
-pub mod RowsTold
-pub mod ServedBy
-pub mod FirstTold
-pub mod TellsNothing
-pub mod RowsRead

@@ -1,0 +1,14 @@
+pub mod Common
+pub mod TablePlaces
+pub mod Frames
+pub mod InTurn
+pub mod Undone
+pub mod Columns
+pub mod RowsRead
+pub mod LastRow
+pub mod ContentTexts
+pub mod ContentLemmas
+pub mod FileTexts
+pub mod FileLemmas
+pub mod FirstLemmas
+pub mod Lemmas

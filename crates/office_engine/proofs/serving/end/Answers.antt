@@ -1,7 +1,0 @@
-use Rattle.office_engine.proofs.Common.{state}
-use Rattle.office_engine.proofs.Ends.{failed_back}
-use Rattle.office_engine.proofs.serving.end.Goals as goal
-
-pub returns-in-Err-commit-clause-undone : goal.returns-in-Err-commit-clause-undone
-returns-in-Err-commit-clause-undone g c clean inside none =
-    failed_back (state g.S.Store c.args.tx.conn.now) (state g.S.Store c.commit.new.self.0) c.in-Err-commit.error (rw c.in-Ok.is at inside) (c.in-Err-commit.ensures.err clean)

@@ -1,4 +1,0 @@
-pub mod FilesAdded
-pub mod Rewritten
-pub mod RefusedFirst
-pub mod KeptAs

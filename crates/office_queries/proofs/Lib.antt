@@ -1,0 +1,12 @@
+pub mod Common
+pub mod AuditTold
+pub mod PathsTold
+pub mod AllowedTold
+pub mod ToldInTurn
+pub mod RecordByRow
+pub mod FormTold
+pub mod ListedByRow
+pub mod Totals
+pub mod NamesSpelled
+pub mod ReadFor
+pub mod Lemmas

@@ -1,2 +1,0 @@
-pub mod Reopened
-pub mod Stopping

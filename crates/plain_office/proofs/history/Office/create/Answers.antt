@@ -1,7 +1,0 @@
-use Rattle.plain_office.proofs.Common.{new}
-use Rattle.plain_office.proofs.history.Office.create.Goals as goal
-
-pub returns-clause-legal : goal.returns-clause-legal
-returns-clause-legal c =
-    rw c.new.ensures.items
-    (new c.args.limits.deposits c.args.limits.holds c.args.limits.deposits_limit c.args.limits.holds_limit)

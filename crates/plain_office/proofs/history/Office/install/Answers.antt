@@ -1,6 +1,0 @@
-use Rattle.plain_office.proofs.RunLemmas.{install_legal}
-use Rattle.plain_office.proofs.history.Office.install.Goals as goal
-
-pub returns-clause-legal : goal.returns-clause-legal
-returns-clause-legal c =
-    install_legal c.args.self.now c.accept.new.office c.args.policy c.accept.result c.rules-rules.ensures.policy c.accept.ensures.accepted c.accept.ensures.failed

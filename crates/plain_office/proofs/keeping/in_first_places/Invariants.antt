@@ -1,6 +1,0 @@
-use Rattle.plain_office.proofs.Common.{◌≡◌, ◌++◌, drop, distinct_after, in_first_places, texts}
-use Rattle.plain_office.proofs.keeping.in_first_places.Given as goal
-
-abbrev pub invariant-loop-text : goal.invariant-loop-text
-invariant-loop-text l =
-    texts l.found.items ++ distinct_after (texts l.found.items) (texts (drop l.text-index l.all)) ≡ in_first_places (texts l.all)

@@ -1,9 +1,0 @@
-use Rattle.plain_office.proofs.Lemmas.{arith, common_steps, numbered_next}
-use Rattle.plain_office.proofs.reading.deposit_numbered.Goals.{in-Some+else-left-eq1, in_default}
-use Rattle.plain_office.proofs.reading.deposit_numbered.Goals as goal
-
-pub loop-change-preserved : goal.loop-change-preserved
-loop-change-preserved c = elim c.match-deposit.branch [
-  | in-Some+else-left-eq1 w ↦ grind (arith, common_steps, numbered_next)
-  | in_default w ↦ grind (arith, common_steps)
-]

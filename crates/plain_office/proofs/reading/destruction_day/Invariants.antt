@@ -1,5 +1,0 @@
-use Rattle.plain_office.proofs.Common.{◌≡◌, drop, first_said, destroyed_in}
-use Rattle.plain_office.proofs.reading.destruction_day.Given as goal
-
-abbrev pub invariant-loop-change : goal.invariant-loop-change
-invariant-loop-change l = first_said (destroyed_in l.deposit) (drop l.change-index l.changes) ≡ first_said (destroyed_in l.deposit) l.changes

@@ -1,5 +1,0 @@
-use Rattle.plain_office.proofs.Common.{◌≡◌, drop, option_or, last_said, years_in}
-use Rattle.plain_office.proofs.reading.years_of.Given as goal
-
-abbrev pub invariant-loop-change : goal.invariant-loop-change
-invariant-loop-change l = option_or (last_said (years_in l.class) (drop l.change-index l.changes)) l.last ≡ last_said (years_in l.class) l.changes

@@ -1,0 +1,3 @@
+pub mod Common
+pub mod Reopened
+pub mod Stopping
