@@ -2,9 +2,8 @@
 -- this one name, so that later tables change this definition and no contract.
 use Rattle.std.specs.Prelude.{◌≡◌}
 use Rattle.sqlite.specs.Effect.{Database}
-use Rattle.office_contents.specs.Versions.{IsOfficeAt, tables_at, version_number}
+use Rattle.office_contents.specs.Versions.{IsOfficeAt, Newest, tables_at, version_number}
 use Rattle.office_contents.specs.declared.version.TableVersion.{TableVersion}
-use Rattle.office_contents.specs.declared.version.TableVersion.TheVariants.{Fifth}
 use Rattle.office_contents.specs.Contents.{StoresOnce}
 use Rattle.office_history.specs.Histories.{History}
 use Rattle.office_history.specs.Pictures.{picture}
@@ -18,4 +17,4 @@ pub record PicturesAt (version : TableVersion) (h : History) (db : Database) : T
 
 -- the same of the tables of this version
 abbrev pub Pictures : History → Database → Type 0
-Pictures = PicturesAt Fifth
+Pictures = PicturesAt Newest

@@ -25,6 +25,10 @@ version_number Third = pos 3
 version_number Fourth = pos 4
 version_number Fifth = pos 5
 
+-- the version that an office has, once it was opened
+abbrev pub Newest : TableVersion
+Newest = Fifth
+
 -- ---- a stored row of an older table, in the form of the newest
 
 -- the days of a rule that has none: they bound nothing

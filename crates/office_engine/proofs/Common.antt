@@ -30,7 +30,8 @@ pub use Rattle.office_contents.specs.Contents.{AreContents, AreStoredOnce, conte
 pub use Rattle.office_tables.specs.Moving.{AllRows, BecomesAt, renewed}
 pub use Rattle.office_contents.specs.Tables.{contents_of, IsOffice, tables_of}
 pub use Rattle.office_contents.specs.declared.fault.TableFault.{TableFault}
-pub use Rattle.office_contents.specs.declared.version.TableVersion.TheVariants.{Fifth, Third}
+pub use Rattle.office_contents.specs.Versions.{Newest}
+pub use Rattle.office_contents.specs.declared.version.TableVersion.TheVariants.{Third}
 pub use Rattle.sqlite.proofs.StateLemmas.{survives_then, survives_weaker}
 pub use Rattle.sqlite.specs.Effect.{Database}
 pub use Rattle.sqlite.specs.Held.{Held, state}

@@ -1,5 +1,5 @@
 -- Histories through an upgrade, from what is said of rows.
-use Rattle.office_engine.proofs.Common.{◌≡◌, ℤ, List, [], ◌∷◌, find, option_map, Some, refl, sym, ap, subst, subst₂, ◌∙◌, IsTrue, inl, inr, Trees, Database, Ghosts, State, Survives, Held, state, survives_weaker, OfficeRow, is_known, this_version, contents_of, references_of, AreStoredOnce, TableFault, History, office_row, picture, IsLegal, limits_hold, Pictures, PicturesAt, IsStoredAt, IsStoredBy, IsLeftAt, IsLeftOf, HasSameTables, AllRows, BecomesAt, renewed, Third, Fifth, Upgrades, UpgradeLasts, OpensOlder, TakesUp, StaysAt, GoesBackAt, LeavesAt, IsLeftOfUpgrade, IsUpgradeOf, StoppedInTurn}
+use Rattle.office_engine.proofs.Common.{◌≡◌, ℤ, List, [], ◌∷◌, find, option_map, Some, refl, sym, ap, subst, subst₂, ◌∙◌, IsTrue, inl, inr, Trees, Database, Ghosts, State, Survives, Held, state, survives_weaker, OfficeRow, is_known, this_version, contents_of, references_of, AreStoredOnce, TableFault, History, office_row, picture, IsLegal, limits_hold, Pictures, PicturesAt, IsStoredAt, IsStoredBy, IsLeftAt, IsLeftOf, HasSameTables, AllRows, BecomesAt, renewed, Third, Newest, Upgrades, UpgradeLasts, OpensOlder, TakesUp, StaysAt, GoesBackAt, LeavesAt, IsLeftOfUpgrade, IsUpgradeOf, StoppedInTurn}
 use Rattle.office_contents.specs.Faults.{IsFailure}
 use Rattle.office_contents.specs.Versions.{version_number}
 use Rattle.office_contents.specs.declared.version.TableVersion.{TableVersion}
@@ -33,7 +33,7 @@ renewed_picture _ h db = refl
 
 module _ (version : TableVersion) (h : History) (old : Database) (pictured : PicturesAt version h old) where
   -- what has the rows renewed pictures the history
-  pictures_new : (new : Database) → BecomesAt Fifth new (renewed version (rows_of version h old)) → Pictures h new
+  pictures_new : (new : Database) → BecomesAt Newest new (renewed version (rows_of version h old)) → Pictures h new
   pictures_new new now = record {
     office = now.office;
     are = ap (λ (r : AllRows). r.tables) now.are ∙ renewed_picture version h old;
@@ -48,7 +48,7 @@ module _ (version : TableVersion) (h : History) (old : Database) (pictured : Pic
     once = subst₂ AreStoredOnce (sym (ap (λ (r : AllRows). r.references) still.are)) (sym (ap (λ (r : AllRows). r.contents) still.are)) pictured.once;
   }
 
-  left_new : (left : Trees) → rows.IsLeftAt Fifth (renewed version (rows_of version h old)) left → IsLeftOf h left
+  left_new : (left : Trees) → rows.IsLeftAt Newest (renewed version (rows_of version h old)) left → IsLeftOf h left
   left_new left it = (it.0, pictures_new it.0 it.1, it.2)
 
   left_still : (left : Trees) → rows.IsLeftAt version (rows_of version h old) left → IsLeftAt version h left
@@ -110,13 +110,13 @@ left_fails stopped old fails version h legal left = fails version (rows_of versi
 -- what was left of one goes on
 pub stopped_goes_on : (again done : State) (version : TableVersion) (h : History) → TakesUp again done → IsLeftOfUpgrade version h again.now.trees → IsStoredBy h done
 stopped_goes_on again done version h takes (inl before) = takes version h before
-stopped_goes_on again done version h takes (inr after) = takes Fifth h after
+stopped_goes_on again done version h takes (inr after) = takes Newest h after
 
 -- one more leaves what one leaves
 stopped_again : (begun stopped : State) (version : TableVersion) (h : History) → IsTrue begun.is_open → LeavesAt begun stopped → IsLeftOfUpgrade version h begun.now.trees
     → (left : Trees) → stopped.may_leave left → IsLeftOfUpgrade version h left
 stopped_again begun stopped version h was_open leaves_at (inl before) left may = leaves_at version h was_open before left may
-stopped_again begun stopped version h was_open leaves_at (inr after) left may = elim (leaves_at Fifth h was_open after left may) [ inl it ↦ inr it | inr it ↦ inr it ]
+stopped_again begun stopped version h was_open leaves_at (inr after) left may = elim (leaves_at Newest h was_open after left may) [ inl it ↦ inr it | inr it ↦ inr it ]
 
 pub stopped_in_turn : {S : Type 0} (g : Ghosts S) (first : Trees) (stops : List (Held S × Held S)) (left : Trees) (version : TableVersion) (h : History)
     → StoppedInTurn g first stops left → IsLeftOfUpgrade version h first → IsLeftOfUpgrade version h left

@@ -17,7 +17,7 @@ use Rattle.office_history.specs.Answers.{change, after, due_list}
 use Rattle.office_history.specs.Runs.{IsLegal, IsFailure, Item, Step, Run}
 use Rattle.office_history.specs.Stocks.{Stock, stock}
 use Rattle.office_contents.specs.declared.version.TableVersion.{TableVersion}
-use Rattle.office_contents.specs.declared.version.TableVersion.TheVariants.{Fifth}
+use Rattle.office_contents.specs.Versions.{Newest}
 use Rattle.office_by_rows.specs.Answers as by_rows
 use Rattle.office_by_rows.specs.Stock.{stock_by}
 use Rattle.office_access.specs.Asking.{visit_on}
@@ -39,14 +39,14 @@ IsStoredAt version h s = IsTrue s.is_open → PicturesAt version h s.now × (s.c
 
 -- the same of tables of this version
 abbrev pub IsStoredBy : History → State → Type 0
-IsStoredBy = IsStoredAt Fifth
+IsStoredBy = IsStoredAt Newest
 
 -- what a crash leaves pictures the history, by tables of that version
 abbrev pub IsLeftAt : TableVersion → History → Trees → Type 0
 IsLeftAt version h left = (found : Database) × PicturesAt version h found × (left ≡ found.trees)
 
 abbrev pub IsLeftOf : History → Trees → Type 0
-IsLeftOf = IsLeftAt Fifth
+IsLeftOf = IsLeftAt Newest
 
 -- what a crash leaves pictures one of the two
 abbrev pub IsLeftOfEither : History → History → Trees → Type 0

@@ -6,9 +6,8 @@ use Rattle.sqlite.specs.Store.{Ghosts}
 use Rattle.sqlite.specs.State.{State}
 use Rattle.sqlite.specs.Held.{Held, state}
 use Rattle.office_tables.specs.Moving.{AllRows}
-use Rattle.office_contents.specs.Versions.{version_number}
+use Rattle.office_contents.specs.Versions.{Newest, version_number}
 use Rattle.office_contents.specs.declared.version.TableVersion.{TableVersion}
-use Rattle.office_contents.specs.declared.version.TableVersion.TheVariants.{Fifth}
 use Rattle.office_history.specs.Histories.{History}
 use Rattle.office_history.specs.Runs.{IsLegal}
 use Rattle.office_access.specs.Contents.{Rows}
@@ -39,7 +38,7 @@ LeavesAt old new = (version : TableVersion) (h : History) → IsTrue old.is_open
 
 -- whichever legal history was there by older tables, kept or left by a crash, the store is open
 abbrev pub OpensOlder : State → State → Type 0
-OpensOlder old new = (version : TableVersion) (h : History) → version_number version ≢ version_number Fifth → IsLegal h → IsTrue old.is_open
+OpensOlder old new = (version : TableVersion) (h : History) → version_number version ≢ version_number Newest → IsLegal h → IsTrue old.is_open
     → IsLeftAt version h old.now.trees → IsTrue new.is_open
 
 -- whichever history was kept, it still is, by the tables that it had

@@ -16,7 +16,7 @@ ghost use Rattle.office_rows.specs.Rows.{Tables, empty_office, this_version};
 ghost use Rattle.office_contents.specs.Tables.{Becomes, IsOffice, contents_of, tables_of};
 ghost use Rattle.office_contents.specs.Contents.{DiffersInBytes, IsMarked, StoresOnce};
 ghost use Rattle.office_contents.specs.declared.version.TableVersion.{TableVersion};
-ghost use Rattle.office_contents.specs.declared.version.TableVersion.TheVariants.{Fifth};
+ghost use Rattle.office_contents.specs.Versions.{Newest};
 ghost use Rattle.office_history.specs.Histories.{History};
 ghost use Rattle.office_history.specs.Answers.{after, answer};
 ghost use Rattle.office_history.specs.Pictures.{due_rows, picture};
@@ -188,7 +188,7 @@ pub fn a_stopped_upgrade_goes_on<S: Alter>()
 
 /// Rows that a crash left are those of the office that takes them up, whichever they are.
 pub fn rows_left_are_taken_up<S: Alter>()
-    ensures { (again done : Held S) (r : Rows) → TellsNoOther Fifth (all_rows_of r)
+    ensures { (again done : Held S) (r : Rows) → TellsNoOther Newest (all_rows_of r)
         → IsLeftWith r (state S.Store again).now.trees
         → rows.TakesUp (state S.Store again) (state S.Store done) → HasRows r (state S.Store done) }
 {}

@@ -1,5 +1,5 @@
 -- That an office has these rows comes out of a truncation.
-use Rattle.office_tables.proofs.Common.{◌≡◌, ℕ, ℤ, pos, List, [], map, length, bytes_eq, Bool, true, refl, list_any, int_eq, sha256, Trees, Schema, Database, IsDatabase, AreShaped, IsOfficeAt, emptied_at, schema_at, TableVersion, Fifth, Tables, ContentRow, Becomes, contents_of, IsMarked, AreStoredOnce, StoresOnce, references_of, IsLeft}
+use Rattle.office_tables.proofs.Common.{◌≡◌, ℕ, ℤ, pos, List, [], map, length, bytes_eq, Bool, true, refl, list_any, int_eq, sha256, Trees, Schema, Database, IsDatabase, AreShaped, IsOfficeAt, emptied_at, schema_at, TableVersion, Newest, Tables, ContentRow, Becomes, contents_of, IsMarked, AreStoredOnce, StoresOnce, references_of, IsLeft}
 use Rattle.std.proofs.lemmas.Map.Keys.{IsDistinct-prop}
 use Rattle.std.proofs.Math.Logic.{∥∥₁_elim, ∥∥₁_map}
 use Rattle.std.specs.Coded.{Coded, Coded-set, codes}
@@ -38,7 +38,7 @@ pub rows_from : (a b : Tables) → ∥ a ≡ b ∥₁ → a ≡ b
 rows_from a b h = ∥∥₁_elim h (tables_set a b) (λ same. same)
 
 pub becomes_from : (tables : Tables) (b : Database) → IsDatabase b → ∥ Becomes b tables ∥₁ → Becomes b tables
-becomes_from tables b q h = record { office = office_from Fifth b q (∥∥₁_map h (λ m. m.office)); are = rows_from _ _ (∥∥₁_map h (λ m. m.are)) }
+becomes_from tables b q h = record { office = office_from Newest b q (∥∥₁_map h (λ m. m.office)); are = rows_from _ _ (∥∥₁_map h (λ m. m.are)) }
 
 -- what was left comes out of a truncation, where a database is found
 pub left_from : (tables : Tables) (b : Database) → IsDatabase b → ∥ IsLeft tables b.trees ∥₁ → IsLeft tables b.trees

@@ -4,7 +4,7 @@ pub use Rattle.office_contents.proofs.InTurn.{clean_first}
 pub use Rattle.office_tables.proofs.OpenLemmas.{is_there, tells_version}
 pub use Rattle.office_tables.specs.Moving.{AllRows, BecomesAt, renewed}
 pub use Rattle.office_tables.specs.Opening.{HasVersion, HasSameTables, NotAnOffice, ShowsVersion}
-pub use Rattle.office_contents.specs.Versions.{IsOfficeAt, tables_at, version_number}
+pub use Rattle.office_contents.specs.Versions.{IsOfficeAt, Newest, tables_at, version_number}
 pub use Rattle.office_contents.specs.declared.version.TableVersion.{TableVersion}
 pub use Rattle.office_contents.specs.declared.version.TableVersion.TheVariants.{Fifth, Fourth, Third}
 pub use Rattle.office_upgrade.specs.Upgrading.{GoesBack, HasUnknownVersion, IsLeftAt, IsOfficeOf, IsOlder, IsRenewed, IsUpgrade, HasSameOffice, LeavesOffice, NewestSurvives, OpensOlder, TakesUp, TellsKnown, TellsUnknown, TellsVersion, UpgradeLasts, Upgrades}

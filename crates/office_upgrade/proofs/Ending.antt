@@ -1,5 +1,5 @@
 -- What an upgrade leaves, and what a crash may leave of it.
-use Rattle.office_upgrade.proofs.Common.{◌≡◌, ℤ, pos, Bool, true, false, Option, None, Some, Ok, Err, Result, IsTrue, refl, sym, ap, subst, ◌∙◌, inl, inr, arith, Database, Trees, Held, state, HasCleanDisk, Survives, survives_then, OnOk, HasVersion, ShowsVersion, version_of, AllRows, BecomesAt, renewed, version_number, IsOfficeOf, IsOlder, IsRenewed, IsUpgrade, IsLeftAt, HasUnknownVersion, TellsVersion, TableVersion, Fifth, clean_first, tells_version}
+use Rattle.office_upgrade.proofs.Common.{◌≡◌, ℤ, pos, Bool, true, false, Option, None, Some, Ok, Err, Result, IsTrue, refl, sym, ap, subst, ◌∙◌, inl, inr, arith, Database, Trees, Held, state, HasCleanDisk, Survives, survives_then, OnOk, HasVersion, ShowsVersion, version_of, AllRows, BecomesAt, renewed, version_number, IsOfficeOf, IsOlder, IsRenewed, IsUpgrade, IsLeftAt, HasUnknownVersion, TellsVersion, TableVersion, Newest, clean_first, tells_version}
 use Rattle.sqlite.specs.Store.{Ghosts}
 use Rattle.sqlite.proofs.Callers.{survives_begin}
 use Rattle.sql_meaning.specs.Inside.{Stays}
@@ -21,7 +21,7 @@ same_version version rows db seen office shown =
     office.told seen (sym (ap (λ (r : AllRows). version_of r.tables) office.becomes.are) ∙ tells_version version db office.becomes.office.whole (Some seen) shown)
 
 pub is_renewed : (seen : ℤ) (old mid new : Database) → ShowsVersion old (Some seen) → mid ≡ old
-    → ((known : TableVersion) (rows : AllRows) → seen ≡ version_number known → BecomesAt known mid rows → BecomesAt Fifth new (renewed known rows)) → IsRenewed old new
+    → ((known : TableVersion) (rows : AllRows) → seen ≡ version_number known → BecomesAt known mid rows → BecomesAt Newest new (renewed known rows)) → IsRenewed old new
 is_renewed seen old mid new shown same made version rows office =
     made version rows (same_version version rows old seen office shown) (subst (λ d. BecomesAt version d rows) (sym same) office.becomes)
 
@@ -36,7 +36,7 @@ pub record IsTaken {S : Type 0} (g : Ghosts S) (first last : Held S) (taken : Re
   pub renewed : HasCleanDisk (state g last) → OnOk taken (IsRenewed (state g first).now (state g last).now)
   pub same : HasCleanDisk (state g last) → taken ≡ Ok false → (state g last).now ≡ (state g first).now
   pub older : HasCleanDisk (state g last) → taken ≡ Ok true → IsOlder (state g first).now
-  pub newest : HasCleanDisk (state g last) → taken ≡ Ok false → HasVersion (state g first).now (version_number Fifth)
+  pub newest : HasCleanDisk (state g last) → taken ≡ Ok false → HasVersion (state g first).now (version_number Newest)
   pub not_office : HasCleanDisk (state g last) → taken ≡ Err NotAnOffice → ShowsVersion (state g first).now None
   pub other_version : HasCleanDisk (state g last) → taken ≡ Err OtherVersion → HasUnknownVersion (state g first).now
 
@@ -45,7 +45,7 @@ pub taken_from : {S : Type 0} (g : Ghosts S) (first start last : Held S) (taken 
     → (HasCleanDisk (state g last) → OnOk taken (IsRenewed (state g start).now (state g last).now))
     → (HasCleanDisk (state g last) → taken ≡ Ok false → (state g last).now ≡ (state g start).now)
     → (HasCleanDisk (state g last) → taken ≡ Ok true → IsOlder (state g start).now)
-    → (HasCleanDisk (state g last) → taken ≡ Ok false → HasVersion (state g start).now (version_number Fifth))
+    → (HasCleanDisk (state g last) → taken ≡ Ok false → HasVersion (state g start).now (version_number Newest))
     → (HasCleanDisk (state g last) → taken ≡ Err NotAnOffice → ShowsVersion (state g start).now None)
     → (HasCleanDisk (state g last) → taken ≡ Err OtherVersion → HasUnknownVersion (state g start).now)
     → IsTaken g first last taken
@@ -68,7 +68,7 @@ clean_before g last end x P s same clean =
 -- a crash leaves whatever office of a known version was there renewed
 abbrev pub Lasts : {S : Type 0} → Ghosts S → Held S → Held S → Type 0
 Lasts g first end = HasCleanDisk (state g end) → (version : TableVersion) (rows : AllRows) → IsOfficeOf version (state g first).now rows → (state g first).committed ≡ (state g first).now
-    → IsTrue (state g first).is_open → (left : Trees) → (state g end).may_leave left → IsLeftAt Fifth (renewed version rows) left
+    → IsTrue (state g first).is_open → (left : Trees) → (state g end).may_leave left → IsLeftAt Newest (renewed version rows) left
 
 module _ {S : Type 0} (g : Ghosts S) (first last end : Held S) (taken : Result Bool TableFault) (it : IsTaken g first last taken) where
   made_by : (done : Bool) → taken ≡ Ok done → HasCleanDisk (state g last) → IsRenewed (state g first).now (state g last).now
@@ -85,7 +85,7 @@ module _ {S : Type 0} (g : Ghosts S) (first last end : Held S) (taken : Result B
   -- after it a crash leaves the new tables alone
   pub lasts : (done : Bool) → taken ≡ Ok done → HasCleanDisk (state g last) → IsTrue (state g end).is_open → (state g end).now ≡ (state g last).now → (state g end).committed ≡ (state g end).now
       → ((db : Trees) → IsTrue (state g end).is_open → (state g end).may_leave db → db ≡ (state g end).committed.trees)
-      → (version : TableVersion) (rows : AllRows) → IsOfficeOf version (state g first).now rows → (left : Trees) → (state g end).may_leave left → IsLeftAt Fifth (renewed version rows) left
+      → (version : TableVersion) (rows : AllRows) → IsOfficeOf version (state g first).now rows → (left : Trees) → (state g end).may_leave left → IsLeftAt Newest (renewed version rows) left
   lasts done is clean was_opened now committed settled version rows office left may =
       ((state g last).now, made_by done is clean version rows office, settled left was_opened may ∙ ap (λ (d : Database). d.trees) (committed ∙ now))
 
@@ -98,7 +98,7 @@ module _ {S : Type 0} (g : Ghosts S) (first last end : Held S) (taken : Result B
   pub lasts_back : taken ≡ Ok false → Survives (state g last) (state g end) (λ _. ⊥) → HasCleanDisk (state g last) → HasCleanDisk (state g end)
       → ((db : Trees) → IsTrue (state g first).is_open → (state g first).may_leave db → db ≡ (state g first).committed.trees)
       → (version : TableVersion) (rows : AllRows) → IsOfficeOf version (state g first).now rows → (state g first).committed ≡ (state g first).now → IsTrue (state g first).is_open
-      → (left : Trees) → (state g end).may_leave left → IsLeftAt Fifth (renewed version rows) left
+      → (left : Trees) → (state g end).may_leave left → IsLeftAt Newest (renewed version rows) left
   lasts_back is s early clean settled version rows office committed is_open left may =
       elim ((survives_back s).crash clean left may) [
         | inl before ↦ ((state g last).now, made_by false is early version rows office, settled left is_open before ∙ ap (λ (d : Database). d.trees) (committed ∙ sym (it.same early is)))

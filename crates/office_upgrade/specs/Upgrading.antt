@@ -8,9 +8,8 @@ use Rattle.office_rows.specs.Rows.{Tables, this_version, version_of}
 use Rattle.office_tables.specs.Opening.{HasVersion}
 use Rattle.office_contents.specs.Tables.{IsOffice, tables_of}
 use Rattle.office_tables.specs.Moving.{AllRows, BecomesAt, renewed}
-use Rattle.office_contents.specs.Versions.{version_number}
+use Rattle.office_contents.specs.Versions.{Newest, version_number}
 use Rattle.office_contents.specs.declared.version.TableVersion.{TableVersion}
-use Rattle.office_contents.specs.declared.version.TableVersion.TheVariants.{Fifth}
 
 -- the rows tell the version
 abbrev pub TellsVersion : TableVersion → AllRows → Type 0
@@ -39,17 +38,17 @@ IsLeftAt version rows left = (made : Database) × BecomesAt version made rows ×
 
 -- the table `office` shows a known version, and not the newest
 abbrev pub IsOlder : Database → Type 0
-IsOlder db = (version : TableVersion) × (version_number version ≢ version_number Fifth) × HasVersion db (version_number version)
+IsOlder db = (version : TableVersion) × (version_number version ≢ version_number Newest) × HasVersion db (version_number version)
 
 -- what an upgrade makes of a database: it showed an older version, and whichever office of a known version it was, a crash
 -- leaves it renewed
 pub record IsUpgrade (db : Database) (left : Trees) : Type 0 where
   pub was_older : IsOlder db
-  pub leaves : (version : TableVersion) (rows : AllRows) → IsOfficeOf version db rows → IsLeftAt Fifth (renewed version rows) left
+  pub leaves : (version : TableVersion) (rows : AllRows) → IsOfficeOf version db rows → IsLeftAt Newest (renewed version rows) left
 
 -- whichever office of a known version was there, it is there renewed
 abbrev pub IsRenewed : Database → Database → Type 0
-IsRenewed old new = (version : TableVersion) (rows : AllRows) → IsOfficeOf version old rows → BecomesAt Fifth new (renewed version rows)
+IsRenewed old new = (version : TableVersion) (rows : AllRows) → IsOfficeOf version old rows → BecomesAt Newest new (renewed version rows)
 
 -- row 1 has a version that is none of those known
 abbrev pub HasUnknownVersion : Database → Type 0
@@ -64,26 +63,26 @@ IsStoredAt version rows s = IsTrue s.is_open → BecomesAt version s.now rows ×
 -- whichever office of a known version was kept, it is kept with the newest tables
 abbrev pub Upgrades : State → State → Type 0
 Upgrades old new = (version : TableVersion) (rows : AllRows) → TellsNoOther version rows → IsStoredAt version rows old
-    → IsStoredAt Fifth (renewed version rows) new
+    → IsStoredAt Newest (renewed version rows) new
 
 -- whichever a crash may have left, it is taken up, with the newest tables
 abbrev pub TakesUp : State → State → Type 0
 TakesUp old new = (version : TableVersion) (rows : AllRows) → TellsNoOther version rows → IsLeftAt version rows old.now.trees
-    → IsStoredAt Fifth (renewed version rows) new
+    → IsStoredAt Newest (renewed version rows) new
 
 -- whichever was there, kept or left by a crash, a crash leaves it with the newest tables, and leaves nothing else
 abbrev pub UpgradeLasts : State → State → Type 0
 UpgradeLasts old new = (version : TableVersion) (rows : AllRows) → TellsNoOther version rows → IsTrue old.is_open → IsLeftAt version rows old.now.trees
-    → (left : Trees) → new.may_leave left → IsLeftAt Fifth (renewed version rows) left
+    → (left : Trees) → new.may_leave left → IsLeftAt Newest (renewed version rows) left
 
 -- whichever was there, at every exit a crash leaves it, or leaves it with the newest tables
 abbrev pub LeavesOffice : State → State → Type 0
 LeavesOffice old new = (version : TableVersion) (rows : AllRows) → TellsNoOther version rows → IsTrue old.is_open → IsLeftAt version rows old.now.trees
-    → (left : Trees) → new.may_leave left → IsLeftAt version rows left ⊎ IsLeftAt Fifth (renewed version rows) left
+    → (left : Trees) → new.may_leave left → IsLeftAt version rows left ⊎ IsLeftAt Newest (renewed version rows) left
 
 -- whichever office of an older version was there, kept or left by a crash, the store is open
 abbrev pub OpensOlder : State → State → Type 0
-OpensOlder old new = (version : TableVersion) (rows : AllRows) → version_number version ≢ version_number Fifth → TellsVersion version rows → IsTrue old.is_open
+OpensOlder old new = (version : TableVersion) (rows : AllRows) → version_number version ≢ version_number Newest → TellsVersion version rows → IsTrue old.is_open
     → IsLeftAt version rows old.now.trees → IsTrue new.is_open
 
 -- of tables that are the newest, a crash leaves no other trees than it could leave before

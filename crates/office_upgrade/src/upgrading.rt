@@ -11,10 +11,9 @@ ghost use Rattle.office_contents.specs.Calls.{CommitsNothing, ContinuesInTurn};
 ghost use Rattle.office_tables.specs.Opening.{ShowsVersion, has_office, HasVersion, NotAnOffice, HasSameTables};
 ghost use Rattle.office_contents.specs.declared.fault.TableFault.TheVariants as fault;
 ghost use Rattle.office_tables.specs.Moving.{AllRows, BecomesAt, renewed};
-ghost use Rattle.office_contents.specs.Versions.{version_number};
+ghost use Rattle.office_contents.specs.Versions.{Newest, version_number};
 ghost use Rattle.office_upgrade.specs.Upgrading.{IsOfficeOf, IsOlder, IsUpgrade, IsRenewed, IsLeftAt, HasUnknownVersion, TellsVersion};
 ghost use Rattle.office_contents.specs.declared.version.TableVersion.{TableVersion as Version};
-ghost use Rattle.office_contents.specs.declared.version.TableVersion.TheVariants.{Fifth};
 
 use office_tables::{TableFault, has_office, move_holds, renew_fourth, version_told};
 use sqlite::{Alter, Connection, Transaction};
@@ -28,10 +27,10 @@ fn renew<S: Alter>(tx: &mut Transaction<'_, S>, version: i64) -> Result<bool, Ta
         → OnOk result
         ((known : Version) (rows : AllRows) → version ≡ version_number known
         → BecomesAt known (state S.Store tx.old.conn.now).now rows
-        → BecomesAt Fifth (state S.Store tx.new.conn.now).now (renewed known rows)) }
+        → BecomesAt Newest (state S.Store tx.new.conn.now).now (renewed known rows)) }
     ensures known { OnOk result ((known : Version) × (version ≡ version_number known)) }
-    ensures newest { result ≡ Ok false → (version ≡ version_number Fifth) × (tx.new ≡ tx.old) }
-    ensures older { result ≡ Ok true → version ≢ version_number Fifth }
+    ensures newest { result ≡ Ok false → (version ≡ version_number Newest) × (tx.new ≡ tx.old) }
+    ensures older { result ≡ Ok true → version ≢ version_number Newest }
     ensures is_office { result ≢ Err fault.NotAnOffice }
     ensures other { result ≡ Err fault.OtherVersion → (known : Version)
         → version ≢ version_number known }
@@ -69,7 +68,7 @@ fn take_over<S: Alter>(tx: &mut Transaction<'_, S>) -> Result<bool, TableFault>
     ensures was_older { HasCleanDisk (state S.Store tx.new.conn.now) → result ≡ Ok true
         → IsOlder (state S.Store tx.old.conn.now).now }
     ensures newest { HasCleanDisk (state S.Store tx.new.conn.now) → result ≡ Ok false
-        → HasVersion (state S.Store tx.old.conn.now).now (version_number Fifth) }
+        → HasVersion (state S.Store tx.old.conn.now).now (version_number Newest) }
     ensures known { HasCleanDisk (state S.Store tx.new.conn.now)
         → OnOk result
         ((known : Version)
@@ -106,7 +105,7 @@ pub fn upgrade<S: Alter>(conn: &mut Connection<S>) -> Result<(), TableFault>
         ((version : Version) (rows : AllRows) → IsOfficeOf version (state S.Store conn.old).now rows
         → (state S.Store conn.old).committed ≡ (state S.Store conn.old).now
         → IsTrue (state S.Store conn.new).is_open
-        → BecomesAt Fifth (state S.Store conn.new).now (renewed version rows)
+        → BecomesAt Newest (state S.Store conn.new).now (renewed version rows)
         × ((state S.Store conn.new).committed ≡ (state S.Store conn.new).now)) }
     // And a crash leaves that alone.
     ensures durable { HasCleanDisk (state S.Store conn.new)
@@ -114,13 +113,13 @@ pub fn upgrade<S: Alter>(conn: &mut Connection<S>) -> Result<(), TableFault>
         ((version : Version) (rows : AllRows) → IsOfficeOf version (state S.Store conn.old).now rows
         → (state S.Store conn.old).committed ≡ (state S.Store conn.old).now
         → IsTrue (state S.Store conn.old).is_open → (left : Trees)
-        → (state S.Store conn.new).may_leave left → IsLeftAt Fifth (renewed version rows) left) }
+        → (state S.Store conn.new).may_leave left → IsLeftAt Newest (renewed version rows) left) }
     ensures was_open { HasCleanDisk (state S.Store conn.new)
         → OnOk result (IsTrue (state S.Store conn.old).is_open) }
     // The store is open, unless the newest version was found.
     ensures is_open { HasCleanDisk (state S.Store conn.new)
         → OnOk result
-        (HasVersion (state S.Store conn.old).now (version_number Fifth)
+        (HasVersion (state S.Store conn.old).now (version_number Newest)
         ⊎ IsTrue (state S.Store conn.new).is_open) }
     // Tables that show no older version stay as they are, those that are the newest among them.
     ensures kept { HasCleanDisk (state S.Store conn.new)

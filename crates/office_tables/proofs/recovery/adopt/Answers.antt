@@ -1,4 +1,4 @@
-use Rattle.office_tables.proofs.Common.{◌≡◌, ap, subst, None, Err, version_of, this_version, IsKnownAsOther, Fifth, state}
+use Rattle.office_tables.proofs.Common.{◌≡◌, ap, subst, None, Err, version_of, this_version, IsKnownAsOther, Newest, state}
 use Rattle.office_tables.proofs.FoundAgain.{goes_on, is_known, fails_only}
 use Rattle.office_tables.proofs.recovery.adopt.Goals as goal
 
@@ -18,6 +18,6 @@ returns-in-Err-clause-failure g c clean is_open tables left version =
     let it = is_known tables before c.schema-schema.ensures.live is_open left in
     let said = c.in-Err.ensures in
     fails_only c.in-Err.stopped tables
-    (λ e. subst (λ t. version_of t ≡ None) it.1 (said.unknown clean Fifth it.0 (ap Err e)))
-    (λ e. subst (λ t. IsKnownAsOther t this_version) it.1 (said.known_as_other clean Fifth it.0 (ap Err e)))
+    (λ e. subst (λ t. version_of t ≡ None) it.1 (said.unknown clean Newest it.0 (ap Err e)))
+    (λ e. subst (λ t. IsKnownAsOther t this_version) it.1 (said.known_as_other clean Newest it.0 (ap Err e)))
     version

@@ -1,4 +1,4 @@
-use Rattle.office_upgrade.proofs.Common.{rules, ◌≡◌, ◌⊎◌, IsTrue, Ok, Err, true, false, refl, subst, sym, ◌∙◌, inl, inr, state, HasCleanDisk, HasVersion, version_number, Fifth, is_there}
+use Rattle.office_upgrade.proofs.Common.{rules, ◌≡◌, ◌⊎◌, IsTrue, Ok, Err, true, false, refl, subst, sym, ◌∙◌, inl, inr, state, HasCleanDisk, HasVersion, version_number, Newest, is_there}
 use Rattle.office_contents.specs.declared.fault.TableFault.TheVariants as fault
 use Rattle.office_upgrade.proofs.Ending.{Lasts, clean_before, commits, fails_only, lasts, lasts_back, taken_from}
 use Rattle.office_upgrade.proofs.upgrading.upgrade.Goals as goal
@@ -41,7 +41,7 @@ returns-in-Ok-clause-is_open g c =
     let first = c.args.conn.now in
     let end = c.commit.new.self.0 in
     let same : end ≡ c.conn-1.given.0 = search rules in
-    subst (λ x. HasCleanDisk (state g.S.Store x) → HasVersion (state g.S.Store first).now (version_number Fifth) ⊎ IsTrue (state g.S.Store x).is_open) same
+    subst (λ x. HasCleanDisk (state g.S.Store x) → HasVersion (state g.S.Store first).now (version_number Newest) ⊎ IsTrue (state g.S.Store x).is_open) same
     (λ late. inr (c.in-Ok.ensures.ok late).1.is_open)
 
 pub returns-in-Ok-false-clause-is_open : goal.returns-in-Ok-false-clause-is_open
