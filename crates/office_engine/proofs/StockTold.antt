@@ -1,15 +1,14 @@
 -- The contents that are held, and how many they are with how many bytes, by the contents of the files.
-use Rattle.office_engine.proofs.Common.{◌≡◌, nat_le, ℕ, ℤ, pos, List, [], ◌∷◌, ◌++◌, map, length, bytes_eq, sum, Some, refl, sym, ap, ap₂, subst, ◌∙◌, inl, inr, IsDistinct, flat_map, map-append, length-map, FileRow, ContentRow, Tables, Database, File, tables_of, contents_of, AreContents, History, kept_numbers, file_row, answer_if, same_Some, Pictures, map-map, IsPermutation, length_permutation, sum_by-IsPermutation, Has}
+use Rattle.office_engine.proofs.Common.{◌≡◌, nat_le, ℕ, ℤ, pos, List, [], ◌∷◌, ◌++◌, map, length, bytes_eq, sum, Some, Option, Bool, true, ◌≤◌, ◌>>=◌, rules, refl, sym, ap, ap₂, subst, ◌∙◌, inl, inr, IsDistinct, flat_map, map-append, length-map, FileRow, ContentRow, Tables, Database, File, tables_of, contents_of, AreContents, History, kept_numbers, file_row, answer_if, same_Some, Pictures, map-map, IsPermutation, length_permutation, sum_by-IsPermutation, Has}
 use Rattle.office_history.specs.Stocks.{contents, Stock, stock, files_of}
-use Rattle.office_rows.proofs.Order.{map_back}
 use Rattle.office_core.proofs.OptionLemmas.{some_and_then, some_if}
-use Rattle.office_by_rows.specs.Stock.{max_total, stock_by, stock_in, total_by}
+use Rattle.office_by_rows.specs.Stock.{max_total, stock_by}
 use Rattle.office_by_rows.specs.Values.{all_told, count_of}
 use Rattle.std.proofs.lemmas.List.Sums.{sum-map}
 use Rattle.bag_text.proofs.ElementLemmas as texts
 use Rattle.office_history.specs.Lists.{in_first_places}
 use Rattle.office_history.proofs.MemberLemmas.{first_places_once, first_places_have, has_in_places}
-use Rattle.office_queries.proofs.Totals.{counts_are}
+use Rattle.office_queries.proofs.Totals.{counts_told}
 use Rattle.office_engine.proofs.SameOnce.{same_once}
 
 to_texts : {X : Type 0} (xs : List X) (x : X) → Has xs x → texts.Has xs x
@@ -46,24 +45,6 @@ module _ {A F : Type 0} where
       each [] = refl
       each (x ∷ xs) = rw (same n x) (ap (λ more. own x ∷ more) (each xs))
 
--- sizes that are these numbers are the lengths that they are told to be
-same_sizes : (parts lens : List ℕ) → map pos parts ≡ map pos lens → sum parts ≡ sum lens
-same_sizes parts lens e = ap sum (map_back pos (λ m n is. cc) parts lens e)
-
--- ---- what the sizes of contents come to
-
-total_of_counts : (sizes : List ℤ) (total : ℕ) → total_by sizes ≡ Some total → (parts : List ℕ) × (sizes ≡ map pos parts) × (total ≡ sum parts)
-total_of_counts sizes total e =
-    let told = some_and_then (all_told count_of sizes) (λ parts. answer_if (nat_le (sum parts) max_total) (sum parts)) total e in
-    (told.0, counts_are sizes told.0 told.1, sym (same_Some _ _ (some_if (nat_le (sum told.0) max_total) (Some (sum told.0)) total told.2).1))
-
--- the stock that contents of these sizes are has their number, and their sum
-stock_parts : (sizes : List ℤ) (found : Stock) → stock_in sizes ≡ Some found → (parts : List ℕ) × (sizes ≡ map pos parts) × (found ≡ record { contents = length sizes; bytes = sum parts })
-stock_parts sizes found e =
-    let told = some_and_then (total_by sizes) (λ bytes. Some (record { contents = length sizes; bytes = bytes })) found e in
-    let parts = total_of_counts sizes told.0 told.1 in
-    (parts.0, parts.1, sym (same_Some _ _ told.2) ∙ (λ i. record { contents = length sizes; bytes = parts.2 i }))
-
 -- ---- what a pictured database holds
 
 abbrev bytes_of : ContentRow → List ℕ
@@ -86,18 +67,32 @@ module _ (h : History) (db : Database) (pictured : Pictures h db) (are : AreCont
   pub contents_held : IsPermutation (contents h) (map bytes_of (contents_of db))
   contents_held = held_once (texts_of h) (map bytes_of (contents_of db)) held.once held.held held.used
 
+  abbrev held_bytes : List (List ℕ)
+  held_bytes = map bytes_of (contents_of db)
+
+  equal : (length held_bytes ≡ length (contents h)) × (sum (map length held_bytes) ≡ sum (map length (contents h)))
+  equal = same_stock (texts_of h) held_bytes contents_held
+
+  counted : length (map (λ (c : ContentRow). c.size) (contents_of db)) ≡ length (contents h)
+  counted = length-map (contents_of db) (λ (c : ContentRow). c.size) ∙ sym (length-map (contents_of db) bytes_of) ∙ equal.0
+
+  -- the stock of so many bytes, if a count of 64 bits tells them
+  abbrev of_bytes : ℕ → Bool → Option Stock
+  of_bytes bytes fits = answer_if fits bytes >>= λ bytes. Some (record { contents = length (contents h); bytes = bytes })
+
+  told : stock_by (contents_of db) ≡ of_bytes (stock h).bytes (nat_le (stock h).bytes max_total)
+  told =
+      let sizes = ap (all_told count_of) (held.sizes ∙ sym (map-map pos length held_bytes)) ∙ counts_told (map length held_bytes) in
+      (λ i. (sizes i >>= λ parts. answer_if (nat_le (sum parts) max_total) (sum parts)) >>= λ bytes. Some (record { contents = counted i; bytes = bytes }))
+      ∙ ap (λ bytes. of_bytes bytes (nat_le bytes max_total)) equal.1
+
   -- so the stock that they are is the history's
   pub stock_is : (found : Stock) → stock_by (contents_of db) ≡ Some found → found ≡ stock h
-  stock_is found e = let parts = stock_parts (map (λ (c : ContentRow). c.size) (contents_of db)) found e in parts.2 ∙ (λ i. record { contents = counted i; bytes = totalled parts.0 parts.1 i })
-    where
-      equal : (length (map bytes_of (contents_of db)) ≡ length (contents h)) × (sum (map length (map bytes_of (contents_of db))) ≡ sum (map length (contents h)))
-      equal = same_stock (texts_of h) (map bytes_of (contents_of db)) contents_held
+  stock_is found e =
+      let bytes = some_and_then (answer_if (nat_le (stock h).bytes max_total) (stock h).bytes) (λ bytes. Some (record { contents = length (contents h); bytes = bytes })) found (sym told ∙ e) in
+      let same : (stock h).bytes ≡ bytes.0 = same_Some _ _ (some_if (nat_le (stock h).bytes max_total) (Some (stock h).bytes) bytes.0 bytes.1).1 in
+      sym (same_Some _ _ bytes.2) ∙ (λ i. record { contents = length (contents h); bytes = sym same i })
 
-      counted : length (map (λ (c : ContentRow). c.size) (contents_of db)) ≡ length (contents h)
-      counted = length-map (contents_of db) (λ (c : ContentRow). c.size) ∙ sym (length-map (contents_of db) bytes_of) ∙ equal.0
-
-      lengths : map (λ (c : ContentRow). c.size) (contents_of db) ≡ map pos (map length (map bytes_of (contents_of db)))
-      lengths = held.sizes ∙ sym (map-map pos length (map bytes_of (contents_of db)))
-
-      totalled : (parts : List ℕ) → map (λ (c : ContentRow). c.size) (contents_of db) ≡ map pos parts → sum parts ≡ sum (map length (contents h))
-      totalled parts are = same_sizes parts (map length (map bytes_of (contents_of db))) (sym are ∙ lengths) ∙ equal.1
+  -- and they tell it, if its bytes are few enough
+  pub stock_told : (stock h).bytes ≤ max_total → stock_by (contents_of db) ≡ Some (stock h)
+  stock_told fits = let low : nat_le (stock h).bytes max_total ≡ true = search (rules, fits) in told ∙ ap (of_bytes (stock h).bytes) low

@@ -1,6 +1,6 @@
 //! Laws of the office: those of its histories, and what its tables tell of them.
 
-ghost use Rattle.std.specs.Prelude.{◌≡◌, ◌↔◌, ◌++◌, ℕ, IsTrue, List, [], ◌∷◌, Some, map, pos};
+ghost use Rattle.std.specs.Prelude.{◌≡◌, ◌↔◌, ◌≤◌, ◌++◌, ℕ, IsTrue, List, [], ◌∷◌, Some, map, pos};
 ghost use Rattle.std.specs.List.{AllByRecursion};
 ghost use Rattle.std.specs.List.Sorted.{IsPermutation};
 ghost use Rattle.jiff.specs.Types.{Date};
@@ -20,12 +20,12 @@ ghost use Rattle.office_contents.specs.Versions.{Newest};
 ghost use Rattle.office_history.specs.Histories.{History};
 ghost use Rattle.office_history.specs.Answers.{after, answer};
 ghost use Rattle.office_history.specs.Pictures.{due_rows, picture};
-ghost use Rattle.office_history.specs.Stocks.{Stock, contents};
+ghost use Rattle.office_history.specs.Stocks.{Stock, contents, stock};
 ghost use Rattle.office_history.specs.RowRanges.{AreInRange};
 ghost use Rattle.office_history.specs.Runs.{IsFailure, IsLater, IsLegal, Item, Run, new_history};
 ghost use Rattle.office_by_rows.specs.Answers.{due_list};
 ghost use Rattle.office_by_rows.specs.Asking.{Visit};
-ghost use Rattle.office_by_rows.specs.Stock.{stock_by};
+ghost use Rattle.office_by_rows.specs.Stock.{max_total, stock_by};
 ghost use Rattle.office_access.specs.Contents.{Rows, rows_of};
 ghost use Rattle.office_access.specs.Pictures.{Pictures};
 ghost use Rattle.office_access.specs.Serving.{rows_after, serve_rows};
@@ -114,6 +114,15 @@ pub fn no_legal_content_is_taken_for_an_altered_one()
 {
     requests_are_exact();
     files_have_their_contents();
+}
+
+/// A legal office takes none of its own sizes for an altered one: its contents tell the stock of the history, if a count of
+/// 64 bits tells the bytes of it.
+pub fn no_legal_stock_is_taken_for_an_altered_one()
+    ensures { (db : Database) (h : History) → Pictures h db → (stock h).bytes ≤ max_total
+        → stock_by (contents_of db) ≡ Some (stock h) }
+{
+    contents_are_those_of_files();
 }
 
 /// Whatever rows and contents an office has, the bytes of each file that it serves are those of the file's content row,
