@@ -142,8 +142,8 @@ impl<S: Alter> Office<S> {
         }
     }
 
-    /// Takes a connection that shows an office whose tables are of version 3, 4 or 5, and makes them those of version 5, in one
-    /// transaction with one commit. Tables of version 5 stay as they are.
+    /// Takes a connection that shows an office whose tables are of a known version, and makes them those of the newest, in
+    /// one transaction with one commit. Tables of the newest version stay as they are.
     ///
     /// Fails with `NotAnOffice` and `OtherVersion` as the tables tell, and with `Memory` or `Store`. The connection is handed
     /// back, its tables as they were.
