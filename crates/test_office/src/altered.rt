@@ -6,7 +6,7 @@ use crate::parts::Part;
 
 /// Deposit 1 may be destroyed from 2025-02-28 on, of deposit 2 the rules deny it to `anna`, deposit 3
 /// is held by hold 1, deposit 4 was destroyed. Hold 2 is on a collection, hold 3 was released.
-pub static PREPARED: [Part; 2] = [
+pub(crate) static PREPARED: [Part; 2] = [
     ("office", "1000000"),
     (
         "asks",
@@ -27,7 +27,7 @@ pub static PREPARED: [Part; 2] = [
 ];
 
 /// Nothing is altered that is asked for.
-pub static AS_BEFORE: [Part; 2] = [
+pub(crate) static AS_BEFORE: [Part; 2] = [
     ("alters", "UPDATE office SET max_holds = 999999"),
     (
         "asks",
@@ -59,7 +59,7 @@ pub static AS_BEFORE: [Part; 2] = [
 /// audit reports on whatever is there. A deposit is downloaded before it is audited, in the first case also after
 /// it. The store takes out no content that a file has, and puts no file that has none. Content 1 is the
 /// declaration, content 2 is `abc`; all deposits share both.
-pub static FILES: [Part; 14] = [
+pub(crate) static FILES: [Part; 14] = [
     (
         "",
         "UPDATE content SET bytes = x'616264' WHERE id = 2\n\
@@ -222,7 +222,7 @@ pub static FILES: [Part; 14] = [
 
 /// The years of the class of deposits 1 and 4 are none. A new deposit has its due day by them; a record,
 /// a disposal and the due list rest on the due day that is kept.
-pub static CLASSES: [Part; 4] = [
+pub(crate) static CLASSES: [Part; 4] = [
     (
         "",
         "UPDATE class SET years = 300 WHERE name = 'y1'\n\
@@ -284,7 +284,7 @@ pub static CLASSES: [Part; 4] = [
 /// deposit whose records were closed after it; counts and an accession that no deposit has. Day 2859849
 /// would be 9800-01-01 and day -25568 1899-12-31; day 19782 is 2024-02-29, 19783 the next, 20147
 /// 2025-02-28. A bag has up to 2,000 files, of up to 16,777,216 bytes each.
-pub static DEPOSITS: [Part; 12] = [
+pub(crate) static DEPOSITS: [Part; 12] = [
     (
         "",
         "UPDATE deposit SET closed = 2859849 WHERE number = 1\n\
@@ -418,7 +418,7 @@ pub static DEPOSITS: [Part; 12] = [
 /// day: where a hold is counted and none is found, a disposal is answered by `Store`. A hold of a deposit, and
 /// its release, rest on the count that they change; one of a collection fails where a count would leave 64 bits.
 /// Day 20512 is 2026-02-28, and day 2932897 would be 10000-01-01.
-pub static DUES: [Part; 9] = [
+pub(crate) static DUES: [Part; 9] = [
     (
         "",
         "UPDATE deposit SET due = 20512 WHERE number = 1\n\
@@ -536,7 +536,7 @@ const BESIDE_NO_UTF_8: &str = "list > Store\n\
 /// day and on its last, and on none where these are in no order: day 21914 is 2029-12-31, day 21915 the next.
 /// The last parts give the third rule, and then the first, a text that isn't UTF-8: lists and due lists fail,
 /// whoever asks, and what else is asked is decided by the other rules.
-pub static RULES: [Part; 24] = [
+pub(crate) static RULES: [Part; 24] = [
     (
         "",
         "UPDATE rule_5 SET effect = 2 WHERE place = 2\n\
@@ -749,7 +749,7 @@ pub static RULES: [Part; 24] = [
 /// none. The row of a hold that refuses a disposal is read, too; of the others that cover the deposit
 /// only the day of release is, and a hold that names nothing covers none. The due list reads no hold:
 /// holds are counted with the deposits.
-pub static HOLDS: [Part; 15] = [
+pub(crate) static HOLDS: [Part; 15] = [
     (
         "",
         "UPDATE hold_4 SET deposit = NULL WHERE number = 1\n\
@@ -920,7 +920,7 @@ pub static HOLDS: [Part; 15] = [
 /// A bag is served as deposited beside altered ones: the other deposit has the same files, and a
 /// content is reused only where its bytes and its mark are the same. The stock is what the sizes of the
 /// contents tell, where they are sizes. A deposit is taken in beside a hold that names two things.
-pub static BESIDE: [&[Part]; 5] = [
+pub(crate) static BESIDE: [&[Part]; 5] = [
     &[
         ("office", "1000000"),
         (
@@ -1050,7 +1050,7 @@ pub static BESIDE: [&[Part]; 5] = [
 
 /// What a look at the tables after a request finds: each of what is kept beside the rows, where it is
 /// another.
-pub static FOUND: [Part; 21] = [
+pub(crate) static FOUND: [Part; 21] = [
     ("office", "1000000"),
     (
         "asks",
@@ -1096,7 +1096,7 @@ pub static FOUND: [Part; 21] = [
 
 /// Which databases are taken for an office: none that is empty, has no row of an office, has one of
 /// another version, or limits that no office has. Nothing is lost of what the office held.
-pub static OPENINGS: [Part; 13] = [
+pub(crate) static OPENINGS: [Part; 13] = [
     ("refused", "Q1"),
     ("office", "1000000"),
     (

@@ -13,13 +13,13 @@ fn alter<S: Alter>(alloc: Global, conn: &mut Connection<S>, sql: &str) -> Option
 }
 
 /// Runs SQL that makes tables: no text, or `None` where it fails.
-pub fn make<S: Alter>(alloc: Global, conn: &mut Connection<S>, sql: &str) -> Option<String> {
+pub(crate) fn make<S: Alter>(alloc: Global, conn: &mut Connection<S>, sql: &str) -> Option<String> {
     conn.execute_batch(sql).ok()?;
     Some(String::new(alloc))
 }
 
 /// Alters rows permanently: no text, but where none is altered.
-pub fn alter_for_good<S: Alter>(
+pub(crate) fn alter_for_good<S: Alter>(
     alloc: Global,
     conn: &mut Connection<S>,
     sql: &str,
@@ -34,7 +34,7 @@ pub fn alter_for_good<S: Alter>(
 /// Alters rows, asks of the office, and takes the alteration back: SQL that alters, SQL that takes it
 /// back, and rows, each of which changes nothing. The connection is handed back, with what is answered
 /// otherwise, with the code of the fault where it isn't taken for an office, or with no text.
-pub fn case<S: Alter + Drop>(
+pub(crate) fn case<S: Alter + Drop>(
     alloc: Global,
     conn: Connection<S>,
     text: &'static str,

@@ -16,7 +16,7 @@ fn body(alloc: Global, answer: &Answer) -> Option<String> {
 
 /// Puts the rows to the office one after the other: the first whose answer has another body, with that body, or no
 /// text.
-pub fn put_for_bodies<O: AnyOffice>(
+pub(crate) fn put_for_bodies<O: AnyOffice>(
     alloc: Global,
     office: &mut O,
     text: &'static str,
@@ -34,7 +34,7 @@ pub fn put_for_bodies<O: AnyOffice>(
 }
 
 /// Holds, contents, lists, due lists, and files that were altered.
-pub static BODIES: [&[Part]; 8] = [
+pub(crate) static BODIES: [&[Part]; 8] = [
     // A hold of a collection covers what comes later.
     &[
         ("office", "1000000"),

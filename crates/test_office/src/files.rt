@@ -8,7 +8,7 @@ use std::alloc::Global;
 use test_sessions::SMALL_CACHES;
 
 /// What is told of files that can't be closed.
-pub const NOT_CLOSED: &str = "not closed";
+pub(crate) const NOT_CLOSED: &str = "not closed";
 
 /// Says that the files are not opened, or not closed.
 fn says(alloc: Global, told: &str) -> Option<String> {
@@ -28,7 +28,7 @@ fn close_files<D: Disk + Drop>(
 
 /// Opens the files with small caches, takes the part and closes the files, which are handed back, with
 /// what is answered otherwise, or no text. After another answer the log isn't copied into the database file.
-pub fn take_once<D: Disk + Drop>(
+pub(crate) fn take_once<D: Disk + Drop>(
     alloc: Global,
     files: Files<D>,
     way: Way,

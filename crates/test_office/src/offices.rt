@@ -16,7 +16,7 @@ use test_sessions::{
 
 /// How rows are put to an office.
 #[derive(Clone, Copy)]
-pub enum Way {
+pub(crate) enum Way {
     /// One after the other.
     Steps,
     /// All in one run.
@@ -24,25 +24,29 @@ pub enum Way {
 }
 
 /// Room for this number of deposits and as many holds.
-pub fn limits(most: &str) -> Option<Limits> {
+pub(crate) fn limits(most: &str) -> Option<Limits> {
     let most = most.parse().ok()?;
     Limits::new(most, most)
 }
 
 /// Gives the office the policy, the classes and the collections of `test_sessions`.
-pub fn equip<O: AnyOffice>(alloc: Global, office: &mut O) -> Option<String> {
+pub(crate) fn equip<O: AnyOffice>(alloc: Global, office: &mut O) -> Option<String> {
     let differs = open(alloc, office).ok()?;
     Some(differs.unwrap_or(String::new(alloc)))
 }
 
 /// Installs the policy of that name, in the place of the one before.
-pub fn install_named<O: AnyOffice>(alloc: Global, office: &mut O, name: &str) -> Option<String> {
+pub(crate) fn install_named<O: AnyOffice>(
+    alloc: Global,
+    office: &mut O,
+    name: &str,
+) -> Option<String> {
     install(alloc, office, policy_named(name)?).ok()?;
     Some(String::new(alloc))
 }
 
 /// Puts the rows to the office.
-pub fn put<O: AnyOffice>(
+pub(crate) fn put<O: AnyOffice>(
     alloc: Global,
     office: &mut O,
     way: Way,
@@ -124,7 +128,7 @@ fn ask_and_call<S: Alter>(alloc: Global, office: &mut Office<S>, row: &Row) -> O
 }
 
 /// The code of the fault.
-pub fn code(alloc: Global, fault: TableFault) -> Option<String> {
+pub(crate) fn code(alloc: Global, fault: TableFault) -> Option<String> {
     format!(in alloc; "{fault}").ok()
 }
 
@@ -151,7 +155,7 @@ fn behind(alloc: Global, at: usize, told: Option<String>) -> Option<String> {
 
 /// Makes an office in the database, and gives it the policy, the classes and the collections. The
 /// connection is handed back.
-pub fn create_and_equip<S: Alter + Drop>(
+pub(crate) fn create_and_equip<S: Alter + Drop>(
     alloc: Global,
     conn: Connection<S>,
     most: &str,
@@ -243,7 +247,7 @@ fn put_in_run<S: Alter + Drop>(
 
 /// Adopts the connection as an office and puts the rows to it. After each row, or after the run of all, what
 /// the tables keep beside their rows is compared with what the rows give. The connection is handed back.
-pub fn put_and_look<S: Alter + Drop>(
+pub(crate) fn put_and_look<S: Alter + Drop>(
     alloc: Global,
     conn: Connection<S>,
     way: Way,
@@ -256,7 +260,11 @@ pub fn put_and_look<S: Alter + Drop>(
 }
 
 /// How much the office keeps, where it isn't this, or no text.
-pub fn other_stock<O: AnyOffice>(alloc: Global, office: &mut O, wanted: &str) -> Option<String> {
+pub(crate) fn other_stock<O: AnyOffice>(
+    alloc: Global,
+    office: &mut O,
+    wanted: &str,
+) -> Option<String> {
     let told = match office.stock(alloc) {
         Ok(found) => {
             let contents = found.contents;
@@ -273,7 +281,7 @@ pub fn other_stock<O: AnyOffice>(alloc: Global, office: &mut O, wanted: &str) ->
 
 /// Adopts the connection as an office and looks at its tables. The connection is handed back, with what is found
 /// there otherwise than the rows give, or no text.
-pub fn adopt_and_look<S: Alter + Drop>(
+pub(crate) fn adopt_and_look<S: Alter + Drop>(
     alloc: Global,
     conn: Connection<S>,
 ) -> (Option<String>, Connection<S>) {
@@ -285,7 +293,7 @@ pub fn adopt_and_look<S: Alter + Drop>(
 
 /// Makes the tables of an office of an older version those of this one, and looks at them. The connection is handed
 /// back: with the code of the fault, where it isn't taken for an office.
-pub fn upgrade_and_look<S: Alter + Drop>(
+pub(crate) fn upgrade_and_look<S: Alter + Drop>(
     alloc: Global,
     conn: Connection<S>,
 ) -> (Option<String>, Connection<S>) {
@@ -300,7 +308,7 @@ pub fn upgrade_and_look<S: Alter + Drop>(
 
 /// Adopts the connection as an office, installs the policy of that name, and looks at the tables. The connection
 /// is handed back.
-pub fn adopt_and_install<S: Alter + Drop>(
+pub(crate) fn adopt_and_install<S: Alter + Drop>(
     alloc: Global,
     conn: Connection<S>,
     name: &str,
@@ -315,7 +323,7 @@ pub fn adopt_and_install<S: Alter + Drop>(
 }
 
 /// Adopts the connection as an office and compares the bodies of its answers. The connection is handed back.
-pub fn adopt_and_compare<S: Alter + Drop>(
+pub(crate) fn adopt_and_compare<S: Alter + Drop>(
     alloc: Global,
     conn: Connection<S>,
     text: &'static str,
@@ -330,7 +338,7 @@ pub fn adopt_and_compare<S: Alter + Drop>(
 }
 
 /// Adopts the connection as an office and asks for its stock. The connection is handed back.
-pub fn ask_stock<S: Alter + Drop>(
+pub(crate) fn ask_stock<S: Alter + Drop>(
     alloc: Global,
     conn: Connection<S>,
     wanted: &str,
@@ -346,7 +354,7 @@ pub fn ask_stock<S: Alter + Drop>(
 
 /// Adopts the connection as an office and puts the rows to it. The connection is handed back: with the
 /// code of the fault, where it isn't taken for an office.
-pub fn adopt_and_put<S: Alter + Drop>(
+pub(crate) fn adopt_and_put<S: Alter + Drop>(
     alloc: Global,
     conn: Connection<S>,
     way: Way,

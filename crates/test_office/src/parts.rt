@@ -28,7 +28,7 @@ use std::test::Fail;
 /// | `alters` | SQL that alters rows of the office |
 /// | `refused` | the code of the fault where the database is not taken for an office |
 /// | another | SQL that alters rows, SQL that takes it back, and the rows that are asked in between, or none; the kind is what is told of them: the code of a fault, or no text |
-pub type Part = (&'static str, &'static str);
+pub(crate) type Part = (&'static str, &'static str);
 
 /// No text where the texts are the same, else the first.
 fn but_for(alloc: Global, text: Option<String>, wanted: &str) -> Option<String> {
@@ -41,7 +41,7 @@ fn but_for(alloc: Global, text: Option<String>, wanted: &str) -> Option<String> 
 
 /// Takes the part over the connection, which is handed back, with what is answered otherwise, or no
 /// text.
-pub fn take_part<S: Alter + Drop>(
+pub(crate) fn take_part<S: Alter + Drop>(
     alloc: Global,
     conn: Connection<S>,
     way: Way,
@@ -87,7 +87,7 @@ pub fn take_part<S: Alter + Drop>(
 }
 
 /// Fails where something was answered otherwise.
-pub fn agree(differs: Option<String>) -> Result<(), Fail> {
+pub(crate) fn agree(differs: Option<String>) -> Result<(), Fail> {
     match differs {
         None => Err(Fail::new("no answer")),
         Some(text) if text.is_empty() => Ok(()),

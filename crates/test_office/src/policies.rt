@@ -15,7 +15,7 @@ const TAX_IN_JANUARY: &str =
     "version = 2\n\n[callers]\nanna = \"archivist\"\ncarl = \"clerk\"\n\n[[rule]]\neffect = \"allow\"\nrole = \"archivist\"\naction = \"dispose\"\ncollection = \"tax\"\nclass = \"*\"\nfirst = \"2031-01-01\"\nlast = \"2031-01-31\"\n\n[[rule]]\neffect = \"deny\"\nrole = \"archivist\"\naction = \"dispose\"\ncollection = \"tax\"\nclass = \"*\"\n\n[[rule]]\neffect = \"allow\"\nrole = \"archivist\"\naction = \"*\"\ncollection = \"*\"\nclass = \"*\"\n\n[[rule]]\neffect = \"allow\"\nrole = \"clerk\"\naction = \"list\"\ncollection = \"*\"\nclass = \"*\"\nfirst = \"2031-01-01\"\n";
 
 /// The text of the policy of that name.
-pub fn policy_named(name: &str) -> Option<&'static str> {
+pub(crate) fn policy_named(name: &str) -> Option<&'static str> {
     match name {
         "nothing of tax is destroyed in 2024" => Some(POLICY_WITH_DAYS),
         "y1 stays as it is held" => Some(Y1_AS_IT_IS_HELD),

@@ -85,7 +85,7 @@ fn question_of(words: &[&'static str]) -> Option<TestRequest> {
 /// The rows of a text: lines that say what is asked and what is told, as `record 9 > NoSuch deposit`,
 /// after a line with the day and who asks. Those before any such line are asked by `anna` on
 /// 2030-01-01.
-pub fn rows(alloc: Global, text: &'static str) -> Option<Vec<Row>> {
+pub(crate) fn rows(alloc: Global, text: &'static str) -> Option<Vec<Row>> {
     let mut rows = Vec::new(alloc);
     let mut when = ("2030-01-01", "anna");
     for line in text.lines() {

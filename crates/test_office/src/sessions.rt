@@ -3,7 +3,7 @@
 use crate::parts::Part;
 
 /// What rules, holds and dates decide.
-pub static DECIDING: [&[Part]; 12] = [
+pub(crate) static DECIDING: [&[Part]; 12] = [
     // A file is served at its own path alone.
     &[
         ("office", "1000000"),
@@ -324,7 +324,7 @@ pub static DECIDING: [&[Part]; 12] = [
 ];
 
 /// What is deposited, kept and listed.
-pub static KEEPING: [&[Part]; 6] = [
+pub(crate) static KEEPING: [&[Part]; 6] = [
     // A deposit is destroyed from its due day on.
     &[
         ("office", "1000000"),
@@ -426,7 +426,7 @@ pub static KEEPING: [&[Part]; 6] = [
 ];
 
 /// A content counts once, and while it is kept.
-pub static CONTENTS: [&[Part]; 3] = [
+pub(crate) static CONTENTS: [&[Part]; 3] = [
     // Two bags have two of their files alike.
     &[
         ("office", "1000000"),

@@ -40,7 +40,7 @@ fn in_plain(alloc: Global, way: Way, parts: &[Part]) -> Result<(), Fail> {
 }
 
 /// Takes the parts over a database in memory.
-pub fn in_memory(alloc: Global, way: Way, parts: &[Part]) -> Result<(), Fail> {
+pub(crate) fn in_memory(alloc: Global, way: Way, parts: &[Part]) -> Result<(), Fail> {
     let mut conn = Connection::open_in_memory(alloc)?;
     for part in parts {
         let (differs, left) = take_part(alloc, conn, way, *part);
@@ -51,12 +51,17 @@ pub fn in_memory(alloc: Global, way: Way, parts: &[Part]) -> Result<(), Fail> {
 }
 
 /// Takes the part over the files, which are handed back, with what is answered otherwise, or no text.
-pub fn take_over(alloc: Global, files: Disks, way: Way, part: Part) -> (Option<String>, Disks) {
+pub(crate) fn take_over(
+    alloc: Global,
+    files: Disks,
+    way: Way,
+    part: Part,
+) -> (Option<String>, Disks) {
     take_once(alloc, files, way, part)
 }
 
 /// Takes the parts over new files, which are closed and opened again between them.
-pub fn in_files(alloc: Global, way: Way, parts: &[Part]) -> Result<Disks, Fail> {
+pub(crate) fn in_files(alloc: Global, way: Way, parts: &[Part]) -> Result<Disks, Fail> {
     let mut files = empty(alloc, MANY, MANY);
     for part in parts {
         let (differs, left) = take_over(alloc, files, way, *part);
@@ -67,7 +72,7 @@ pub fn in_files(alloc: Global, way: Way, parts: &[Part]) -> Result<Disks, Fail> 
 }
 
 /// Takes each session over new files and in a new database in memory.
-pub fn over_tables(alloc: Global, way: Way, sessions: &[&[Part]]) -> Result<(), Fail> {
+pub(crate) fn over_tables(alloc: Global, way: Way, sessions: &[&[Part]]) -> Result<(), Fail> {
     for parts in sessions {
         let _files = in_files(alloc, way, parts)?;
         in_memory(alloc, way, parts)?;
@@ -76,7 +81,7 @@ pub fn over_tables(alloc: Global, way: Way, sessions: &[&[Part]]) -> Result<(), 
 }
 
 /// Takes each session with a plain office and in a new database in memory, by steps.
-pub fn to_both_in_memory(alloc: Global, sessions: &[&[Part]]) -> Result<(), Fail> {
+pub(crate) fn to_both_in_memory(alloc: Global, sessions: &[&[Part]]) -> Result<(), Fail> {
     for parts in sessions {
         in_plain(alloc, Way::Steps, parts)?;
         in_memory(alloc, Way::Steps, parts)?;
@@ -85,7 +90,7 @@ pub fn to_both_in_memory(alloc: Global, sessions: &[&[Part]]) -> Result<(), Fail
 }
 
 /// Puts each session to each office, by steps and by runs.
-pub fn to_offices(alloc: Global, sessions: &[&[Part]]) -> Result<(), Fail> {
+pub(crate) fn to_offices(alloc: Global, sessions: &[&[Part]]) -> Result<(), Fail> {
     for way in [Way::Steps, Way::OneRun] {
         for parts in sessions {
             in_plain(alloc, way, parts)?;

@@ -166,7 +166,7 @@ const FOURTH_RENEWED: &str = "open\n\
 
 /// The sessions: each begins with an office of an older version, the rows that it holds, and what a call says that
 /// takes no older one; then it is upgraded, and has the rows that follow.
-pub static UPGRADES: [&[Part]; 2] = [
+pub(crate) static UPGRADES: [&[Part]; 2] = [
     // Holds on a deposit and on a collection go on, and are released.
     &[
         ("made", THIRD),
@@ -229,7 +229,7 @@ pub static UPGRADES: [&[Part]; 2] = [
 ];
 
 /// Sessions of every request, and a policy with days, with what an office of an older version has become.
-pub static WHOLE_SESSIONS: [&[Part]; 2] = [
+pub(crate) static WHOLE_SESSIONS: [&[Part]; 2] = [
     // One of version 3, whose holds cover what comes later, too.
     &[
         ("made", THIRD),
@@ -407,7 +407,7 @@ pub static WHOLE_SESSIONS: [&[Part]; 2] = [
 
 /// What is not upgraded: an empty database, an office of a version that never was one, or limits that no office has, and
 /// one whose tables are not those of its version. It is as before, and an office again once its row is.
-pub static NOT_UPGRADED: [Part; 23] = [
+pub(crate) static NOT_UPGRADED: [Part; 23] = [
     ("upgraded", "Q1"),
     ("office", "1000000"),
     ("alters", "UPDATE office SET version = 2"),

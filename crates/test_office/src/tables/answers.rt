@@ -12,7 +12,7 @@ use std::alloc::Global;
 use std::fmt::Debug;
 
 /// The answer, as `Debug` shows it, or the code of the fault.
-pub fn answer_text<T: Debug + Drop>(
+pub(crate) fn answer_text<T: Debug + Drop>(
     alloc: Global,
     answer: Result<T, TableFault>,
 ) -> Option<String> {
@@ -23,7 +23,11 @@ pub fn answer_text<T: Debug + Drop>(
 }
 
 /// What the read answers: deposits and holds are named by their numbers.
-pub fn answer<S: Alter>(alloc: Global, tx: &mut Transaction<'_, S>, read: &str) -> Option<String> {
+pub(crate) fn answer<S: Alter>(
+    alloc: Global,
+    tx: &mut Transaction<'_, S>,
+    read: &str,
+) -> Option<String> {
     let words: Vec<&str> = read.split('|').collect(alloc).ok()?;
     let name = word(&words, 1);
     let of = number(&words, 1);

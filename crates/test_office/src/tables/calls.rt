@@ -3,7 +3,7 @@
 use crate::parts::Part;
 
 /// Each call once.
-pub static CALLS: [&[Part]; 11] = [
+pub(crate) static CALLS: [&[Part]; 11] = [
     // An office lasts.
     &[
         (

@@ -111,7 +111,7 @@ fn change_deposit<S: Alter>(tx: &mut Transaction<'_, S>, words: &[&str]) -> Resu
 /// Makes the change: deposits and holds are named by their numbers. A deposit has two files and 300
 /// bytes, was closed on day 10 and deposited on day 11; a hold is of day 100. Fails with `Memory` where
 /// there is no such change.
-pub fn make<S: Alter>(
+pub(crate) fn make<S: Alter>(
     alloc: Global,
     tx: &mut Transaction<'_, S>,
     change: &str,

@@ -4,7 +4,7 @@ use crate::parts::Part;
 
 /// A step that makes a database, a step that asks whether it is an office when it is opened again, and
 /// steps of which each fills a database of its own in between.
-pub static OPENINGS: [(&str, &str, &str); 9] = [
+pub(crate) static OPENINGS: [(&str, &str, &str); 9] = [
     // Other tables are no office.
     (
         "run|",
@@ -108,7 +108,7 @@ pub static OPENINGS: [(&str, &str, &str); 9] = [
 ];
 
 /// An office is made only in an empty database.
-pub static IN_USE: [&[Part]; 4] = [
+pub(crate) static IN_USE: [&[Part]; 4] = [
     // A database with a table is not empty.
     &[
         (

@@ -15,7 +15,7 @@ const ABSENT: &str = "read|role|eve > None\n\
     read|live holds|3|plans|y9 > []";
 
 /// A change that goes before another in one transaction is rolled back with it.
-pub static REFUSALS: [&[Part]; 4] = [
+pub(crate) static REFUSALS: [&[Part]; 4] = [
     // Of an office with one deposit, a file of it and a hold.
     &[
         (

@@ -6,7 +6,7 @@ use sqlite::{Alter, Connection};
 use std::alloc::{AllocError, Global};
 
 /// Files are put, and found when the database is opened again.
-pub static SIZES: [&[Part]; 4] = [
+pub(crate) static SIZES: [&[Part]; 4] = [
     // A content of no byte and one of 16,777,216 bytes.
     &[
         ("steps", "create"),
@@ -149,7 +149,7 @@ fn put_one<S: Alter>(
 
 /// Puts the files of this name, from the last path to the first, each in a transaction: how many they
 /// are.
-pub fn put<S: Alter>(
+pub(crate) fn put<S: Alter>(
     alloc: Global,
     conn: &mut Connection<S>,
     name: &str,
@@ -212,7 +212,7 @@ fn lists<S: Alter>(
 
 /// Finds the files of this name, each and as they are listed in the order of their paths: how many they
 /// are, or none where one isn't found.
-pub fn find<S: Alter>(
+pub(crate) fn find<S: Alter>(
     alloc: Global,
     conn: &mut Connection<S>,
     name: &str,

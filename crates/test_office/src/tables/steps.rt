@@ -28,7 +28,11 @@ use test_sessions::{held_rows, shown_rows};
 /// | `find` | finds them, each and as they are listed | how many |
 ///
 /// or the code of a fault.
-pub fn steps<S: Alter>(alloc: Global, conn: &mut Connection<S>, text: &str) -> Option<String> {
+pub(crate) fn steps<S: Alter>(
+    alloc: Global,
+    conn: &mut Connection<S>,
+    text: &str,
+) -> Option<String> {
     for line in text.lines() {
         let (step, wanted) = line.split_once(" > ").unwrap_or((line, "()"));
         let answer = answer_of_step(alloc, conn, step)?;
