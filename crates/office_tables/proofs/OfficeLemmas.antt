@@ -7,7 +7,7 @@ limits_text = codes "SELECT max_deposits, max_holds FROM office WHERE id = ?1"
 abbrev limit_columns : List Term
 limit_columns = col 1 3 ∷ col 1 4 ∷ []
 
-asks_limits : Asks office_schema limits_text office_tree by_number limit_columns []
+pub asks_limits : Asks office_schema limits_text office_tree by_number limit_columns []
 unfolding understood everything
 asks_limits = record { names = codes "max_deposits" ∷ codes "max_holds" ∷ []; command = refl; unlisted = refl; plain = (refl, refl) }
 

@@ -1,9 +1,16 @@
 -- What the statements on days of release tell of the rows of an office.
-use Rattle.office_tables.proofs.FirstLemmas.{◌≡◌, ◌⊎◌, ◌&&◌, ◌||◌, ℕ, ℤ, Bool, true, false, List, [], ◌∷◌, codes, Some, refl, ap, ap₂, subst, sym, ◌∙◌, inl, inr, list_any, int_cmp, is_gt, is_lt, Value, Null, Int, Text, Binary, id_in, Database, binary, from_truth, is_true, truth, Row, column, value_cmp, State, Shown, all_has, all_from, or3, Compare, Or, Eq, Gt, Lt, value_cmp-Int, maybe_int, any_mapped, AsksSome, reads_some, passes, HoldRow, holds_class, holds_collection, holds_deposit, office_schema, hold_tree, IsOffice, tables_of, hold_in, only}
+use Rattle.office_tables.proofs.FirstLemmas.{◌≡◌, ◌⊎◌, ◌&&◌, ◌||◌, ℕ, ℤ, Bool, true, false, List, [], ◌∷◌, Some, refl, ap, ap₂, subst, sym, ◌∙◌, inl, inr, list_any, int_cmp, is_gt, is_lt, Value, Null, Int, Binary, id_in, Database, binary, from_truth, is_true, truth, Row, column, value_cmp, State, Shown, all_has, all_from, or3, Compare, Or, Eq, Gt, Lt, value_cmp-Int, maybe_int, any_mapped, AsksSome, reads_some, passes, HoldRow, holds_class, holds_collection, holds_deposit, office_schema, hold_tree, IsOffice, tables_of, hold_in, only, IsPlain, Ok, TableFault, Term, command_of, understood}
 use Rattle.office_tables.specs.Releases.{is_outside, is_outside_of, is_over}
+use Rattle.std.specs.Prelude.{Result, IfErr, Err}
+use Rattle.std.proofs.Math.Bool.{and-or_distrib_right, or_assoc}
+use Rattle.sqlite.specs.State.{FailsToQuery, IsNotRun}
+use Rattle.office_contents.proofs.Undone.{store_unless}
+use Rattle.office_contents.specs.Calls.{RunsOut}
+use Rattle.office_contents.specs.Faults.{IsFailure, IsStoreUnless}
+use Rattle.office_contents.specs.declared.fault.TableFault.TheVariants.{Memory}
 use Rattle.office_tables.proofs.DueLemmas.{and_end}
-use Rattle.office_tables.proofs.HoldLemmas.{IsStoredHold, deposit_is, hold_rows, text_is}
-use Rattle.office_tables.proofs.HoldTexts.{outside_of, outside_text, hold_meanings}
+use Rattle.office_tables.proofs.HoldLemmas.{IsStoredHold, hold_rows}
+use Rattle.office_tables.proofs.HoldTexts.{outside_of}
 
 -- ---- a day before the first or after the last
 
@@ -35,7 +42,7 @@ passes_outside place v named first last r it is = ap₂ (λ a b. a && (b && true
 -- whether one passes, of the holds that are on this
 module _ (old new : State) (text : List ℕ) (place : ℕ) (asks : AsksSome office_schema text hold_tree (outside_of place) (only 0)) (v : Value) (first last : ℤ) (rows : List Row)
     (office : IsOffice old.now) (h : Shown text (v ∷ Int first ∷ Int last ∷ []) old new rows) where
-  tells_outside : (those : HoldRow → Bool) → ((r : Row) → IsStoredHold r → is_true (binary (Compare Eq Binary) (column r place) v) ≡ those (hold_in r))
+  pub tells_outside : (those : HoldRow → Bool) → ((r : Row) → IsStoredHold r → is_true (binary (Compare Eq Binary) (column r place) v) ≡ those (hold_in r))
       → (new.now ≡ old.now) × (list_any (is_outside_of those first last) (tables_of old.now).holds ≡ list_any (λ r. true) rows)
   tells_outside those names =
       let stored = old.now.trees hold_tree in
@@ -47,20 +54,24 @@ module _ (old new : State) (text : List ℕ) (place : ℕ) (asks : AsksSome offi
       let some = reads_some office_schema text hold_tree (outside_of place) (only 0) asks params old new office.whole.schema_is rows h (λ r. p (hold_in r)) each in
       (some.0, any_mapped hold_in (λ r. p (hold_in r)) p (λ r. refl) stored ∙ some.1)
 
-pub tells_outside_on : (old new : State) (n first last : ℤ) (rows : List Row) → IsOffice old.now → Shown (outside_text (codes "deposit")) (Int n ∷ Int first ∷ Int last ∷ []) old new rows
-    → (new.now ≡ old.now) × (list_any (is_outside_of (holds_deposit n) first last) (tables_of old.now).holds ≡ list_any (λ r. true) rows)
-tells_outside_on old new n first last rows office h =
-    tells_outside old new (outside_text (codes "deposit")) 2 hold_meanings.asks_outside_on (Int n) first last rows office h (holds_deposit n) (λ r it. deposit_is (column r 2) n it.0)
+-- ---- where it fails
 
-pub tells_outside_within : (old new : State) (c : List ℕ) (first last : ℤ) (rows : List Row) → IsOffice old.now → Shown (outside_text (codes "collection")) (Text c ∷ Int first ∷ Int last ∷ []) old new rows
-    → (new.now ≡ old.now) × (list_any (is_outside_of (holds_collection c) first last) (tables_of old.now).holds ≡ list_any (λ r. true) rows)
-tells_outside_within old new c first last rows office h =
-    tells_outside old new (outside_text (codes "collection")) 3 hold_meanings.asks_outside_within (Text c) first last rows office h (holds_collection c) (λ r it. text_is (column r 3) c it.1)
+-- memory that runs out in such a query undoes its transaction, so that it fails as the store does
+module _ {text : List ℕ} {tree : ℕ} {test project : List Term} (asks : AsksSome office_schema text tree test project) (params : Row) (old new : State) (office : IsOffice old.now) where
+  undone : RunsOut text params old new → new.in_transaction ≡ false
+  unfolding FailsToQuery IsNotRun
+  undone (inl (inl (inl h))) = absurd (elim h.0 [ inl (fault, is, e) ↦ cc | inr (c, is, inl (more, e)) ↦ cc | inr (c, is, inr (inl (others, e))) ↦ cc | inr (c, is, inr (inr (clock, e))) ↦ cc ])
+  undone (inl (inl (inr h))) = h.3.autocommit
+  undone (inl (inr h)) =
+      let known = sym h.1.is ∙ ap (λ s. understood s text) office.whole.schema_is in
+      let bare = subst IsPlain (sym known) asks.plain in
+      let it = rw (bare.0, ap command_of known ∙ asks.command) at h.2 in
+      absurd (elim it.2 [ inl (e, _) ↦ cc | inr (inl (e, _)) ↦ cc | inr (inr (e, _)) ↦ cc ])
+  undone (inr h) = absurd (let e = h.4 in cc)
 
-pub tells_outside_of_class : (old new : State) (k : List ℕ) (first last : ℤ) (rows : List Row) → IsOffice old.now → Shown (outside_text (codes "class")) (Text k ∷ Int first ∷ Int last ∷ []) old new rows
-    → (new.now ≡ old.now) × (list_any (is_outside_of (holds_class k) first last) (tables_of old.now).holds ≡ list_any (λ r. true) rows)
-tells_outside_of_class old new k first last rows office h =
-    tells_outside old new (outside_text (codes "class")) 4 hold_meanings.asks_outside_of_class (Text k) first last rows office h (holds_class k) (λ r it. text_is (column r 4) k it.2)
+  pub some_in_store : {T : Type 0} (result : Result T TableFault) → IfErr result IsFailure → IfErr result (λ fault. fault ≡ Memory → RunsOut text params old new) → IfErr result (IsStoreUnless (new.in_transaction ≡ false))
+  some_in_store (Ok value) failure memory = tt
+  some_in_store (Err fault) failure memory = store_unless (new.in_transaction ≡ false) fault failure (λ is. undone (memory is))
 
 -- ---- all of them
 
@@ -74,25 +85,15 @@ any_either : {X : Type 0} (p q s : X → Bool) → ((x : X) → s x ≡ (p x || 
 any_either p q s each [] = refl
 any_either p q s each (x ∷ xs) = ap₂ (λ a b. a || b) (each x) (any_either p q s each xs) ∙ either_first (p x) (q x) (list_any p xs) (list_any q xs)
 
-both_parts : (a b o : Bool) → ((a || b) && o) ≡ ((a && o) || (b && o))
-both_parts true b true = refl
-both_parts true true false = refl
-both_parts true false false = refl
-both_parts false b o = refl
-
 outside_over : (first last n : ℤ) (c k : List ℕ) (holds : List HoldRow)
     → list_any (is_outside_of (is_over n c k) first last) holds
     ≡ (list_any (is_outside_of (holds_deposit n) first last) holds || (list_any (is_outside_of (holds_collection c) first last) holds || list_any (is_outside_of (holds_class k) first last) holds))
 outside_over first last n c k holds =
     let later : HoldRow → Bool = λ h. holds_collection c h || holds_class k h in
     let those : (HoldRow → Bool) → HoldRow → Bool = λ p. is_outside_of p first last in
-    any_either (those (holds_deposit n)) (those later) (those (is_over n c k)) (λ h. both_parts (holds_deposit n h) (later h) (is_outside first last h.released)) holds
+    any_either (those (holds_deposit n)) (those later) (those (is_over n c k)) (λ h. and-or_distrib_right (holds_deposit n h) (later h) (is_outside first last h.released)) holds
     ∙ ap (λ b. list_any (those (holds_deposit n)) holds || b)
-    (any_either (those (holds_collection c)) (those (holds_class k)) (those later) (λ h. both_parts (holds_collection c h) (holds_class k h) (is_outside first last h.released)) holds)
-
-in_turn : (a b c : Bool) → ((a || b) || c) ≡ (a || (b || c))
-in_turn true b c = refl
-in_turn false b c = refl
+    (any_either (those (holds_collection c)) (those (holds_class k)) (those later) (λ h. and-or_distrib_right (holds_collection c h) (holds_class k h) (is_outside first last h.released)) holds)
 
 -- what is told of the three answers, of which the same database gave the later ones
 pub gathers_outside : (old one two : Database) → one ≡ old → two ≡ one → (first last n : ℤ) (c k : List ℕ) (on within of_class : Bool)
@@ -102,6 +103,6 @@ pub gathers_outside : (old one two : Database) → one ≡ old → two ≡ one �
     → ((on || within) || of_class) ≡ list_any (is_outside_of (is_over n c k) first last) (tables_of old).holds
 gathers_outside old one two same again first last n c k on within of_class on_is within_is of_class_is =
     let at : (HoldRow → Bool) → Database → Bool = λ p db. list_any (is_outside_of p first last) (tables_of db).holds in
-    in_turn on within of_class
+    or_assoc on within of_class
     ∙ ap₂ (λ a b. a || b) on_is (ap₂ (λ a b. a || b) (within_is ∙ ap (at (holds_collection c)) same) (of_class_is ∙ ap (at (holds_class k)) (again ∙ same)))
     ∙ sym (outside_over first last n c k (tables_of old).holds)

@@ -6,7 +6,7 @@ ghost use Rattle.sql_meaning.specs.Columns.{int_at};
 ghost use Rattle.office_contents.specs.Faults.{IsFailure};
 ghost use Rattle.office_rows.specs.Rows.{hold_numbered, last_number, with_hold, with_released, live_holds, is_live_on, is_live_within, is_live_of_class};
 ghost use Rattle.office_contents.specs.Contents.{LeavesContents, LeavesOnce};
-ghost use Rattle.office_contents.specs.Calls.{GoesOnInside, Keeps, Shows, Tells, Writes};
+ghost use Rattle.office_contents.specs.Calls.{FailsInStore, GoesOnInside, Keeps, Shows, Tells, Writes};
 ghost use Rattle.office_tables.specs.ShownHolds.{shown_hold, placed_row, is_on};
 ghost use Rattle.office_tables.specs.Releases.{is_outside_of, is_over};
 
@@ -332,6 +332,7 @@ fn rows_of_releases<S: Alter>(
     ensures found { Shows S.Store tx.old.conn.now tx.new.conn.now result (λ tables rows.
         list_any (is_outside_of (is_on target.entry) first last) tables.holds
         ≡ list_any (λ r. true) rows.items) }
+    ensures store { FailsInStore S.Store tx.old.conn.now tx.new.conn.now result }
 {
     match target {
         HoldTarget::Deposit(number) => ask(
@@ -362,6 +363,7 @@ fn has_release<S: Alter>(
     ensures inside { GoesOnInside S.Store tx.old.conn tx.new.conn result }
     ensures found { Shows S.Store tx.old.conn.now tx.new.conn.now result (λ tables found.
         found ≡ list_any (is_outside_of (is_on target.entry) first last) tables.holds) }
+    ensures store { FailsInStore S.Store tx.old.conn.now tx.new.conn.now result }
 {
     let rows = rows_of_releases(tx, target, first, last)?;
     Ok(!rows.is_empty())
@@ -386,6 +388,7 @@ pub fn has_release_outside<S: Alter>(
         ≡ list_any
         (is_outside_of (is_over (pos deposit) collection.now class.now) first last)
         tables.holds) }
+    ensures store { FailsInStore S.Store tx.old.conn.now tx.new.conn.now result }
 {
     let on_deposit = has_release(tx, HoldTarget::Deposit(deposit), first, last)?;
     let on_collection = has_release(tx, HoldTarget::Collection(collection), first, last)?;

@@ -1,12 +1,13 @@
 //! Opening an office, and its limits.
 
-ghost use Rattle.std.specs.Prelude.{pos, [], Ok, Err, ◌≡◌, true, false, MatchOption, IfOk, OnOk, IsTrue, Some, None, option_map, slice_get};
+ghost use Rattle.std.specs.Prelude.{pos, [], Ok, Err, ◌≡◌, true, false, MatchOption, IfErr, IfOk, OnOk, IsTrue, Some, None, option_map, slice_get};
 ghost use Rattle.sqlite.specs.State.{HasCleanDisk, Survives};
 ghost use Rattle.sqlite.specs.Held.{state};
 ghost use Rattle.sqlite.specs.Order.{Row as SqlRow, column};
 ghost use Rattle.sqlite.specs.declared.types.Value.TheVariants.{Int};
+ghost use Rattle.sql_meaning.specs.Columns.{int_at};
 ghost use Rattle.office_rows.specs.Rows.{this_version, limits_of, version_of};
-ghost use Rattle.office_contents.specs.Calls.{GoesOnInside, Keeps, Shows, Tells};
+ghost use Rattle.office_contents.specs.Calls.{FailsInStore, GoesOnInside, Keeps, Shows, Tells};
 ghost use Rattle.office_contents.specs.Tables.{shown_limits};
 ghost use Rattle.office_contents.specs.Versions.{IsOfficeAt, tables_at};
 ghost use Rattle.office_contents.specs.declared.version.TableVersion.{TableVersion};
@@ -153,12 +154,29 @@ fn rows_of_limits<S: Alter>(tx: &mut Transaction<'_, S>) -> Result<Vec<Row>>
     ensures inside { GoesOnInside S.Store tx.old.conn tx.new.conn result }
     ensures found { Shows S.Store tx.old.conn.now tx.new.conn.now result (λ tables rows.
         limits_of tables ≡ option_map shown_limits (slice_get rows.items 0)) }
+    ensures store { FailsInStore S.Store tx.old.conn.now tx.new.conn.now result }
 {
     ask(
         tx,
         "SELECT max_deposits, max_holds FROM office WHERE id = ?1",
         params![1u32],
     )
+}
+
+/// The limit in that column of a row.
+///
+/// Fails with `Store`.
+fn limit_in(row: &Row, at: usize) -> Result<u32>
+    ensures shown { IfOk result (λ limit. pos limit ≡ int_at row.now at) }
+    ensures store { IfErr result (λ fault. fault ≡ TableFault.Store) }
+{
+    let Ok(ValueRef::Int(number)) = row.get_ref(at) else {
+        return Err(TableFault::Store);
+    };
+    match u32::try_from(number) {
+        Ok(limit) => Ok(limit),
+        Err(_) => Err(TableFault::Store),
+    }
 }
 
 /// The limits of the office.
@@ -171,13 +189,14 @@ pub fn limits<S: Alter>(tx: &mut Transaction<'_, S>) -> Result<OfficeLimits>
         limits_of tables
         ≡ Some
         (record { max_deposits = pos limits.max_deposits; max_holds = pos limits.max_holds })) }
+    ensures store { FailsInStore S.Store tx.old.conn.now tx.new.conn.now result }
 {
     let rows = rows_of_limits(tx)?;
     let Some(row) = rows.first() else {
         return Err(TableFault::Store);
     };
     Ok(OfficeLimits {
-        max_deposits: row.get(0)?,
-        max_holds: row.get(1)?,
+        max_deposits: limit_in(row, 0)?,
+        max_holds: limit_in(row, 1)?,
     })
 }
