@@ -3,7 +3,7 @@ use Rattle.office_core.specs.declared.answer.Answer.{Answer}
 use Rattle.office_core.specs.declared.answer.Answer.TheVariants as answers
 use Rattle.office_core.specs.declared.refusal.Refusal.TheVariants as refusals
 use Rattle.office_core.specs.declared.request.Request.{Request}
-use Rattle.office_core.specs.declared.request.Request.TheVariants.{DefineClass, DefineCollection, Deposit, List, Record, Holds, DownloadBag, DownloadFile, Audit, HoldDeposit, HoldCollection, HoldClass, Release, Dispose, DueList}
+use Rattle.office_core.specs.declared.request.Request.TheVariants.{List, Record, Holds, DownloadBag, DownloadFile, Audit, DueList}
 use Rattle.desk_log.specs.declared.note.OfficeFailure.TheVariants.{Memory, Store}
 use Rattle.desk_log.specs.declared.note.OfficeNote.{OfficeNote}
 use Rattle.desk_log.specs.declared.note.OfficeOutcome.{OfficeOutcome}
@@ -11,16 +11,8 @@ use Rattle.desk_log.specs.declared.note.OfficeOutcome.TheVariants.{Failed, Refus
 use Rattle.desk_log.specs.declared.note.RequestKind.{RequestKind}
 use Rattle.desk_log.specs.declared.note.RequestKind.TheVariants.{Change, Reading}
 
--- whether a request asks for a change, or only reads
+-- whether a request asks for a change, or only reads. One that is not a reading listed here asks for a change.
 abbrev pub kind_of : Request → RequestKind
-kind_of (DefineClass name years) = Change
-kind_of (DefineCollection name) = Change
-kind_of (Deposit description bag) = Change
-kind_of (HoldDeposit deposit matter) = Change
-kind_of (HoldCollection collection matter) = Change
-kind_of (HoldClass class matter) = Change
-kind_of (Release hold) = Change
-kind_of (Dispose deposit) = Change
 kind_of (List collection class) = Reading
 kind_of (Record deposit) = Reading
 kind_of (Holds deposit) = Reading
@@ -28,6 +20,7 @@ kind_of (DownloadBag deposit) = Reading
 kind_of (DownloadFile deposit path) = Reading
 kind_of (Audit deposit) = Reading
 kind_of DueList = Reading
+kind_of request = Change
 
 -- what came of a request that was answered so: memory or the store failed, or it was refused for another reason, or it succeeded
 abbrev pub outcome_of : Answer → OfficeOutcome

@@ -39,19 +39,11 @@ pub struct OfficeNote {
     pub outcome: OfficeOutcome,
 }
 
-/// Whether the request asks for a change.
+/// Whether the request asks for a change or only reads. One that isn't a reading listed here asks for a change.
 fn kind_of(request: &Request<'_>) -> RequestKind
     ensures { result ≡ kind_of request.now }
 {
     match request {
-        Request::DefineClass { .. }
-        | Request::DefineCollection { .. }
-        | Request::Deposit { .. }
-        | Request::HoldDeposit { .. }
-        | Request::HoldCollection { .. }
-        | Request::HoldClass { .. }
-        | Request::Release { .. }
-        | Request::Dispose { .. } => RequestKind::Change,
         Request::List { .. }
         | Request::Record { .. }
         | Request::Holds { .. }
@@ -59,6 +51,7 @@ fn kind_of(request: &Request<'_>) -> RequestKind
         | Request::DownloadFile { .. }
         | Request::Audit { .. }
         | Request::DueList => RequestKind::Reading,
+        _ => RequestKind::Change,
     }
 }
 
