@@ -1,12 +1,9 @@
 pub mod Common
-pub mod PartSpelling
 pub mod RowLemmas
 pub mod PathLemmas
 pub mod RouteLemmas
 pub mod SpellingLemmas
 pub mod WalkLemmas
-pub mod ResourceLemmas
 pub mod NumberLemmas
-pub mod ReadingLemmas
 pub mod TableLemmas
 pub mod TargetLemmas

@@ -1,10 +1,10 @@
 -- A number of a path is read where it is written in decimal, with at most 7 digits.
-use Rattle.desk_routes.proofs.Common.{◌≡◌, ℕ, ◌<◌, ◌≤◌, ◌==◌, ◌^◌, List, [], ◌∷◌, length, get_or, Bool, true, false, Result, Ok, Some, refl, sym, ap, ◌∙◌, arith, rules, cond, leb as nat_le, decimal, and_parts, nat_tests, list_all, is_number, number_of, IsShortNumber}
+use Rattle.desk_routes.proofs.Common.{◌≡◌, ℕ, ◌<◌, ◌≤◌, ◌==◌, ◌^◌, List, [], ◌∷◌, length, get_or, Bool, true, false, Result, Ok, Some, refl, sym, ap, ◌∙◌, arith, rules, cond, leb as nat_le, decimal, and_parts, nat_tests, list_all, has_slash, is_number, number_of, IsShortNumber}
 use Rattle.std.specs.Char.{is_ascii_digit}
 use Rattle.std.specs.Str.Parse.{digits_value, ParsesUnsigned}
 use Rattle.std.proofs.lemmas.Str.Parse.{IsNumeralModel, IsDigitsTest, numerals_by_value, parse_gives, digits_value_short}
 use Rattle.std.proofs.lemmas.Fmt.{decimal_digit, digits_decimal, digits_value-decimal, decimal-digits_value, decimal_nonempty, length-decimal-le, first_decimal}
-use Rattle.desk_routes.proofs.PartSpelling.{has_slash, IsPart}
+use Rattle.desk_routes.proofs.PathLemmas.{IsPart}
 use Rattle.office_core.proofs.OptionLemmas.{by_Bool}
 use Rattle.std.proofs.lemmas.Option.{cond_some}
 

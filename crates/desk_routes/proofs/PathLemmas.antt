@@ -1,11 +1,15 @@
 -- The router's rows give the route that the path's parts say.
-use Rattle.desk_routes.proofs.Common.{◌≡◌, ℕ, ◌-◌, List, [], ◌∷◌, ◌++◌, length, drop, ltb, ◌&&◌, length-append, Option, Some, None, Bool, true, false, cond, refl, sym, ap, ◌∙◌, subst, arith, nat_eq, ◌==◌, append-nil, and_right, nat_tests, option_or, starts_with, pointwise, Rows, Seen, prepend, ends, rows_of, param_token, catch_all_token, map_key, seek, first, after_param, has_slash, segment, cuts, longest_suffix, or_else as or_row, IsText, AllSegment, AreSuffixes, first-prefix, own-prepend, seek-empty, Parts, after_prefix, nothing_more, with_byte, cut, by_part, no_more, last_part, all_of}
+use Rattle.desk_routes.proofs.Common.{◌≡◌, ℕ, ◌-◌, List, [], ◌∷◌, ◌++◌, ◌<◌, length, drop, ltb, ◌&&◌, length-append, Option, Some, None, Bool, true, false, cond, refl, sym, ap, ◌∙◌, subst, arith, nat_eq, ◌==◌, append-nil, and_right, nat_tests, option_or, starts_with, pointwise, Rows, Seen, prepend, ends, rows_of, param_token, catch_all_token, map_key, seek, first, after_param, has_slash, segment, cuts, longest_suffix, or_else as or_row, IsText, AllSegment, AreSuffixes, first-prefix, own-prepend, seek-empty, Parts, after_prefix, nothing_more, with_byte, cut, by_part, no_more, last_part, all_of}
 use Rattle.matchit.proofs.LongestLemmas.{longest-kid}
 use Rattle.matchit.proofs.ParamLemmas.{after_param-end, after_param-stop, after_param-kid, one_less}
 use Rattle.desk_routes.proofs.RowLemmas.{Leaves, first-beside, first-end, first-rest, first-param, IsText-drop, IsText-after}
 use Rattle.office_core.proofs.OptionLemmas.{by_Bool}
 
 -- ---- what a cut says
+
+-- a part is not empty, and has no slash
+abbrev pub IsPart : List ℕ → Type 0
+IsPart part = (0 < length part) × (has_slash part ≡ false)
 
 abbrev pub CutSays : List ℕ → List ℕ × Option (List ℕ) → Type 0
 CutSays path (part, None) = (part ≡ path) × (segment path ≡ path) × (has_slash path ≡ false)
@@ -25,7 +29,7 @@ cut-says (b ∷ path) = by (b == 47) refl (cut path) (cut-says path)
 last_is : (x : ℕ) (l : List ℕ) → drop (length (x ∷ l) - 1) (x ∷ l) ≡ drop (length l) (x ∷ l)
 last_is x l = ap (λ n. drop n (x ∷ l)) (one_less (length l))
 
-not_slash : (x : ℕ) (a : Bool) → cond (x == 47) true a ≡ false → ((x == 47) ≡ false) × (a ≡ false)
+pub not_slash : (x : ℕ) (a : Bool) → cond (x == 47) true a ≡ false → ((x == 47) ≡ false) × (a ≡ false)
 not_slash x a h = by_Bool (x == 47) (λ slash. let z = rw slash at h in cc) (λ other. (other, rw other at h))
 
 no_slash : (x : ℕ) (l : List ℕ) → has_slash (x ∷ l) ≡ false → pointwise nat_eq (47 ∷ []) (drop (length l) (x ∷ l)) ≡ false

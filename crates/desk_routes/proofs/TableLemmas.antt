@@ -11,7 +11,7 @@ use Rattle.desk_routes.specs.declared.refusal.DeskRefusal.TheVariants as refusal
 use Rattle.desk_routes.specs.declared.route.Route.{Route}
 use Rattle.desk_routes.specs.declared.route.Route.TheVariants as routes
 use Rattle.desk_routes.specs.Table.{method_text, row, methods_of, AsksFor, IsOtherMethod, route_at, method_of, route_of_resource, route_of}
-use Rattle.desk_routes.proofs.ReadingLemmas.{spelling-read, reading-spelled}
+use Rattle.desk_routes.proofs.SpellingLemmas.{spelling-read, reading-spelled}
 use Rattle.office_core.proofs.OptionLemmas.{by_Bool, by_Option}
 
 -- ---- rows

@@ -1,6 +1,5 @@
 -- What the parameters of a route take of its path.
-use Rattle.desk_routes.proofs.Common.{◌≡◌, ℕ, ◌≤◌, ◌+◌, ◌-◌, ◌==◌, List, [], ◌∷◌, ◌++◌, length, drop, take, get_or, Bool, true, false, refl, sym, ap, ◌∙◌, arith, append-nil, ltb, leb, ◌&&◌, length-append, nat_tests, take-append_seam, drop-append_seam, walk, wild_from, wild_stop, part_of, after_token, param_token, segment, IsText}
-use Rattle.desk_routes.proofs.PartSpelling.{has_slash}
+use Rattle.desk_routes.proofs.Common.{◌≡◌, ℕ, ◌≤◌, ◌+◌, ◌-◌, ◌==◌, List, [], ◌∷◌, ◌++◌, length, drop, take, get_or, Bool, true, false, refl, sym, ap, ◌∙◌, arith, append-nil, ltb, leb, ◌&&◌, length-append, nat_tests, take-append_seam, drop-append_seam, walk, wild_from, wild_stop, part_of, after_token, param_token, has_slash, segment, IsText}
 use Rattle.office_core.proofs.OptionLemmas.{by_Bool}
 
 pair : (a b c d : ℕ) → a ≡ c → b ≡ d → ◌≡◌ {A = ℕ × ℕ} (a, b) (c, d)

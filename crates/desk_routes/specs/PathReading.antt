@@ -1,4 +1,4 @@
--- How a path is read, by its beginning and its parts. The law `spelled_resources` says that this reads each path as `Places` spells it; the rule is
+-- How a path is read, by its beginning and its parts. The law `spelled_resources` says that this reads each path as `Resources` spells it; the rule is
 -- Depot's own, as there.
 use Rattle.std.specs.Prelude.{ℕ, ◌==◌, Bool, false, ◌&&◌, nat_le, List, [], ◌∷◌, length, drop, codes, Option, Some, None, nat_eq, option_map, option_and_then, if◌then◌else◌}
 use Rattle.std.specs.Option.{option_or}

@@ -1,4 +1,4 @@
-use Rattle.desk_routes.proofs.ReadingLemmas.{reading-spelled, spelling-read}
+use Rattle.desk_routes.proofs.SpellingLemmas.{reading-spelled, spelling-read}
 use Rattle.desk_routes.proofs.laws.spelled_resources.Goals as goal
 
 pub returns : goal.returns
