@@ -4,7 +4,8 @@ use Rattle.std.proofs.lemmas.Option.{same_Some}
 use Rattle.office_core.proofs.DayLemmas.{day_text-injective}
 use Rattle.desk_forms.specs.declared.body.HoldBody.{HoldBody}
 use Rattle.desk_forms.specs.declared.body.HoldBody.TheVariants.{Deposit, Collection, Class}
-use Rattle.desk_forms.specs.Bodies.{years_object, SaysYears, hold_object, SaysHold}
+use Rattle.desk_forms.specs.Bodies.{IsJsonOf, years_object, SaysYears, hold_object, SaysHold}
+use Rattle.serde_json.specs.Data.{Data}
 
 one_value : (values : List (List ℕ)) (a b : List ℕ) → values ≡ a ∷ [] → values ≡ b ∷ [] → a ≡ b
 one_value values a b x y = let e : a ∷ [] ≡ b ∷ [] = sym x ∙ y in cc
@@ -30,6 +31,9 @@ one_deposit_query pairs a b x y =
     let closed = day_text-injective a.closed b.closed x.closed.1 y.closed.1 (one_value _ (day_text a.closed) (day_text b.closed) x.closed.0 y.closed.0) in
     λ i. record { collection = collection i; class = class i; accession = accession i; closed = closed i }
 
+pub one_json : (body : List ℕ) (a b : Data) → IsJsonOf body a → IsJsonOf body b → a ≡ b
+one_json body a b x y = same_Some a b (sym x.1 ∙ y.1)
+
 one_years_object : (a b : Option ℕ) → years_object a ≡ years_object b → a ≡ b
 one_years_object None None e = refl
 one_years_object None (Some n) e = cc
@@ -37,7 +41,7 @@ one_years_object (Some m) None e = cc
 one_years_object (Some m) (Some n) e = cc
 
 pub one_years : (body : List ℕ) (a b : Option ℕ) → SaysYears body a → SaysYears body b → a ≡ b
-one_years body a b x y = one_years_object a b (same_Some _ _ (sym x.json.1 ∙ y.json.1))
+one_years body a b x y = one_years_object a b (one_json body _ _ x.json y.json)
 
 one_hold_object : (a b : HoldBody) → hold_object a ≡ hold_object b → a ≡ b
 one_hold_object (Deposit m s) (Deposit n t) e = cc
@@ -51,4 +55,4 @@ one_hold_object (Class c s) (Collection d t) e = cc
 one_hold_object (Class c s) (Class d t) e = cc
 
 pub one_hold : (body : List ℕ) (a b : HoldBody) → SaysHold body a → SaysHold body b → a ≡ b
-one_hold body a b x y = one_hold_object a b (same_Some _ _ (sym x.json.1 ∙ y.json.1))
+one_hold body a b x y = one_hold_object a b (one_json body _ _ x.json y.json)

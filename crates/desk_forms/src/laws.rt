@@ -2,7 +2,8 @@
 
 ghost use Rattle.std.specs.Prelude.{◌≡◌, ◌↔◌, ℕ, List, [], Option, Contains};
 ghost use Rattle.percent_encoding.specs.Percent.{percent_decode};
-ghost use Rattle.desk_forms.specs.Bodies.{SaysYears, SaysHold};
+ghost use Rattle.serde_json.specs.Data.{Data};
+ghost use Rattle.desk_forms.specs.Bodies.{IsJsonOf, SaysYears, SaysHold};
 ghost use Rattle.desk_forms.specs.Paths.{StandsFor};
 ghost use Rattle.desk_forms.specs.Queries.{values_under, count_of, StandsOnce, AsksListing, DescribesDeposit, IsListing, IsDepositQuery};
 ghost use Rattle.desk_forms.specs.declared.body.HoldBody.{HoldBody};
@@ -42,8 +43,11 @@ pub fn one_query()
         → DescribesDeposit pairs a → DescribesDeposit pairs b → a ≡ b }
 {}
 
-/// A body says one number of years at most, and one hold at most.
+/// A body is a JSON text of one value at most. It says one number of years at most, and one hold at
+/// most. That it asks one thing at most of any route is part of `one_hearing` of `desk_hearing`.
 pub fn one_body()
+    ensures json { (body : List ℕ) (a b : Data)
+        → IsJsonOf body a → IsJsonOf body b → a ≡ b }
     ensures years { (body : List ℕ) (a b : Option ℕ)
         → SaysYears body a → SaysYears body b → a ≡ b }
     ensures hold { (body : List ℕ) (a b : HoldBody)
