@@ -209,6 +209,7 @@ impl Asker {
 /// asks once.
 ///
 /// Fails with `Memory` or `Store`.
+#[tactic(auto, using(office_contents::proofs::InTurn::inside_then))]
 pub fn denial<S: Alter>(
     tx: &mut Transaction<'_, S>,
     day: Day,

@@ -1,8 +1,10 @@
 //! What speaks against the destruction of a deposit: its due day, and the holds that cover it.
 
-ghost use Rattle.std.specs.Prelude.{◌≡◌, IfSome, None, ℕ, Some, [], option_map, pos, true};
+ghost use Rattle.std.specs.Prelude.{◌≡◌, ◌≢◌, IfSome, None, ℕ, Some, [], option_map, pos, true};
 ghost use Rattle.office_rows.specs.Rows.{due_numbered, limits_of, live_holds};
 ghost use Rattle.office_contents.specs.Calls.{GoesOnInTurn, GoesOnInside, Keeps, Shows, Tells};
+ghost use Rattle.office_contents.specs.Contents.{RefusesIf};
+ghost use Rattle.office_contents.specs.Tables.{tables_of};
 ghost use Rattle.office_by_rows.specs.Asking.{counted_hold_in, least_hold_in};
 ghost use Rattle.office_by_rows.specs.Refusals.{disposal_facts};
 ghost use Rattle.office_by_rows.specs.Values.{is_between};
@@ -62,11 +64,15 @@ pub fn stored_due_row<S: Alter>(
 
 /// That a count of live holds is one that an office keeps of a deposit that is held: at least 1, and no more
 /// than it takes.
+#[tactic(auto, using(office_contents::proofs::InTurn::inside_as))]
 fn check_count<S: Alter>(tx: &mut Transaction<'_, S>, count: i64) -> Result<(), TableFault>
     ensures inside { GoesOnInside S.Store tx.old.conn tx.new.conn result }
     ensures reads { Shows S.Store tx.old.conn.now tx.new.conn.now result (λ tables _.
         option_map (λ limits. is_between (pos 1) limits.max_holds count) (limits_of tables)
         ≡ Some true) }
+    ensures store { RefusesIf S.Store tx.old.conn.now tx.new.conn.now result (λ old.
+        option_map (λ limits.
+        is_between (pos 1) limits.max_holds count) (limits_of (tables_of old)) ≢ Some true) }
 {
     let limits = limits(tx)?;
     check_between(count, 1, limits.max_holds)
@@ -85,6 +91,10 @@ fn counted_hold<S: Alter>(
     ensures inside { GoesOnInTurn S.Store tx.old.conn tx.new.conn result }
     ensures reads { Shows S.Store tx.old.conn.now tx.new.conn.now result (λ tables found.
         counted_hold_in tables count number collection.now class.now ≡ Some found) }
+    ensures store { RefusesIf S.Store tx.old.conn.now tx.new.conn.now result (λ old.
+        (count ≢ pos 0)
+        × (option_map (λ limits.
+        is_between (pos 1) limits.max_holds count) (limits_of (tables_of old)) ≢ Some true)) }
 {
     if count == 0 {
         return Ok(None);

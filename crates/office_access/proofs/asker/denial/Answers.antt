@@ -1,8 +1,5 @@
-use Rattle.office_access.proofs.Lemmas.{IfOk-weaker, option_copied, sym, ◌≡◌, Some, ◌∙◌, role_name, office_still, told_before, clean_first, inside_then, state, ◌>>=◌, tables_of, denial_for}
+use Rattle.office_access.proofs.Lemmas.{IfOk-weaker, option_copied, sym, ◌≡◌, Some, ◌∙◌, role_name, office_still, told_before, clean_first, state, ◌>>=◌, tables_of, denial_for}
 use Rattle.office_access.proofs.asker.denial.Goals as goal
-
-pub returns-clause-inside : goal.returns-clause-inside
-returns-clause-inside g c = inside_then c.in_ok-asker.ensures.inside c.denial.ensures.inside
 
 pub returns-clause-reads : goal.returns-clause-reads
 returns-clause-reads g c clean office =

@@ -34,3 +34,12 @@ returns-clause-reads g c clean office =
 
 pub returns-in_err-found-clause-inside : goal.returns-in_err-found-clause-inside
 returns-in_err-found-clause-inside g c = in_turn (inside_failed c.in_ok-check_count.ensures.inside c.least_hold.ensures.inside _ (search rules) (search rules))
+
+pub returns-clause-store : goal.returns-clause-store
+returns-clause-store g c clean office lies = absurd (lies.1 (rw (to_z-of_z w64 c.args.count c.ranges.count) at (c.in_ok-check_count.ensures.reads (clean_first c.least_hold.ensures.inside.stays clean) office).1))
+
+pub returns-in_err-found-clause-store : goal.returns-in_err-found-clause-store
+returns-in_err-found-clause-store g c clean office lies = absurd (lies.1 (rw (to_z-of_z w64 c.args.count c.ranges.count) at (c.in_ok-check_count.ensures.reads (clean_first c.least_hold.ensures.inside.stays clean) office).1))
+
+pub returns-in_err-hold-clause-store : goal.returns-in_err-hold-clause-store
+returns-in_err-hold-clause-store g c clean office lies = absurd (lies.1 (rw (to_z-of_z w64 c.args.count c.ranges.count) at (c.in_ok-check_count.ensures.reads (clean_first c.least_hold.ensures.inside.stays clean) office).1))

@@ -29,7 +29,4 @@ returns-in_default-clause-none g c clean office =
     (over.0, λ _. none_of c.in_ok-holds.holds.items _ over.1.1 first)
 
 pub returns-clause-none : goal.returns-clause-none
-returns-clause-none g c clean office =
-    let over = c.in_ok-holds.ensures.reads (clean_first c.told_hold.ensures.inside.stays clean) office in
-    let told = c.in_ok-told_hold.ensures.reads clean (office_still over.0 office) in
-    (told.0 ∙ over.0, λ none. absurd (none-some c.in-Some.least (sym none)))
+returns-clause-none g c clean office = ((returns-clause-reads g c clean office).0, λ none. absurd (none-some c.in-Some.least (sym none)))

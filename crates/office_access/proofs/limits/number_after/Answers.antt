@@ -1,21 +1,13 @@
-use Rattle.office_access.proofs.Lemmas.{rules, ◌≡◌, ℕ, ◌+◌, ◌<◌, ◌≤◌, Some, None, unwrap_or, sym, ap, ◌∙◌, arith, inl, inr, cases_Bool, ◌>>=◌, answer_if, Full, count_back}
+use Rattle.office_access.proofs.Lemmas.{rules, ◌≡◌, ℕ, ◌+◌, ◌<◌, ◌≤◌, Some, None, unwrap_or, sym, ap, ◌∙◌, arith, true, false, ◌>>=◌, answer_if, Full, count_back}
 use Rattle.std.specs.Prelude.{nat_le}
 use Rattle.std.proofs.lemmas.Bool.Decides.{nat_tests}
 use Rattle.office_access.proofs.limits.number_after.Goals as goal
 
 is_full : (count limit : ℕ) → limit ≤ count → Some Full ≡ answer_if (nat_le limit count) Full
-is_full count limit le =
-    elim (cases_Bool (nat_le limit count)) [
-      | inl over ↦ sym (ap (λ b. answer_if b Full) over)
-      | inr under ↦ absurd (grind (arith, nat_tests, under, le))
-    ]
+is_full count limit le = let over : nat_le limit count ≡ true = grind (arith, nat_tests, le) in sym (ap (λ b. answer_if b Full) over)
 
 has_room : (count limit : ℕ) → count < limit → None ≡ answer_if (nat_le limit count) Full
-has_room count limit lt =
-    elim (cases_Bool (nat_le limit count)) [
-      | inl over ↦ absurd (grind (arith, nat_tests, over, lt))
-      | inr under ↦ sym (ap (λ b. answer_if b Full) under)
-    ]
+has_room count limit lt = let under : nat_le limit count ≡ false = grind (arith, nat_tests, lt) in sym (ap (λ b. answer_if b Full) under)
 
 pub returns-then-limit-last-clause-full : goal.returns-then-limit-last-clause-full
 returns-then-limit-last-clause-full c =
