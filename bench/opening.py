@@ -12,8 +12,8 @@ import resource
 import time
 from statistics import median
 
-from trial_office import RUNS, main, opened, ours
-from shared.stores import SCHEMA, VERSION_3
+from trial_office import DEPOSITS, RUNS, main, opened, ours
+from shared.stores import EMPTIED, NEWEST, SCHEMA, VERSION_3, newest_of
 from stores import small_bag, stored
 
 TEXTS = "".join(f"{text};\n" for text in SCHEMA)
@@ -21,8 +21,6 @@ TEXTS_3 = "".join(f"{text};\n" for text in VERSION_3)
 INDEX = r"CREATE INDEX {} ON .*\n"
 CONTENT = r"content INTEGER NOT NULL REFERENCES content \(id\)"
 WHOLE_FILES = "(SELECT deposit, path, bytes AS content FROM base.file JOIN base.content ON id = content)"
-# The tables that have the rows of an older one, which hold none any more.
-SUCCESSORS = {"hold": "hold_4", "rule": "rule_5"}
 
 
 def version_1():
@@ -39,12 +37,13 @@ def layouts():
     """The texts of the tables, by what is other in them."""
     found = {"the tables of today": TEXTS, "version 3": TEXTS_3, "version 1": version_1()}
     for name, table in re.findall(r"CREATE INDEX (\w+) ON (\w+)", TEXTS):
-        if table not in SUCCESSORS:
+        if table not in EMPTIED:
             found[f"without {name}"] = re.sub(INDEX.format(name), "", TEXTS)
     found["without the index of accessions"] = TEXTS.replace(" UNIQUE", "")
     found["without the index of paths"] = TEXTS.replace(", PRIMARY KEY (deposit, path)", "")
     for column in ("class", "collection"):
-        found[f"with deposit_{column}"] = f"{TEXTS}CREATE INDEX deposit_{column} ON deposit ({column});\n"
+        name = f"{DEPOSITS}_{column}"
+        found[f"with {name}"] = f"{TEXTS}CREATE INDEX {name} ON {DEPOSITS} ({column});\n"
     return found
 
 
@@ -52,8 +51,9 @@ def rows_for(table, texts):
     """Where the base has the rows of a table of these texts."""
     if table == "file" and "content BLOB" in texts:
         return WHOLE_FILES
-    successor = SUCCESSORS.get(table, table)
-    return f"base.{table if successor in texts else successor}"
+    name = table.split("_")[0]
+    is_newest = newest_of(texts.splitlines())[name] == table
+    return f"base.{NEWEST[name] if is_newest else table}"
 
 
 def laid_out(base, name, texts):

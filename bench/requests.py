@@ -9,7 +9,7 @@ doesn't count the opening of the file, and nor does the other side. BESIDE=PROGR
 build of it instead of the statements. The arguments of `requests.py` name the cases that are run; with none,
 all are.
 """
-from trial_office import BESIDE, FILES, PUT_DEPOSIT
+from trial_office import BESIDE, DEPOSITS, FILES, PUT_DEPOSIT
 from trial_office import copy, filled, main, opened, ours, own_files, put_file, say, turns, watched
 from shared.places import TRIAL_OFFICE
 from statements import scattered, theirs
@@ -166,7 +166,7 @@ def peak_of(folder, name, count):
     connection = opened(file)
     connection.execute("DELETE FROM file")
     connection.execute("DELETE FROM content")
-    connection.execute("DELETE FROM deposit")
+    connection.execute(f"DELETE FROM {DEPOSITS}")
     connection.execute(PUT_DEPOSIT, (1, "2026-0000001", "tax", "y10", 20454, 20500, count, count * each, None, 0))
     # No two have the same content, which would be kept once.
     records = [(f"data/record{n:04}", b"%04d" % n + b"r" * (each - 4)) for n in range(count)]

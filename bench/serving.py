@@ -12,14 +12,16 @@ from datetime import date, timedelta
 from http.server import BaseHTTPRequestHandler, HTTPServer
 from urllib.parse import parse_qs, urlsplit
 
-from trial_office import PUT_DEPOSIT, opened, put_files
+from trial_office import DEPOSITS, HOLDS, PUT_DEPOSIT, opened, put_files
+from shared.stores import NEWEST
 
 BEGINNING = date(1970, 1, 1)
 LIVE_HOLDS = (
-    "SELECT count(*) FROM hold_4 WHERE (deposit = ?1 OR collection = ?2 OR class = ?3) AND released IS NULL"
+    f"SELECT count(*) FROM {HOLDS} WHERE (deposit = ?1 OR collection = ?2 OR class = ?3) AND released IS NULL"
 )
 RULES = (
-    "SELECT effect, role, action, collection, class FROM rule_5 WHERE first <= ?1 AND last >= ?1 ORDER BY place"
+    f"SELECT effect, role, action, collection, class FROM {NEWEST['rule']}"
+    " WHERE first <= ?1 AND last >= ?1 ORDER BY place"
 )
 
 
@@ -100,7 +102,7 @@ class Desk(BaseHTTPRequestHandler):
     def do_GET(self):
         number = int(self.path.rsplit("/", 1)[1])
         self.rows("BEGIN")
-        row = self.rows("SELECT * FROM deposit WHERE number = ?1", number)
+        row = self.rows(f"SELECT * FROM {DEPOSITS} WHERE number = ?1", number)
         number, accession, collection, retention_class, closed, deposited, files, count, *_ = row[0]
         may = self.may(self.headers["Depot-Caller"], "record", collection, retention_class)
         years = self.rows("SELECT years FROM class WHERE name = ?1", retention_class)[0][0]
@@ -132,10 +134,10 @@ class Desk(BaseHTTPRequestHandler):
             self.rows("SELECT name FROM collection WHERE name = ?1", collection)
             and (years := self.rows("SELECT years FROM class WHERE name = ?1", retention_class))
             and self.may(self.headers["Depot-Caller"], "deposit", collection, retention_class)
-            and not self.rows("SELECT number FROM deposit WHERE accession = ?1", asked["accession"])
+            and not self.rows(f"SELECT number FROM {DEPOSITS} WHERE accession = ?1", asked["accession"])
         )
         most = self.rows("SELECT max_deposits FROM office WHERE id = 1")[0][0]
-        last = self.rows("SELECT number FROM deposit ORDER BY number DESC LIMIT 1")
+        last = self.rows(f"SELECT number FROM {DEPOSITS} ORDER BY number DESC LIMIT 1")
         number = last[0][0] + 1 if last else 1
         if not known or number > most:
             self.rows("ROLLBACK")

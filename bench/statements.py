@@ -2,45 +2,46 @@
 import itertools
 import time
 
-from trial_office import CONTENT_ID, DUE, FILES, PUT_HOLD, SET_DUES
+from trial_office import CONTENT_ID, DEPOSITS, DUE, FILES, HOLDS, PUT_HOLD, SET_DUES
 from trial_office import due_day, intact, opened, put_files, put_row
 from shared.comparing import fail
 from shared.days import FIRST, LAST
+from shared.stores import NEWEST
 
-DEPOSIT = "SELECT number, accession, collection, class, closed, deposited, files, bytes, gone FROM deposit"
+DEPOSIT = f"SELECT number, accession, collection, class, closed, deposited, files, bytes, gone FROM {DEPOSITS}"
 DEPOSITS_AND_DUES = DEPOSIT.replace("gone", "gone, due, holds") + " ORDER BY number"
-RULE = "SELECT place, effect, role, action, collection, class, first, last FROM rule_5"
+RULE = f"SELECT place, effect, role, action, collection, class, first, last FROM {NEWEST['rule']}"
 RULES = RULE + " ORDER BY place"
 MATCH_RULE = RULE + (
     " WHERE collection IN ('*', ?3) AND class IN ('*', ?4) AND role IN ('*', ?1) AND action IN ('*', ?2)"
     " AND first <= ?5 AND last >= ?5 ORDER BY place LIMIT 1"
 )
-DUE_ROW = "SELECT number, due, holds FROM deposit WHERE number = ?1"
+DUE_ROW = f"SELECT number, due, holds FROM {DEPOSITS} WHERE number = ?1"
 DUE_ROWS = (
-    "SELECT number, collection, class, due FROM deposit WHERE gone IS NULL AND holds = 0 AND due >= ?2"
+    f"SELECT number, collection, class, due FROM {DEPOSITS} WHERE gone IS NULL AND holds = 0 AND due >= ?2"
     " AND due <= ?1 ORDER BY number"
 )
 ADD_HOLDS = (
-    "UPDATE deposit SET holds = CASE WHEN typeof(holds + ?2) = 'integer' THEN holds + ?2 END"
+    f"UPDATE {DEPOSITS} SET holds = CASE WHEN typeof(holds + ?2) = 'integer' THEN holds + ?2 END"
     " WHERE collection = ?1"
 )
-HOLD = "SELECT number, deposit, collection, class, matter, placed, released FROM hold_4"
+HOLD = f"SELECT number, deposit, collection, class, matter, placed, released FROM {HOLDS}"
 HOLDS_ON_DEPOSIT = (
-    "SELECT number FROM hold_4 WHERE deposit = ?1 AND released IS NULL ORDER BY number"
+    f"SELECT number FROM {HOLDS} WHERE deposit = ?1 AND released IS NULL ORDER BY number"
 )
 HOLDS_ON_COLLECTION = (
-    "SELECT number FROM hold_4 WHERE collection = ?2 AND deposit IS NOT ?1 AND released IS NULL"
+    f"SELECT number FROM {HOLDS} WHERE collection = ?2 AND deposit IS NOT ?1 AND released IS NULL"
     " ORDER BY number"
 )
 HOLDS_ON_CLASS = (
-    "SELECT number FROM hold_4 WHERE class = ?3 AND deposit IS NOT ?1 AND collection IS NOT ?2"
+    f"SELECT number FROM {HOLDS} WHERE class = ?3 AND deposit IS NOT ?1 AND collection IS NOT ?2"
     " AND released IS NULL ORDER BY number"
 )
 RELEASED_ON_DEPOSIT = (
-    "SELECT number FROM hold_4 WHERE deposit = ?1 AND (released < ?2 OR released > ?3) LIMIT 1"
+    f"SELECT number FROM {HOLDS} WHERE deposit = ?1 AND (released < ?2 OR released > ?3) LIMIT 1"
 )
 RELEASED_ON_COLLECTION = (
-    "SELECT number FROM hold_4 WHERE collection = ?1 AND (released < ?2 OR released > ?3) LIMIT 1"
+    f"SELECT number FROM {HOLDS} WHERE collection = ?1 AND (released < ?2 OR released > ?3) LIMIT 1"
 )
 RELEASED_ON_CLASS = RELEASED_ON_COLLECTION.replace("collection", "class")
 LIMITS = "SELECT max_deposits, max_holds FROM office WHERE id = ?1"
@@ -104,7 +105,7 @@ class Statements:
 
     def next_hold(self):
         self.rows(LIMITS, 1)
-        return (self.rows("SELECT number FROM hold_4 ORDER BY number DESC LIMIT 1") or [(0,)])[0][0] + 1
+        return (self.rows(f"SELECT number FROM {HOLDS} ORDER BY number DESC LIMIT 1") or [(0,)])[0][0] + 1
 
     def deposit(self, number, files=FILES):
         self.rows("SELECT name FROM collection WHERE name = ?1", "tax")
@@ -112,7 +113,7 @@ class Statements:
         self.asker("deposit")
         self.rows(DEPOSIT + " WHERE accession = ?1", f"2026-{number:07}")
         self.rows(LIMITS, 1)
-        self.rows("SELECT number FROM deposit ORDER BY number DESC LIMIT 1")
+        self.rows(f"SELECT number FROM {DEPOSITS} ORDER BY number DESC LIMIT 1")
         put_row(self.connection, number, DUE, len(self.holds(number, "tax", "y10")))
         put_files(self.connection, number, files)
 
@@ -161,7 +162,7 @@ class Statements:
         years = 10 + number % 2
         self.asker("class", collection="")
         self.rows("UPDATE class SET years = ?2 WHERE name = ?1", "y10", years)
-        rows = self.rows("SELECT number, closed FROM deposit WHERE class = ?1 ORDER BY number", "y10")
+        rows = self.rows(f"SELECT number, closed FROM {DEPOSITS} WHERE class = ?1 ORDER BY number", "y10")
         for first, last, closed in runs(rows):
             self.rows(SET_DUES, first, last, due_day(closed, years))
 

@@ -4,13 +4,13 @@ import pathlib
 import tomllib
 from collections import Counter
 
-from trial_office import PUT_CONTENT, PUT_FILE, PUT_HOLD, RECORD, SET_HOLDS
+from trial_office import DEPOSITS, PUT_CONTENT, PUT_FILE, PUT_HOLD, RECORD
 from trial_office import due_day, opened, ours, own_files
 from shared.days import FIRST, LAST
 from shared.histories import holds_of, rules_of
 from shared.places import POLICY
 from shared.policies import allow, deny
-from shared.stores import VERSION_3, VERSION_4
+from shared.stores import NEWEST, VERSION_3, VERSION_4, newest_of
 
 # The policy of the examples, by which `anna` may do all but dispose in the collection `tax`.
 SMALL = tomllib.loads(POLICY.read_text())
@@ -27,10 +27,6 @@ def naming(collections):
 # another action.
 LONG = naming([])
 ROLES = SMALL | {"rule": [deny(f"r{n}", "audit") for n in range(1, 200)] + [allow("archivist", "*")]}
-PUT_DEPOSIT = (
-    "INSERT INTO deposit (number, accession, collection, class, closed, deposited, files, bytes, gone,"
-    " due, holds) VALUES (?1, ?2, ?3, ?4, ?5, 20500, 1, ?6, ?7, ?8, ?9)"
-)
 YEARS = 10
 USUAL = {"collection": "maps", "class": "y10", "closed": 20_454, "gone": None, "held": False}
 
@@ -38,11 +34,11 @@ USUAL = {"collection": "maps", "class": "y10", "closed": 20_454, "gone": None, "
 def put_policy(connection, policy):
     """A policy in the place of the one that is there."""
     connection.execute("DELETE FROM caller")
-    connection.execute("DELETE FROM rule_5")
+    connection.execute(f"DELETE FROM {NEWEST['rule']}")
     connection.executemany("INSERT INTO caller (name, role) VALUES (?1, ?2)", policy["callers"].items())
     for place, it in enumerate(policy["rule"], 1):
         row = (place, it["effect"] == "allow", it["role"], it["action"], it["collection"], it["class"], FIRST, LAST)
-        connection.execute("INSERT INTO rule_5 VALUES (?1, ?2, ?3, ?4, ?5, ?6, ?7, ?8)", row)
+        connection.execute(f"INSERT INTO {NEWEST['rule']} VALUES (?1, ?2, ?3, ?4, ?5, ?6, ?7, ?8)", row)
 
 
 BAGS = [own_files(number) for number in range(1_000)]
@@ -73,15 +69,19 @@ def put_contents(connection, bags):
     return {content: at for at, content in enumerate(contents, 1)}
 
 
-def put_deposits(connection, deposits, bag):
-    """Deposits, by number what is special of each, into an office that has none."""
+def put_deposits(connection, table, deposits, bag):
+    """Deposits, by number what is special of each, into the table of an office that has none."""
     connection.executemany(
         "INSERT OR IGNORE INTO collection VALUES (?1)", {(it["collection"],) for it in deposits.values()}
     )
     connection.executemany(
         "INSERT OR IGNORE INTO class VALUES (?1, ?2)", {(it["class"], YEARS) for it in deposits.values()}
     )
-    connection.executemany(PUT_DEPOSIT, (deposit_row(n, it, bag(n)) for n, it in deposits.items()))
+    connection.executemany(
+        f"INSERT INTO {table} (number, accession, collection, class, closed, deposited, files, bytes, gone, due, holds)"
+        " VALUES (?1, ?2, ?3, ?4, ?5, 20500, 1, ?6, ?7, ?8, ?9)",
+        (deposit_row(n, it, bag(n)) for n, it in deposits.items()),
+    )
     kept = [n for n, it in deposits.items() if it["gone"] is None]
     ids = put_contents(connection, map(bag, kept))
     connection.executemany(PUT_FILE, ((n, path, ids[content]) for n in kept for path, content in bag(n)))
@@ -104,7 +104,7 @@ def stored(folder, name, rows, of=lambda number: {}, policy=SMALL, bag=shared_ba
     connection.execute("BEGIN")
     put_policy(connection, policy)
     deposits = {number: USUAL | of(number) for number in range(1, rows + 1)}
-    put_deposits(connection, deposits, bag)
+    put_deposits(connection, DEPOSITS, deposits, bag)
     put_holds(connection, deposits)
     connection.execute("COMMIT")
     connection.execute("PRAGMA wal_checkpoint(TRUNCATE)").fetchall()
@@ -124,19 +124,22 @@ def stored_before(folder, version, holds, rows=100_000):
     live = Counter(it[1:4] for it in held if it[6] is None)
     connection = opened(file)
     connection.execute("BEGIN")
-    for text in VERSION_3 if version == 3 else VERSION_4:
+    texts = VERSION_3 if version == 3 else VERSION_4
+    table = newest_of(texts)["deposit"]
+    for text in texts:
         connection.execute(text)
     connection.execute("INSERT INTO office VALUES (1, ?1, 1000000, 1000000)", (version,))
     connection.executemany("INSERT INTO caller VALUES (?1, ?2)", SMALL["callers"].items())
     connection.executemany("INSERT INTO rule VALUES (?1, ?2, ?3, ?4, ?5, ?6)", rules_of(200))
-    put_deposits(connection, deposits, shared_bag)
+    put_deposits(connection, table, deposits, shared_bag)
     if version == 3:
         connection.executemany("INSERT INTO hold VALUES (?1, ?2, ?3, ?4, ?5, ?6)", (it[:3] + it[4:] for it in held))
     else:
         connection.executemany("INSERT INTO hold_4 VALUES (?1, ?2, ?3, ?4, ?5, ?6, ?7)", held)
     for number, it in deposits.items():
         over = (number, None, None), (None, it["collection"], None), (None, None, it["class"])
-        connection.execute(SET_HOLDS, (number, sum(live[target] for target in over)))
+        count = sum(live[target] for target in over)
+        connection.execute(f"UPDATE {table} SET holds = ?2 WHERE number = ?1", (number, count))
     connection.execute("COMMIT")
     connection.execute("PRAGMA wal_checkpoint(TRUNCATE)").fetchall()
     connection.close()

@@ -9,14 +9,14 @@ side. The arguments of `tables.py` name the cases that are run; with none, all a
 """
 import time
 
-from trial_office import copy, file_of, filled, main, opened, ours, put_bag, say, turns
+from trial_office import DEPOSITS, copy, file_of, filled, main, opened, ours, put_bag, say, turns
 from shared.comparing import fail
 
 
 def their_deposits(file, count):
     """Microseconds of this number of deposits through Python."""
     connection = opened(file)
-    last = connection.execute("SELECT number FROM deposit ORDER BY number DESC LIMIT 1").fetchone()[0]
+    last = connection.execute(f"SELECT number FROM {DEPOSITS} ORDER BY number DESC LIMIT 1").fetchone()[0]
     begin = time.perf_counter()
     for number in range(last + 1, last + count + 1):
         connection.execute("BEGIN")

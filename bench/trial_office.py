@@ -16,34 +16,36 @@ from shared import days
 from shared.comparing import fail
 from shared.forms import bag
 from shared.places import TRIAL_OFFICE, needs_built
+from shared.stores import NEWEST
 from turns import chosen, say_machine, spreads
 from turns import turns as taking_turns
 
 # Another build of the program that is measured, where the environment names one: it takes the other side.
 BESIDE = os.environ.get("BESIDE")
 RUNS = int(os.environ.get("RUNS", "7"))
+DEPOSITS, HOLDS = NEWEST["deposit"], NEWEST["hold"]
 PUT_DEPOSIT = (
-    "INSERT INTO deposit (number, accession, collection, class, closed, deposited, files, bytes, due, holds)"
+    f"INSERT INTO {DEPOSITS} (number, accession, collection, class, closed, deposited, files, bytes, due, holds)"
     " VALUES (?1, ?2, ?3, ?4, ?5, ?6, ?7, ?8, ?9, ?10)"
 )
-SET_DUES = "UPDATE deposit SET due = ?3 WHERE number BETWEEN ?1 AND ?2"
-SET_HOLDS = "UPDATE deposit SET holds = ?2 WHERE number = ?1"
+SET_DUES = f"UPDATE {DEPOSITS} SET due = ?3 WHERE number BETWEEN ?1 AND ?2"
+SET_HOLDS = f"UPDATE {DEPOSITS} SET holds = ?2 WHERE number = ?1"
 # Each deposit's count of the live holds that cover it.
 COUNT_HOLDS = (
-    "UPDATE deposit SET holds ="
-    " (SELECT count(*) FROM hold_4 AS hold WHERE hold.deposit = deposit.number AND released IS NULL)"
-    " + (SELECT count(*) FROM hold_4 AS hold WHERE hold.collection = deposit.collection AND released IS NULL)"
-    " + (SELECT count(*) FROM hold_4 AS hold WHERE hold.class = deposit.class AND released IS NULL)"
+    f"UPDATE {DEPOSITS} AS it SET holds ="
+    f" (SELECT count(*) FROM {HOLDS} AS hold WHERE hold.deposit = it.number AND released IS NULL)"
+    f" + (SELECT count(*) FROM {HOLDS} AS hold WHERE hold.collection = it.collection AND released IS NULL)"
+    f" + (SELECT count(*) FROM {HOLDS} AS hold WHERE hold.class = it.class AND released IS NULL)"
 )
 CONTENT_ALIKE = "SELECT id FROM content WHERE mark = ?1 AND bytes = ?2 ORDER BY id"
 PUT_CONTENT = "INSERT INTO content (mark, size, bytes) VALUES (?1, ?2, ?3)"
 LAST_CONTENT = "SELECT id FROM content ORDER BY id DESC LIMIT 1"
 PUT_FILE = "INSERT INTO file (deposit, path, content) VALUES (?1, ?2, ?3)"
 PUT_HOLD = (
-    "INSERT INTO hold_4 (number, deposit, collection, class, matter, placed)"
+    f"INSERT INTO {HOLDS} (number, deposit, collection, class, matter, placed)"
     " VALUES (?1, ?2, ?3, ?4, ?5, ?6)"
 )
-END_HOLD = "UPDATE hold_4 SET released = ?2 WHERE number = ?1"
+END_HOLD = f"UPDATE {HOLDS} SET released = ?2 WHERE number = ?1"
 CONTENT_ID = "SELECT content FROM file WHERE deposit = ?1 AND path = ?2"
 CONTENT_OF = "SELECT mark, bytes FROM content WHERE id = ?1"
 

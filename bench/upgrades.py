@@ -1,5 +1,5 @@
 #!/usr/bin/env python3
-"""Speed and memory of an upgrade: the tables of version 3 or 4 become those of version 5.
+"""Speed and memory of an upgrade: the tables of version 3 or 4 become the newest.
 
 `third` and `fourth` are the upgrade of an office of 100,000 deposits, 10,000 holds and 200 rules from that version,
 beside the same SQL statements in one transaction through Python's sqlite3 (WAL, synchronous FULL, foreign keys on): the
@@ -19,7 +19,7 @@ from statistics import median
 from trial_office import copy, main, opened, say, turns, watched
 from shared.days import FIRST, LAST
 from shared.places import TRIAL_OFFICE
-from shared.stores import SCHEMA, VERSION_3, VERSION_4
+from shared.stores import SCHEMA, VERSION, VERSION_3, VERSION_4
 from stores import stored_before
 from turns import ratio, spreads
 
@@ -79,7 +79,7 @@ def theirs(file, version):
     connection.execute(LOOK).fetchall()
     for text in MOVES[version]:
         connection.execute(text)
-    connection.execute(SET_VERSION, (1, 5))
+    connection.execute(SET_VERSION, (1, VERSION))
     connection.execute("COMMIT")
     took = time.perf_counter() - begin
     connection.close()

@@ -10,7 +10,7 @@ questions are asked of copies of offices, after random sessions:
 - an accession, with the record, or with the refusal of another deposit of that name;
 - what is due, with the due list and the records.
 
-Some offices have versions 3 and 4, and are upgraded. Some deposits have the first and the last days that there are.
+Some offices have older versions, and are upgraded. Some deposits have the first and the last days that there are.
 
 Needs sqlite3. Arguments: the program; by default that of the variable DEPOT, or the built one.
 """
@@ -32,6 +32,7 @@ from shared import offices
 from shared.comparing import compare, compared, fail
 from shared.places import TOP, depot
 from shared.requests import deposit_target, parts, records_in
+from shared.stores import VERSION
 
 QUESTIONS = TOP / "examples/asking.sql"
 NAMES = "callers", "rules", "classes", "collections", "holds", "destroyed", "accession", "due"
@@ -99,7 +100,7 @@ class Office:
         """The session. Gives the version of the tables that are left."""
         self.requests = sessions.fill(seed, version, DEPOSITS, self.folder / "contents") + first_and_last()
         self.answers = self.ask(self.requests)
-        if version < 5:
+        if version < VERSION:
             words = [sys.executable, TOP / "trials/older.py", self.store]
             made = subprocess.run(words, check=True, capture_output=True, text=True, timeout=60).stdout
             return int(made.split()[0])
@@ -326,11 +327,12 @@ def main():
     total = {}
     with tempfile.TemporaryDirectory() as room:
         for seed in SEEDS:
-            counts = look(program, pathlib.Path(room), seed, {3: 3, 4: 4}.get(seed % 5, 5))
+            version = seed % VERSION
+            counts = look(program, pathlib.Path(room), seed, version if version > 2 else VERSION)
             total = {name: total.get(name, 0) + counts.get(name, 0) for name in total | counts}
         with tempfile.TemporaryDirectory() as folder:
             page_is(pathlib.Path(room) / "office.db", pathlib.Path(folder))
-    for name in total.keys() | {f"offices of version {it}" for it in (3, 4, 5)}:
+    for name in total.keys() | {f"offices of version {it}" for it in range(3, VERSION + 1)}:
         if not total.get(name):
             fail(f"there are no {name}")
     print(f"asking: {compared()} cases: what sqlite3 says of copies of {len(SEEDS)} offices is what the offices say: "

@@ -27,6 +27,11 @@ compact=$top/examples/systemd/compact
 sessions=$top/trials/sessions.py
 shopt -s extglob
 section="Destroyed bytes"
+# The newest version, and its tables of deposits and of holds.
+tables=$(PYTHONPATH=$top/trials python3 -c 'from shared.stores import NEWEST, VERSION
+print(VERSION, NEWEST["deposit"], NEWEST["hold"])')
+read -r newest DEPOSITS HOLDS <<<"$tables"
+export DEPOSITS HOLDS
 
 # The files of a folder that a call may leave changed.
 files() {
@@ -41,7 +46,7 @@ make() {
     python3 "$sessions" policy "$2" >"$room/policy.toml"
     "$program" policy "$1/office.db" "$room/policy.toml" >/dev/null
     python3 "$sessions" fill "$4" "$2" "$3" "$room/contents" | "$program" replay "$1/office.db" >/dev/null
-    if [ "$2" -lt 5 ]; then
+    if [ "$2" -lt "$newest" ]; then
         compare "tables of version $2" "$2" "$(python3 "$top/trials/older.py" "$1/office.db" | cut -d ' ' -f 1)"
     fi
 }
@@ -77,7 +82,7 @@ run() {
     echo "$status; $(paste -sd ' ' "$room/said")$(paste -sd ' ' "$room/told")"
 }
 
-for version in 5 4 3; do
+for version in $(seq "$newest" -1 3); do
     # (a name that has to be quoted in each of three ways)
     folder="$room/it's 50% of a?b#c $version"
     make "$folder" "$version" 60 "$version"
@@ -95,7 +100,7 @@ for version in 5 4 3; do
     said=$(run "$folder/office.db" anna)
     now=$(stat -c %s "$folder/office.db")
     kept=$(sqlite3 "file:$(sed 's/%/%25/; s/?/%3f/; s/#/%23/' <<<"$folder")/office.db?immutable=1" \
-        'SELECT count(*) FROM deposit WHERE gone IS NULL')
+        "SELECT count(*) FROM $DEPOSITS WHERE gone IS NULL")
     # (a store of an older version has grown by its upgrade before it is made anew)
     compare "version $version: it says" \
         "0; $folder/office.db: N bytes before, $now bytes after; $kept deposits are audited as before" \
@@ -120,8 +125,8 @@ answers "$folder" "$room/reads" | cmp - "$room/before"
 # ---- what is refused, and leaves the office as it was
 
 rm -rf "$room/it's"*
-make "$room/large" 5 60 5
-make "$room/first" 5 14 14
+make "$room/large" "$newest" 60 5
+make "$room/first" "$newest" 14 14
 python3 "$sessions" reads 14 12 >"$room/reads"
 answers "$room/first" "$room/reads" >"$room/before"
 store=$room/office/office.db
@@ -230,16 +235,16 @@ case $WRONG in
 row) "$REAL" new.db "DELETE FROM caller WHERE rowid = (SELECT max(rowid) FROM caller)" ;;
 more) "$REAL" new.db "INSERT INTO collection VALUES ('more')" ;;
 rowid) "$REAL" new.db "UPDATE collection SET rowid = rowid + 1 WHERE rowid = (SELECT max(rowid) FROM collection)" ;;
-key) "$REAL" new.db "UPDATE hold_4 SET number = 1000 WHERE number = (SELECT max(number) FROM hold_4)" ;;
-value) "$REAL" new.db "UPDATE hold_4 SET matter = matter || ' ' WHERE number = 1" ;;
+key) "$REAL" new.db "UPDATE $HOLDS SET number = 1000 WHERE number = (SELECT max(number) FROM $HOLDS)" ;;
+value) "$REAL" new.db "UPDATE $HOLDS SET matter = matter || ' ' WHERE number = 1" ;;
 null)
-    "$REAL" new.db "UPDATE deposit SET gone = 0 WHERE number =
-        (SELECT max(number) FROM deposit WHERE gone IS NULL)"
+    "$REAL" new.db "UPDATE $DEPOSITS SET gone = 0 WHERE number =
+        (SELECT max(number) FROM $DEPOSITS WHERE gone IS NULL)"
     ;;
 content | audits)
     "$REAL" new.db "UPDATE content SET bytes = CAST(substr(bytes, 1, size - 1) || 'x' AS BLOB) WHERE size > 100"
     ;;
-text) loose deposit "UPDATE deposit SET accession = CAST(accession AS BLOB) WHERE number = 1" ;;
+text) loose "$DEPOSITS" "UPDATE $DEPOSITS SET accession = CAST(accession AS BLOB) WHERE number = 1" ;;
 number) loose office "UPDATE office SET max_holds = CAST('1000000' AS BLOB)" ;;
 sql)
     loose class "SELECT 1"
@@ -248,7 +253,7 @@ sql)
     ;;
 index)
     "$REAL" new.db "PRAGMA writable_schema = ON; UPDATE sqlite_schema SET rootpage =
-        (SELECT rootpage FROM sqlite_schema WHERE name = 'deposit_due') WHERE name = 'content_mark'"
+        (SELECT rootpage FROM sqlite_schema WHERE name = '${DEPOSITS}_due') WHERE name = 'content_mark'"
     ;;
 user) "$REAL" new.db "PRAGMA user_version = 7" ;;
 page) rm new.db; { echo "PRAGMA page_size = 8192;"; "$REAL" "file:$OFFICE?immutable=1" .dump; } | "$REAL" new.db ;;
@@ -260,15 +265,15 @@ rm -f "$store-wal"
 while read -r wrong has; do
     refused "a wrong copy: $wrong" "1; compact: the new file has $has; the old one stays" \
         "$(WRONG=$wrong PATH=$room/stand:$PATH run "$store" anna | sed 's/a fault: .*; the/a fault; the/')"
-done <<'END'
+done <<END
 row other rows in the table caller
 more other rows in the table collection
 rowid other rows in the table collection
-key other rows in the table hold_4
-value other rows in the table hold_4
-null other rows in the table deposit
+key other rows in the table $HOLDS
+value other rows in the table $HOLDS
+null other rows in the table $DEPOSITS
 content other rows in the table content
-text other rows in the table deposit
+text other rows in the table $DEPOSITS
 number other rows in the table office
 order another schema
 sql another schema
@@ -414,7 +419,7 @@ kill_office
 compare "an office that was killed" 0 "$(run "$store" anna | cut -d ';' -f 1)"
 compare "the hold that it took" "$number Case 8" \
     "$(sqlite3 -readonly "file:$store?immutable=1" \
-        "SELECT printf('{\"hold\":%d} %s', number, matter) FROM hold_4 ORDER BY number DESC LIMIT 1")"
+        "SELECT printf('{\"hold\":%d} %s', number, matter) FROM $HOLDS ORDER BY number DESC LIMIT 1")"
 
 # ---- its unit
 

@@ -20,11 +20,18 @@ make_room
 first=${1:-1}
 last=${2:-100}
 seeds=$((last - first + 1))
+newest=$(PYTHONPATH=$top/trials python3 -c 'from shared.stores import VERSION; print(VERSION)')
+mapfile -t older < <(seq 3 $((newest - 1)))
 
 # What is counted of all seeds (`all`), and of the requests that follow an upgrade (`on`), as `trial_office` prints it.
 counts=(accepted refused held released listed asked denied)
-declare -A all on upgraded=([3]=0 [4]=0 [5]=0) holds=([3]=0 [4]=0 [5]=0) freed=([3]=0 [4]=0 [5]=0)
-declare -A bags=([3]=0 [4]=0 [5]=0)
+declare -A all on upgraded holds freed bags
+for version in "${older[@]}" "$newest"; do
+    upgraded[$version]=0
+    holds[$version]=0
+    freed[$version]=0
+    bags[$version]=0
+done
 for name in "${counts[@]}"; do
     all[$name]=0
     on[$name]=0
@@ -63,7 +70,7 @@ for seed in $(seq "$first" "$last"); do
     holds[$version]=$((holds[$version] + placed))
     freed[$version]=$((freed[$version] + released))
     bags[$version]=$((bags[$version] + kept))
-    if [ "$version" -ne 5 ]; then
+    if [ "$version" -ne "$newest" ]; then
         add on "$said"
     fi
 done
@@ -77,11 +84,11 @@ about() {
 }
 
 echo "seeds $first to $last: the same answers, ${all[accepted]} accepted and ${all[refused]} refused: $(about all)"
-echo "upgraded in the middle: ${upgraded[3]} from version 3, ${upgraded[4]} from version 4, ${upgraded[5]} were left;" \
-    "then ${on[accepted]} accepted and ${on[refused]} refused: $(about on)"
-for version in 3 4; do
-    echo "of version $version: ${bags[$version]} deposits, ${holds[$version]} holds, ${freed[$version]} of them" \
-        "released"
+echo "upgraded in the middle: $((seeds - upgraded[$newest])), and ${upgraded[$newest]} were left; then" \
+    "${on[accepted]} accepted and ${on[refused]} refused: $(about on)"
+for version in "${older[@]}"; do
+    echo "${upgraded[$version]} from version $version: ${bags[$version]} deposits, ${holds[$version]} holds," \
+        "${freed[$version]} of them released"
 done
 
 # Over 100 seeds the number is not below the least: `wants NUMBER LEAST WHAT`.
@@ -90,10 +97,9 @@ wants() {
         fail "$1 $3, and at least $2 are wanted"
     fi
 }
-wants $((upgraded[3] + upgraded[4])) 50 "seeds were upgraded in the middle"
-wants "${upgraded[3]}" 12 "seeds were upgraded from version 3"
-wants "${upgraded[4]}" 12 "seeds were upgraded from version 4"
-for version in 3 4; do
+wants $((seeds - upgraded[$newest])) 50 "seeds were upgraded in the middle"
+for version in "${older[@]}"; do
+    wants "${upgraded[$version]}" 12 "seeds were upgraded from version $version"
     wants "${bags[$version]}" 30 "deposits were upgraded from version $version"
     wants "${holds[$version]}" 30 "holds were upgraded from version $version"
     wants "${freed[$version]}" 5 "released holds were upgraded from version $version"

@@ -27,6 +27,7 @@ from shared import offices
 from shared.comparing import compare, compared, fail
 from shared.days import date
 from shared.forms import bag, files_below, form, lay
+from shared.stores import NEWEST
 
 # --- Bags ---
 
@@ -187,7 +188,7 @@ def tables(export, copy, office):
 
 def destroyed(export, store, office):
     """The register of destroyed deposits has the rows of the table, and the office says of each that it is gone."""
-    gone = list(store.execute("SELECT * FROM deposit WHERE gone IS NOT NULL ORDER BY number"))
+    gone = list(store.execute(f"SELECT * FROM {NEWEST['deposit']} WHERE gone IS NOT NULL ORDER BY number"))
     rows = register(export, "destroyed.csv")
     compare("the destroyed", [row["number"] for row in gone], [int(row["deposit"]) for row in rows])
     compare("that some are", True, len(gone) >= 2)
@@ -204,7 +205,7 @@ def all_holds(export, store, office):
     """The register of all holds has the rows of the table, and the live ones are those of the office's deposits."""
     rows = register(export, "all_holds.csv")
     holds = []
-    for row in store.execute("SELECT * FROM hold_4 ORDER BY number"):
+    for row in store.execute(f"SELECT * FROM {NEWEST['hold']} ORDER BY number"):
         on = next(key for key in ("deposit", "collection", "class") if row[key] is not None)
         days = {"placed": day(row["placed"]), "released": day(row["released"])}
         holds.append({"hold": str(row["number"]), "on": on, "name": str(row[on]), "matter": row["matter"], **days})
@@ -287,8 +288,10 @@ def valid(export):
 def rot(copy, accession):
     store = sqlite3.connect(copy)
     number, content = store.execute(
-        "SELECT content.id, content.bytes FROM content, file, deposit WHERE content.id = file.content"
-        " AND file.deposit = deposit.number AND accession = ? AND path LIKE 'data/%'", (accession,)).fetchone()
+        f"SELECT content.id, content.bytes FROM content, file, {NEWEST['deposit']} AS it"
+        " WHERE content.id = file.content AND file.deposit = it.number AND accession = ? AND path LIKE 'data/%'",
+        (accession,),
+    ).fetchone()
     store.execute("UPDATE content SET bytes = ? WHERE id = ?", (bytes([content[0] ^ 1]) + content[1:], number))
     store.commit()
     compare("the log is folded", 0, store.execute("PRAGMA wal_checkpoint(TRUNCATE)").fetchone()[0])

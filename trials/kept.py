@@ -6,7 +6,7 @@
   such a deposit has the number and the bytes of payload files that its row says, and no other deposit has files;
 - each deposit, destroyed or not, has the due day of its closing day and of its class's years, and the number of the
   live holds on it, on its collection and on its class;
-- the version is 5, and the tables that older versions have for holds and rules are empty.
+- the version is the newest, and the tables of older ones in whose place it has others are empty.
 
 Prints the numbers of offices, deposits, contents and files, and how many files share a content.
 
@@ -20,6 +20,7 @@ import sys
 
 from shared.comparing import fail
 from shared.days import due_day
+from shared.stores import EMPTIED, NEWEST, VERSION
 
 
 def faults_of_contents(base):
@@ -44,7 +45,7 @@ def faults_of_files(base):
     contents = "SELECT deposit, path, bytes FROM file JOIN content ON content.id = file.content"
     for deposit, path, content in base.execute(contents):
         found[deposit].append((path, len(content)))
-    for number, files, size, gone in base.execute("SELECT number, files, bytes, gone FROM deposit"):
+    for number, files, size, gone in base.execute(f"SELECT number, files, bytes, gone FROM {NEWEST['deposit']}"):
         payload = [length for path, length in found[number] if path.startswith("data/")]
         if gone is not None and found[number]:
             yield f"deposit {number} is destroyed, and has files"
@@ -59,8 +60,9 @@ def faults_of_files(base):
 def faults_of_deposits(base):
     """What is wrong with due days and counts of holds."""
     years = dict(base.execute("SELECT name, years FROM class"))
-    holds = base.execute("SELECT deposit, collection, class FROM hold_4 WHERE released IS NULL").fetchall()
-    rows = base.execute("SELECT number, collection, class, closed, due, holds FROM deposit")
+    live = f"SELECT deposit, collection, class FROM {NEWEST['hold']} WHERE released IS NULL"
+    holds = base.execute(live).fetchall()
+    rows = base.execute(f"SELECT number, collection, class, closed, due, holds FROM {NEWEST['deposit']}")
     for number, collection, name, closed, due, count in rows:
         wanted = due_day(closed, years[name])
         covering = sum(on == number or over == collection or of == name for on, over, of in holds)
@@ -73,9 +75,9 @@ def faults_of_deposits(base):
 def faults_of_versions(base):
     """What is wrong with the version, and with the tables of older ones."""
     version, = base.execute("SELECT version FROM office").fetchone()
-    if version != 5:
+    if version != VERSION:
         yield f"the version is {version}"
-    for table in ("hold", "rule"):
+    for table in EMPTIED:
         count, = base.execute(f"SELECT count(*) FROM {table}").fetchone()
         if count:
             yield f"{table} has {count} rows"
@@ -86,7 +88,7 @@ def look(file):
     base = sqlite3.connect(pathlib.Path(file).resolve().as_uri() + "?mode=ro", uri=True)
     faults = [*faults_of_versions(base), *faults_of_contents(base), *faults_of_files(base), *faults_of_deposits(base)]
     alike = "SELECT content FROM file GROUP BY content HAVING count(*) > 1"
-    tables = "deposit", "content", "file", f"file WHERE content IN ({alike})"
+    tables = NEWEST["deposit"], "content", "file", f"file WHERE content IN ({alike})"
     deposits, contents, files, shared = (base.execute(f"SELECT count(*) FROM {it}").fetchone()[0] for it in tables)
     base.close()
     return faults, collections.Counter(offices=1, deposits=deposits, contents=contents, files=files, shared=shared)

@@ -13,8 +13,8 @@ them. `cc` compiles a small library whose `malloc`, `calloc` and `realloc` come 
   if it was refused with 503 for lack of memory, it is that to a first one; otherwise it is one of these two.
 - `policy`: `depot policy` installs a policy with days in the place of another. Afterwards the file has the rows from
   before or the new ones, and the next command with all memory installs the policy.
-- `upgrade`: `depot ask` over files with the tables of version 3 and of version 4. Afterwards a file has the rows from
-  before or the upgraded ones, and the next command with all memory upgrades it.
+- `upgrade`: `depot ask` over files with the tables of each older version. Afterwards a file has the rows from before
+  or the upgraded ones, and the next command with all memory upgrades it.
 - `serve`: `depot serve` over a file, with four connections, of which at most one gets no answer. Standard error has the
   lines of those that were answered 503, of the first of their kind that succeeds again, and of the end. Or the program
   ends with `memory`, whose line follows them.
@@ -446,13 +446,14 @@ def upgrade(library, first, last):
         fresh = pathlib.Path(room, "fresh.db")
         make_office(DEPOT, fresh)
         schema = stores.rows(str(fresh))[0]
-        for version in (3, 4):
+        versions = range(3, stores.VERSION)
+        for version in versions:
             kept = pathlib.Path(room, f"version-{version}")
             kept.mkdir()
             stores.make(kept / "office.db", version, deposits=4, each=2, rules=3)
             wanted = stores.upgraded(version, stores.rows(str(kept / "office.db"))[1])
             refused += sweep(library, first, last, kept, (schema, wanted), ["ask", EARLY], request("GET", "/due"))
-    print(f"upgrade: from 2 versions, {refused} allocations refused", flush=True)
+    print(f"upgrade: from {len(versions)} versions, {refused} allocations refused", flush=True)
     return refused
 
 

@@ -2,7 +2,7 @@
 """Random sessions of an office, as records for `depot replay`. Each payload names its content in each of its pieces and
 in its path, so that what is left of a destroyed content is found anywhere. The first argument says what is made:
 
-- `policy VERSION`: a policy such as an office with tables of that version (3, 4, 5) can have;
+- `policy VERSION`: a policy such as an office with tables of that version, from 3 on, can have;
 - `fill SEED VERSION DEPOSITS CONTENTS`: an office with this number of deposits, most of them destroyed in the end, with
   holds of each kind that the version has, and releases. Writes into the file CONTENTS which contents each accession
   has;
@@ -21,6 +21,7 @@ import sys
 from shared import forms, policies, requests
 from shared.policies import allow, deny
 from shared.requests import deposit_target, request
+from shared.stores import NEWEST
 
 FIRST = datetime.date(2020, 1, 1)
 LAST = datetime.date(2024, 3, 1)
@@ -37,8 +38,8 @@ CALLERS = {"anna": "archivist", "carl": "clerk", "ben.b": "clerk"}
 
 
 def policy(version):
-    """The text of a policy: of version 5 two rules have days."""
-    until, since = ({"last": "2022-12-31"}, {"first": "2021-05-01", "last": "2024-02-29"}) if version == 5 else ({}, {})
+    """The text of a policy: from version 5 on two rules have days."""
+    until, since = ({"last": "2022-12-31"}, {"first": "2021-05-01", "last": "2024-02-29"}) if version > 4 else ({}, {})
     return policies.policy(
         CALLERS,
         deny("archivist", "dispose", "a.b_c-9", "y1", **until),
@@ -187,7 +188,7 @@ def traces(contents_file, office, files):
         has = json.load(file)
     base = sqlite3.connect(f"file:{office}?immutable=1", uri=True)
     kept, gone = set(), set()
-    for accession, day in base.execute("SELECT accession, gone FROM deposit"):
+    for accession, day in base.execute(f"SELECT accession, gone FROM {NEWEST['deposit']}"):
         (kept if day is None else gone).update(has[accession])
     base.close()
     gone -= kept | {0}

@@ -1,10 +1,10 @@
 #!/usr/bin/env python3
-"""Makes stores of versions 3 and 4 through Python's sqlite3, with 2,000 deposits, 200 rules, and 1,000 holds of each
+"""Makes stores of the older versions through Python's sqlite3, with 2,000 deposits, 200 rules, and 1,000 holds of each
 kind that the version has, live and released. Their rows are those of a history of changes that an office accepts.
 
 Each command of the program that opens a store is given a copy, and answers as the history says. Then the rows are
-compared with those before, one by one: all of them are there, holds and rules in the tables of version 5. The schema is
-that of a store that the program makes. A second run of the command on the same store changes nothing more. A replay of
+compared with those before, one by one: all of them are there, holds and rules in the newest tables. The schema is that
+of a store that the program makes. A second run of the command on the same store changes nothing more. A replay of
 changes continues the history, and leaves its rows. `kept.py` finds no fault in the store before, nor in what a command
 left.
 
@@ -36,22 +36,25 @@ from shared.offices import Server, answer_to
 from shared.places import depot
 from shared.policies import allow, deny, policy
 from shared.requests import answer_record, deposit_target, record, request
-from shared.stores import BAG, differs, look, make, rows, upgraded
+from shared.stores import BAG, NEWEST, VERSION, differs, look, make, newest_of, rows, upgraded
 
 DAY, TODAY = "2024-03-01", 19783
 DEPOSITS, HOLDS, RULES = 2000, 1000, 200
 
 
 def faults(copy):
-    """What `kept.py` finds in a store of any version, which has the holds of version 3 in another table."""
+    """What `kept.py` finds in a store of any version. Views give older tables the names of the newest."""
     connection = sqlite3.connect(copy)
     version, = connection.execute("SELECT version FROM office").fetchone()
-    if version == 3:
-        connection.execute("CREATE TEMP VIEW hold_4 AS SELECT deposit, collection, NULL AS class, released FROM hold")
+    has = newest_of(text for text, in connection.execute("SELECT sql FROM sqlite_schema WHERE type = 'table'"))
+    for name in ("deposit", "hold"):
+        if has[name] != NEWEST[name]:
+            columns = "*, NULL AS class" if has[name] == "hold" else "*"
+            connection.execute(f"CREATE TEMP VIEW {NEWEST[name]} AS SELECT {columns} FROM {has[name]}")
     looks = kept.faults_of_contents, kept.faults_of_files, kept.faults_of_deposits
     found = [fault for faults_of in looks for fault in faults_of(connection)]
     connection.close()
-    return found + (kept.look(copy)[0] if version == 5 else [])
+    return found + (kept.look(copy)[0] if version == VERSION else [])
 
 
 def keeps(path, what):
@@ -197,9 +200,9 @@ def go_on(program, folder, version, first, office):
     if status != 0 or found != said:
         fail(f"changes of version {version} end with {status}, and are answered {instead(found, said)}")
     tables = rows(store)[1]
-    found = {name: [it[1:] for it in tables[name]] for name in ("deposit", "hold_4", "file")}
+    found = {name: [it[1:] for it in tables[NEWEST[name]]] for name in ("deposit", "hold", "file")}
     files = [(it["deposit"], name, n) for it in office.deposits if it["gone"] is None for n, name in enumerate(BAG, 1)]
-    other = differs(found, {"deposit": office.rows_of_deposits(), "hold_4": office.rows_of_holds(), "file": files})
+    other = differs(found, {"deposit": office.rows_of_deposits(), "hold": office.rows_of_holds(), "file": files})
     if other:
         fail(f"changes of version {version}: {other}")
     keeps(store, f"changes of version {version}")
@@ -266,7 +269,7 @@ def main():
     program = depot(words)
     times = int(words[1]) if len(words) > 1 else 50
     with tempfile.TemporaryDirectory() as folder:
-        for version in (3, 4):
+        for version in range(3, VERSION):
             try_version(program, folder, version, times)
 
 

@@ -1,8 +1,8 @@
 #!/usr/bin/env bash
 # Goes to a new version of the program, and back, by the commands of docs/OPERATING.md, word for word. The office has
-# the tables of version 4, as an older program made them: then it has those of version 5 and all its deposits. The way
-# back puts the old program and the file from before in their places, byte for byte. (The old program is here a copy of
-# the new one: what it answers isn't tried. `trials/upgrade.py` compares each row.)
+# the tables of version 4, as an older program made them: then it has the newest and all its deposits. The way back puts
+# the old program and the file from before in their places, byte for byte. (The old program is here a copy of the new
+# one: what it answers isn't tried. `trials/upgrade.py` compares each row.)
 # Argument: the program; if left out, that of DEPOT, or the repository's own.
 set -eu
 top=$(readlink -f "$(dirname "$(readlink -f "$0")")/..")
@@ -26,17 +26,16 @@ version() {
 ln -s "$program" depot.new
 ln -s "$top/examples" examples
 cp "$program" depot
-python3 -c 'import sys; sys.path.insert(0, sys.argv[1]); import upgrade; upgrade.make("office.db", 4, 200, 60, 20)' \
-    "$top/trials"
-kept=$(python3 -c 'import sqlite3
-print(sqlite3.connect("office.db").execute("SELECT count(*) FROM deposit WHERE gone IS NULL").fetchone()[0])')
+made=$(PYTHONPATH=$top/trials python3 -c 'from shared.stores import VERSION, make
+print(VERSION, sum(it["gone"] is None for it in make("office.db", 4, 200, 60, 20).deposits))')
+read -r newest kept <<<"$made"
 compare "an older program's office" 4 "$(version)"
 mkdir backup
 cp office.db backup/2024-03-02.db
 follow "$section" 1 >said
 compare "the answer of the new program" '{"deposits":[' "$(tail -n 1 said | head -c 13)"
 compare "its deposits" "$kept" "$(count_listed <said)"
-compare "its tables" 5 "$(version)"
+compare "its tables" "$newest" "$(version)"
 cmp depot depot.old
 follow "$section" 2 >said
 cmp office.db backup/2024-03-02.db

@@ -1,6 +1,7 @@
 """Files that hold an office: the texts of their tables, files of versions 3 and 4, and what a file has."""
 import hashlib
 import os
+import re
 import shutil
 import sqlite3
 
@@ -10,7 +11,7 @@ from shared.forms import bag
 from shared.histories import CALLERS, COLLECTIONS, YEARS, history, rules_of
 from shared.places import TOP
 
-# The texts of the tables and indexes of version 5. They begin with those of versions 3 and 4.
+# The texts of the tables and indexes of the newest version. They begin with those of the older ones.
 SCHEMA = (TOP / "trials/schema.sql").read_text().replace(";", "").splitlines()
 
 
@@ -19,7 +20,22 @@ def texts_before(table):
     return SCHEMA[: next(n for n, text in enumerate(SCHEMA) if text.startswith(f"CREATE TABLE {table} "))]
 
 
+def tables_of(texts):
+    """The tables that these texts make."""
+    return re.findall(r"^CREATE TABLE (\w+)", "\n".join(texts), re.MULTILINE)
+
+
+def newest_of(texts):
+    """Those of these tables that have rows, by the name of the first of their kind. One that takes the place of another
+    has the number of the version that it comes with behind that name."""
+    return {name.split("_")[0]: name for name in tables_of(texts)}
+
+
 VERSION_3, VERSION_4 = texts_before("hold_4"), texts_before("rule_5")
+# Of a store of the newest version: the tables that have rows, those in whose place they are, and its number.
+NEWEST = newest_of(SCHEMA)
+EMPTIED = [name for name in tables_of(SCHEMA) if name not in NEWEST.values()]
+VERSION = max(int(name.split("_")[1]) for name in NEWEST.values() if "_" in name)
 # The files of each deposit, in the order of their numbers.
 BAG = {path.decode(): content for path, content in sorted(bag({b"data/a": b"abc"}).items())}
 # The tables that are alike in all versions.
@@ -89,7 +105,7 @@ def rows_in(copy):
 def upgraded(version, before):
     """The rows that are wanted of a store that had these."""
     after = {name: before[name] for name in SAME}
-    after["office"] = [(1, 1, 5, 1000000, 1000000)]
+    after["office"] = [(1, 1, VERSION, 1000000, 1000000)]
     after["hold"], after["rule"] = [], []
     if version == 3:
         after["hold_4"] = [(*it[:4], None, *it[4:]) for it in before["hold"]]
