@@ -1,6 +1,5 @@
 -- What the rows tell by the calls that read them, whichever rows they are.
-use Rattle.std.specs.Prelude.{IsErrAnd}
-use Rattle.office_access.proofs.Common.{◌≡◌, ℕ, ℤ, pos, List, [], ◌∷◌, map, slice_get, Option, Some, None, IfErr, IfOk, OnOk, Result, Ok, Err, sym, ap, subst, ◌∙◌, refl, same_Some, ok_or, Database, Tables, IsOffice, tables_of}
+use Rattle.office_access.proofs.Common.{◌≡◌, ℕ, ℤ, pos, List, [], ◌∷◌, map, slice_get, Option, Some, None, IfErr, IfOk, IsErrAnd, OnOk, Result, Ok, Err, sym, ap, subst, ◌∙◌, refl, same_Some, ok_or, Database, Tables, IsOffice, tables_of}
 
 -- a call that changes no row leaves an office, and what is told of the rows after it is told of those before it
 module _ {old mid : Database} (same : mid ≡ old) where

@@ -8,9 +8,6 @@ returns-in_err-told_hold-clause-inside g c = inside_failed c.in_ok-holds.ensures
 pub returns-clause-inside : goal.returns-clause-inside
 returns-clause-inside g c = inside_after c.in_ok-holds.ensures.inside c.in_ok-told_hold.ensures.inside _ (search rules)
 
-pub returns-in_default-clause-reads : goal.returns-in_default-clause-reads
-returns-in_default-clause-reads g c clean office = ((c.in_ok-holds.ensures.reads clean office).0, tt)
-
 pub returns-clause-reads : goal.returns-clause-reads
 returns-clause-reads g c clean office =
     let a = c.args in
