@@ -48,7 +48,7 @@ pub use Rattle.sqlite.specs.Tree.{IsAscending, IsTable, rowid, Trees}
 pub use Rattle.sqlite.specs.declared.types.Value.TheVariants.{Blob, Int, Null, Text}
 pub use Rattle.sqlite_catalog.proofs.ListFacts.{filter_all}
 pub use Rattle.sqlite_exec.proofs.RowsLemmas.{IsSorted-map}
-pub use Rattle.sqlite_keyed.proofs.ListLemmas.{all-append, all_map, ascending-append, ascending-filter, ascending-map, ascending_weaker, filter-map, first_taken, list_all_push, map-map}
+pub use Rattle.sqlite_keyed.proofs.ListLemmas.{all-append, all_map, ascending-append, ascending-filter, ascending-map, ascending_weaker, filter-map, first_taken, list_all_push, map-map, none_from_any}
 pub use Rattle.sqlite_keyed.proofs.SortLemmas.{IsPermutation-sort_by, sort_by-map, sorted_is-sort_by, sorted_unique}
 pub use Rattle.sqlite_rules.proofs.ListLemmas.{all_from, all_has, has_filtered, has_found, has_kept, some_from, some_has}
 pub use Rattle.sqlite_rules.proofs.ProbeLemmas.{has_mapped, mapped_has}

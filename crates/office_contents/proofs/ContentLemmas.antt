@@ -229,7 +229,7 @@ module _ (old new : State) (mark bytes : List ℕ) (count : ℕ) (office : IsOff
       ap (λ all. map (file_in all) rows) added_at_end ∙ same_files (cs ++ added_content ∷ []) cs rows (λ r there. let it = fetched old.now office r there in found_before (int_at r 3) cs (added_content ∷ []) it.0 it.1 ∙ sym it.1) in
       record {
         keeps = record {
-          becomes = becomes old new added_edit count added_edit.news office (refl, (refl, tt)) added_change _ (ap (λ (fs : List FileRow). record (tables_of old.now) { files = fs }) files);
+          becomes = becomes old new added_edit count added_edit.news office refl added_change _ (ap (λ (fs : List FileRow). record (tables_of old.now) { files = fs }) files);
           references = references_after old new added_edit count added_edit.news added_change;
         };
         contents = contents_after old new added_edit count added_edit.news added_change ∙ added_at_end;
@@ -256,13 +256,13 @@ removes_content old new id count office h =
     let fewer : contents_of (with_edit edit old.now) ≡ filter (λ c. not (is_content id c)) cs = ap (map content_in) done.made ∙ sym (filter-map (λ c. not (is_content id c)) content_in (db content_tree)) in
     let contents = contents_after old new edit count _ done.change ∙ fewer in
     let references = references_after old new edit count _ done.change in
-    let whole = becomes old new edit count _ office (refl, (refl, tt)) done.change _ refl in
+    let whole = becomes old new edit count _ office refl done.change _ refl in
     let rows : new.now.trees file_tree ≡ db file_tree = file_rows_after old new edit count _ done.change in
     let files : map (file_in (contents_of (with_edit edit old.now))) (db file_tree) ≡ map (file_in cs) (db file_tree) =
     ap (λ all. map (file_in all) (db file_tree)) fewer ∙ same_files (filter (λ c. not (is_content id c)) cs) cs (db file_tree)
     (λ r there. found_kept (int_at r 3) (λ c. not (is_content id c)) cs (stays new.now whole.office contents r (subst (λ rs. Has rs r) (sym rows) there))) in (
       record {
-        becomes = becomes old new edit count _ office (refl, (refl, tt)) done.change _ (ap (λ (fs : List FileRow). record (tables_of old.now) { files = fs }) files);
+        becomes = becomes old new edit count _ office refl done.change _ (ap (λ (fs : List FileRow). record (tables_of old.now) { files = fs }) files);
         references = references;
       },
       contents,

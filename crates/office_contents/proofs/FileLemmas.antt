@@ -161,7 +161,7 @@ module _ (old new : State) (n : ℤ) (path : List ℕ) (id : ℤ) (count : ℕ) 
 
   puts_file : Becomes new.now (with_file (record { deposit = n; path = path; content = bytes_under (contents_of old.now) id }) (tables_of old.now))
   puts_file =
-      becomes old new put_edit count put_edit.news office (refl, (refl, tt)) put_change _ (ap (λ rows. record (tables_of old.now) { files = rows })
+      becomes old new put_edit count put_edit.news office refl put_change _ (ap (λ rows. record (tables_of old.now) { files = rows })
       (ap (map (file_in (contents_of old.now))) put_end ∙ map-append (file_in (contents_of old.now)) (old.now.trees file_tree) _))
 
   -- so there was no such file
@@ -193,7 +193,7 @@ drops_files old new n count office h =
     let others_stay = sym (filter-map (λ f. not (is_file_of n f)) decode (db file_tree)) in
     let rows : new.now.trees file_tree ≡ filter (λ r. not (has_deposit n r)) (db file_tree) = file_rows_after old new edit count _ done.change ∙ done.made in
     record {
-      becomes = becomes old new edit count _ office (refl, (refl, tt)) done.change _ (ap (λ rows. record (tables_of old.now) { files = rows }) (ap (map decode) done.made ∙ others_stay));
+      becomes = becomes old new edit count _ office refl done.change _ (ap (λ rows. record (tables_of old.now) { files = rows }) (ap (map decode) done.made ∙ others_stay));
       contents = contents_after old new edit count _ done.change;
       left = ap (map (λ row. int_at row 3)) rows ∙ sym (references_are (λ f. not (is_file_of n f)) (λ r. not (has_deposit n r)) (contents_of old.now) (λ r. refl) (db file_tree));
       references = λ id there.

@@ -1,10 +1,17 @@
 -- A change of one table leaves an office, and the rows of the other tables.
-use Rattle.office_contents.proofs.Common.{◌≡◌, ℕ, ◌==◌, length, List, [], ◌∷◌, map, false, refl, sym, ap, subst₂, ◌∙◌, inl, inr, AllByRecursion, cases_Bool, Row, Edit, edit_of, edited, Chosen, Table, Database, Trees, State, AreShaped, Changes, IsIdle, whole_after, with_rows, rows_after, office_schema, all_tables, emptied_trees, old_rule_tree, file_tree, old_hold_tree, Tables, int_at, IsOffice, Becomes, tables_of, contents_of, content_in, references_of, AreStoredOnce, StoresOnce, HasSameContents}
+use Rattle.office_contents.proofs.Common.{◌≡◌, ℕ, ◌==◌, length, List, [], ◌∷◌, map, false, refl, sym, ap, subst₂, ◌∙◌, inl, inr, AllByRecursion, list_any, none_from_any, all_both, cases_Bool, Row, Edit, edit_of, edited, Chosen, Table, Database, Trees, State, AreShaped, Changes, IsIdle, whole_after, with_rows, rows_after, office_schema, all_tables, emptied_trees, file_tree, Tables, int_at, IsOffice, Becomes, tables_of, contents_of, content_in, references_of, AreStoredOnce, StoresOnce, HasSameContents}
 use Rattle.office_contents.proofs.TablePlaces.{of_office, of_callers, of_old_rules, of_classes, of_collections, of_deposits, of_files, of_old_holds, of_contents, of_holds, of_rules}
+use Rattle.office_contents.specs.Versions.{Newest, schema_at}
+use Rattle.office_contents.specs.declared.version.TableVersion.{TableVersion}
+use Rattle.office_contents.specs.declared.version.TableVersion.TheVariants.{Third}
 
--- no reference of the schema acts
+-- no reference of the schema acts, in any version
+pub idle_at : (version : TableVersion) → IsIdle (schema_at version)
+idle_at Third tree olds news = elim (cases_Bool (length news == 0)) [ inl is ↦ rw is refl | inr isnt ↦ rw isnt refl ]
+idle_at _ tree olds news = elim (cases_Bool (length news == 0)) [ inl is ↦ rw is refl | inr isnt ↦ rw isnt refl ]
+
 pub idle : IsIdle office_schema
-idle tree olds news = elim (cases_Bool (length news == 0)) [ inl is ↦ rw is refl | inr isnt ↦ rw isnt refl ]
+idle = idle_at Newest
 
 -- databases whose tables have the same rows show the same; each table has its place here
 same_tables : (a b : Database) → AllByRecursion (λ t. a.trees t.tree ≡ b.trees t.tree) all_tables → tables_of a ≡ tables_of b
@@ -19,15 +26,20 @@ adding table row old = edit_of old.now.trees table [] Chosen 0 (row ∷ [])
 abbrev pub with_edit : Edit → Database → Database
 with_edit edit db = record db { trees = with_rows edit.table.tree (edited db.trees edit) db.trees }
 
--- the trees of the tables that hold nothing any more, and none of them is written
-abbrev StayEmpty : Trees → Type 0
+-- the trees of the tables that hold nothing any more
+abbrev pub StayEmpty : Trees → Type 0
 StayEmpty trees = AllByRecursion (λ tree. trees tree ≡ []) emptied_trees
 
+-- none of them is the one that is written
 abbrev pub AreOthers : ℕ → Type 0
-AreOthers written = AllByRecursion (λ tree. (tree == written) ≡ false) emptied_trees
+AreOthers written = list_any (λ tree. tree == written) emptied_trees ≡ false
 
-same_rows : (tree : ℕ) (edit : Edit) (db : Database) → (tree == edit.table.tree) ≡ false → db.trees tree ≡ [] → (with_edit edit db).trees tree ≡ []
-same_rows tree edit db other empty = rw other empty
+same_rows : (edit : Edit) (db : Database) (tree : ℕ) → (tree == edit.table.tree) ≡ false → db.trees tree ≡ [] → (with_edit edit db).trees tree ≡ []
+same_rows edit db tree other empty = rw other empty
+
+-- they stay so where each table has the rows that it has there
+pub still_empty : (a b : Database) → AllByRecursion (λ t. a.trees t.tree ≡ b.trees t.tree) all_tables → StayEmpty b.trees → StayEmpty a.trees
+still_empty a b is empty = (of_old_holds is ∙ empty.0, (of_old_rules is ∙ empty.1.0, tt))
 
 pub becomes_shaped : (old new : State) (edit : Edit) (count : ℕ) (written : List Row) → AreShaped office_schema old.now.trees → StayEmpty old.now.trees → AreOthers edit.table.tree
     → Changes office_schema old new edit count written → (tables : Tables) → tables_of (with_edit edit old.now) ≡ tables → Becomes new.now tables
@@ -36,7 +48,7 @@ becomes_shaped old new edit count written shaped empty others change tables is =
     record {
       office = record {
         whole = whole_after office_schema old new edit count written change shaped;
-        emptied = (of_old_holds after ∙ same_rows old_hold_tree edit old.now others.0 empty.0, (of_old_rules after ∙ same_rows old_rule_tree edit old.now others.1.0 empty.1.0, tt));
+        emptied = still_empty new.now (with_edit edit old.now) after (all_both (same_rows edit old.now) emptied_trees (none_from_any (λ tree. tree == edit.table.tree) emptied_trees others) empty);
       };
       are = same_tables new.now (with_edit edit old.now) after ∙ is;
     }

@@ -18,6 +18,10 @@ of_collections parts = parts.1.1.1.1.0
 abbrev pub of_deposits : {A B C D E F G : Type 0} → A × (B × (C × (D × (E × (F × G))))) → F
 of_deposits parts = parts.1.1.1.1.1.0
 
+-- the table of the deposits of version 3, which later ones have at the same place
+abbrev pub of_first_deposits : {A B C D E F G : Type 0} → A × (B × (C × (D × (E × (F × G))))) → F
+of_first_deposits parts = parts.1.1.1.1.1.0
+
 abbrev pub of_files : {A B C D E F G H : Type 0} → A × (B × (C × (D × (E × (F × (G × H)))))) → G
 of_files parts = parts.1.1.1.1.1.1.0
 

@@ -163,6 +163,10 @@ first_tables = office_table ∷ caller_table ∷ rule_table ∷ class_table ∷ 
 abbrev pub all_tables : List Table
 all_tables = first_tables ++ hold_4_table ∷ rule_5_table ∷ []
 
+-- the place of the deposits among them
+abbrev pub deposit_place : ℕ
+deposit_place = 5
+
 -- the trees of the tables that hold nothing any more
 abbrev pub emptied_trees : List ℕ
 emptied_trees = old_hold_tree ∷ old_rule_tree ∷ []

@@ -13,4 +13,4 @@ pub use files::{
     FileRow, drop_files, file_of, files_of, intact_file_of, intact_files_of, put_file, put_marked,
 };
 pub use run::{ask, change};
-pub use version::TableVersion;
+pub use version::{NEWEST_VERSION, TableVersion};

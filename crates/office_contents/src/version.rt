@@ -11,3 +11,6 @@ pub enum TableVersion {
     /// Rules have days.
     Fifth,
 }
+
+/// The number of the newest of them, which each office has once it was opened.
+pub const NEWEST_VERSION: u32 = 5;

@@ -38,7 +38,7 @@ adds_class old new name years count office h =
     let done = inserts add_class_text params old new office_schema office.whole.schema_is 3 class_table refl idle (all_given 2) 3 class_meanings.add_class_means refl refl count h in
     let cast_is : cast_row class_table source ≡ Null ∷ Text name ∷ Int years ∷ [] = rw (cast_null, cast_int years) refl in
     let end = appended db class_table source (Text name ∷ Int years ∷ []) (of_classes office.whole.shaped) cast_is in
-    becomes old new edit count edit.news office (refl, (refl, tt)) done _ (ap (λ rows. record (tables_of old.now) { classes = rows }) (ap (map class_in) end ∙ map-append class_in (db class_tree) _))
+    becomes old new edit count edit.news office refl done _ (ap (λ rows. record (tables_of old.now) { classes = rows }) (ap (map class_in) end ∙ map-append class_in (db class_tree) _))
 
 pub adds_class_same : (old new : State) (name : List ℕ) (years : ℤ) (count : ℕ) → IsOffice old.now → Executes add_class_text (Text name ∷ Int years ∷ []) old new (Ok count) → HasSameContents old.now new.now
 adds_class_same old new name years count office h =
@@ -64,7 +64,7 @@ revises_class old new name years count office h =
     (λ r there. (refl, cast_set years r (all_has IsClassRow (db class_tree) r (class_rows old.now office) there) (all_has _ (db class_tree) r shaped.1 there), refl)) count h in
     let edit = edit_of db class_table (ids_of done.answer) Given 1 done.answer in
     let set_is = decoded class_in keep set (is_class name) (λ c. record c { years = years }) (λ r. refl) (λ r. refl) (db class_tree) in (
-      becomes old new edit count edit.news office (refl, (refl, tt)) done.change _ (ap (λ rows. record (tables_of old.now) { classes = rows }) (ap (map class_in) done.made ∙ set_is)),
+      becomes old new edit count edit.news office refl done.change _ (ap (λ rows. record (tables_of old.now) { classes = rows }) (ap (map class_in) done.made ∙ set_is)),
       done.change.counted ∙ counted db class_table done.answer keep (shown_of (Text name ∷ Int years ∷ []) revised_columns) class_in (is_class name) (λ r. refl) (few old.now office name) done.shows,
     )
 

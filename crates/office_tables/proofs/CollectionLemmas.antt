@@ -32,4 +32,4 @@ adds_collection old new name count office h =
     let done = inserts add_collection_text params old new office_schema office.whole.schema_is 4 collection_table refl idle (all_given 1) 2 class_meanings.add_collection_means refl refl count h in
     let cast_is : cast_row collection_table source ≡ Null ∷ Text name ∷ [] = rw cast_null refl in
     let end = appended db collection_table source (Text name ∷ []) (of_collections office.whole.shaped) cast_is in
-    becomes old new edit count edit.news office (refl, (refl, tt)) done _ (ap (λ rows. record (tables_of old.now) { collections = rows }) (ap (map collection_in) end ∙ map-append collection_in (db collection_tree) _))
+    becomes old new edit count edit.news office refl done _ (ap (λ rows. record (tables_of old.now) { collections = rows }) (ap (map collection_in) end ∙ map-append collection_in (db collection_tree) _))

@@ -15,7 +15,7 @@ starts_office old new deposits holds count blank h =
     let e = blank.empty in
     let alone : edited db edit ≡ (Int (pos 1) ∷ columns) ∷ [] = inserted db office_table source columns (pos 1) cast_is ∙ ap (put_row (Int (pos 1) ∷ columns)) e.0 in
     let row : OfficeRow = record { id = pos 1; version = pos 5; max_deposits = deposits; max_holds = holds } in
-    let made : Becomes new.now (record (tables_of old.now) { office = row ∷ [] }) = becomes_shaped old new edit count edit.news (blank_shaped office_schema old.now blank) (e.1.1.1.1.1.1.1.0, (e.1.1.0, tt)) (refl, (refl, tt)) done _ (ap (λ rows. record (tables_of old.now) { office = rows }) (ap (map office_in) alone)) in
+    let made : Becomes new.now (record (tables_of old.now) { office = row ∷ [] }) = becomes_shaped old new edit count edit.news (blank_shaped office_schema old.now blank) (e.1.1.1.1.1.1.1.0, (e.1.1.0, tt)) refl done _ (ap (λ rows. record (tables_of old.now) { office = rows }) (ap (map office_in) alone)) in
     let rest : record (tables_of old.now) { office = row ∷ [] } ≡ empty_office (pos 5) deposits holds =
     rw (e.1.0, e.1.1.1.0, e.1.1.1.1.0, e.1.1.1.1.1.0, e.1.1.1.1.1.1.0, e.1.1.1.1.1.1.1.1.1.0, e.1.1.1.1.1.1.1.1.1.1.0) refl in
     record { office = made.office; are = made.are ∙ rest }

@@ -1,5 +1,5 @@
 -- What a deposit that was put tells of the rows before it: its number and its accession are new, and its collection and its class are there.
-use Rattle.office_tables.proofs.FirstLemmas.{◌≡◌, ℕ, ℤ, [], ◌∷◌, filter, slice_get, option_map, Bool, true, Option, Some, None, Ok, IsTrue, map, refl, sym, ap, ap₂, subst, ◌∙◌, AllByRecursion, list_any, and_parts, Null, Int, Text, Row, with_rowid, Chosen, or_null, bound_value, cast_row, State, Executes, Enforced, agree, Unique, ForeignKey, plain, joined, same_name, Has, all_has, all_from, found_by, bytes_itself, int_itself, Changes, inserts, put, was_put, none_before, IsText, has_text, one_named, any_parent, has_number, one_numbered, any_mapped, cast_null, cast_int, obeys_rule, office_schema, deposit_table, class_tree, collection_tree, deposit_tree, DepositRow, DueRow, put_by, new_due_row, with_deposit_and_due, is_deposit, deposit_numbered, has_accession, deposit_by, is_class, has_class, is_collection, has_collection, IsOffice, Becomes, tables_of, deposit_in, due_in, class_in, collection_in, IsAdded, of_deposits, idle, becomes, adding, placed, cast_maybe, maybe_back, put_text, put_terms, deposit_meanings}
+use Rattle.office_tables.proofs.FirstLemmas.{◌≡◌, ℕ, ℤ, [], ◌∷◌, filter, slice_get, option_map, Bool, true, Option, Some, None, Ok, IsTrue, map, refl, sym, ap, ap₂, subst, ◌∙◌, AllByRecursion, list_any, and_parts, Null, Int, Text, Row, with_rowid, Chosen, or_null, bound_value, cast_row, State, Executes, Enforced, agree, Unique, ForeignKey, plain, joined, same_name, Has, all_has, all_from, found_by, bytes_itself, int_itself, Changes, inserts, put, was_put, none_before, IsText, has_text, one_named, any_parent, has_number, one_numbered, any_mapped, cast_null, cast_int, obeys_rule, office_schema, deposit_place, deposit_table, class_tree, collection_tree, deposit_tree, DepositRow, DueRow, put_by, new_due_row, with_deposit_and_due, is_deposit, deposit_numbered, has_accession, deposit_by, is_class, has_class, is_collection, has_collection, IsOffice, Becomes, tables_of, deposit_in, due_in, class_in, collection_in, IsAdded, of_deposits, idle, becomes, adding, placed, cast_maybe, maybe_back, put_text, put_terms, put_width, deposit_meanings}
 use Rattle.office_tables.proofs.ClassLemmas.{IsClassRow, class_rows}
 use Rattle.office_tables.proofs.CollectionLemmas.{collection_rows}
 use Rattle.office_tables.proofs.DepositLemmas.{accessions}
@@ -23,7 +23,7 @@ module _ (old new : State) (d : DepositRow) (due : Option ℤ) (holds : ℤ) (ke
   row = row_of d due holds
 
   change : Changes office_schema old new (adding deposit_table row old) count (adding deposit_table row old).news
-  change = inserts put_text (params_of d due holds) old new office_schema office.whole.schema_is 5 deposit_table refl idle put_terms 12 deposit_meanings.put_means refl refl count h
+  change = inserts put_text (params_of d due holds) old new office_schema office.whole.schema_is deposit_place deposit_table refl idle put_terms put_width deposit_meanings.put_means refl refl count h
 
   cast_is : cast_row deposit_table row ≡ row
   cast_is = rw (cast_null, cast_int d.number, cast_int d.closed, cast_int d.deposited, cast_int d.files, cast_int d.bytes, cast_maybe due, cast_int holds) refl
@@ -35,7 +35,7 @@ module _ (old new : State) (d : DepositRow) (due : Option ℤ) (holds : ℤ) (ke
       let at_its_place = placed deposit_in number (λ r. refl) old new deposit_table row (stored_of d due holds) d.number count (adding deposit_table row old).news (of_deposits office.whole.shaped) cast_is change in
       let due_at_its_place = placed due_in (λ (e : DueRow). e.number) (λ r. refl) old new deposit_table row (stored_of d due holds) d.number count (adding deposit_table row old).news (of_deposits office.whole.shaped) cast_is change in
       let is_due : due_in row ≡ new_due_row d.number due holds = ap (λ day. new_due_row d.number day holds) (maybe_back due []) in
-      becomes old new (adding deposit_table row old) count (adding deposit_table row old).news office (refl, (refl, tt)) change _ (ap₂ (λ rows dues. record (tables_of old.now) { deposits = rows; dues = dues })
+      becomes old new (adding deposit_table row old) count (adding deposit_table row old).news office refl change _ (ap₂ (λ rows dues. record (tables_of old.now) { deposits = rows; dues = dues })
       (at_its_place ∙ ap (λ x. put_by number x (map deposit_in (old.now.trees deposit_tree))) is_d)
       (due_at_its_place ∙ ap (λ x. put_by (λ (e : DueRow). e.number) x (map due_in (old.now.trees deposit_tree))) is_due))
 

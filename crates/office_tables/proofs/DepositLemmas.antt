@@ -1,18 +1,33 @@
 -- What the statements on deposits do to the rows of an office.
-use Rattle.office_tables.proofs.FirstLemmas.{IsTrue, Bool, false, ap₂, if◌then◌else◌, ◌≡◌, ◌⊎◌, ℕ, ℤ, List, [], ◌∷◌, map, filter, drop, slice_get, option_map, true, Some, Ok, refl, sym, ap, subst, ◌∙◌, AllByRecursion, Null, Int, Text, Row, column, id_in, edit_of, edited, Given, cast, cast_row, rowid, Database, State, Shown, Executes, is_int, Has, ids_of, all_has, all_from, int_is, Datatype, NotNull, Unique, int_at, bytes_at, shown_of, finds_one, has_text, few_named, by_number, has_number, each_numbered, few_numbered, typed_at, all_both, decoded, cast_null, cast_int, obeys_rule, revises, office_schema, deposit_table, deposit_tree, DepositRow, is_deposit, deposit_numbered, has_accession, deposit_by, last_number, with_gone, IsOffice, Becomes, tables_of, deposit_in, due_in, shown_deposit, of_deposits, idle, becomes, reads_last, keeps_int, deposit_with, deposit_text, accession_text, deposits_text, last_text, deposit_columns, gone_text, deposit_meanings, col, reads_named, reads_numbered, lists_all}
+use Rattle.office_tables.proofs.FirstLemmas.{if◌then◌else◌, IsTrue, Bool, false, ap₂, ◌≡◌, ◌⊎◌, ℕ, ℤ, List, [], ◌∷◌, map, filter, slice_get, option_map, true, Some, Ok, refl, ap, ◌∙◌, AllByRecursion, Null, Int, Text, Row, column, edit_of, edited, Given, cast, cast_row, rowid, Database, State, Shown, Executes, is_int, Has, ids_of, all_has, all_from, int_is, Datatype, NotNull, Unique, int_at, bytes_at, shown_of, finds_one, has_text, few_named, by_number, has_number, each_numbered, few_numbered, typed_at, all_both, decoded, cast_null, cast_int, obeys_rule, revises, office_schema, deposit_place, deposit_table, deposit_tree, DepositRow, is_deposit, deposit_numbered, has_accession, deposit_by, last_number, with_gone, IsOffice, Becomes, tables_of, deposit_in, due_in, shown_deposit, of_deposits, idle, becomes, reads_last, keeps_int, deposit_with, deposit_text, accession_text, deposits_text, last_text, deposit_columns, gone_text, deposit_meanings, col, reads_named, reads_numbered, lists_all, Value, inr, keeps_text}
 use Rattle.sqlite.specs.Kind.TheVariants as kind
 
 -- a stored deposit, as the rules of its table leave it
-abbrev pub IsDepositRow : Row → Type 0
-IsDepositRow r = (column r 2 ≡ Text (bytes_at r 2)) × (column r 3 ≡ Text (bytes_at r 3)) × (column r 4 ≡ Text (bytes_at r 4))
-    × (column r 5 ≡ Int (int_at r 5)) × (column r 6 ≡ Int (int_at r 6)) × (column r 7 ≡ Int (int_at r 7)) × (column r 8 ≡ Int (int_at r 8))
-    × ((column r 10 ≡ Null) ⊎ (column r 10 ≡ Int (int_at r 10))) × (column r 11 ≡ Int (int_at r 11))
-    × ((column r 9 ≡ Null) ⊎ (column r 9 ≡ Int (int_at r 9)))
+pub record IsDepositRow (r : Row) : Type 0 where
+  pub accession : column r 2 ≡ Text (bytes_at r 2)
+  pub collection : column r 3 ≡ Text (bytes_at r 3)
+  pub class : column r 4 ≡ Text (bytes_at r 4)
+  pub closed : column r 5 ≡ Int (int_at r 5)
+  pub deposited : column r 6 ≡ Int (int_at r 6)
+  pub files : column r 7 ≡ Int (int_at r 7)
+  pub bytes : column r 8 ≡ Int (int_at r 8)
+  pub gone : (column r 9 ≡ Null) ⊎ (column r 9 ≡ Int (int_at r 9))
+  pub due : (column r 10 ≡ Null) ⊎ (column r 10 ≡ Int (int_at r 10))
+  pub holds : column r 11 ≡ Int (int_at r 11)
 
 pub deposit_rows : (db : Database) → IsOffice db → AllByRecursion IsDepositRow (db.trees deposit_tree)
 deposit_rows db office = all_both (λ r t p.
     let at = typed_at office_schema db.trees deposit_table r t p in
-    (at 1 refl, at 2 refl, at 3 refl, at 4 refl, at 5 refl, at 6 refl, at 7 refl, at 9 refl, at 10 refl, at 8 refl)) (db.trees deposit_tree) (of_deposits (obeys_rule office.whole Datatype)) (of_deposits (obeys_rule office.whole NotNull))
+    record { accession = at 1 refl; collection = at 2 refl; class = at 3 refl; closed = at 4 refl; deposited = at 5 refl; files = at 6 refl; bytes = at 7 refl; gone = at 8 refl; due = at 9 refl; holds = at 10 refl }) (db.trees deposit_tree) (of_deposits (obeys_rule office.whole Datatype)) (of_deposits (obeys_rule office.whole NotNull))
+
+-- a stored deposit with other last columns, and its columns keep what stands in them
+abbrev pub with_last : Value → Value → Value → Row → Row
+with_last gone due holds r = rowid r ∷ Null ∷ column r 2 ∷ column r 3 ∷ column r 4 ∷ column r 5 ∷ column r 6 ∷ column r 7 ∷ column r 8 ∷ gone ∷ due ∷ holds ∷ []
+
+pub cast_last : (gone due holds : Value) (r : Row) → IsDepositRow r → IsTrue (is_int (rowid r)) → cast kind.Integer gone ≡ gone → cast kind.Integer due ≡ due → cast kind.Integer holds ≡ holds
+    → cast_row deposit_table (with_last gone due holds r) ≡ with_last gone due holds r
+cast_last gone due holds r it whole is_gone is_due is_holds =
+    rw (keeps_int (rowid r) (inr (int_is (rowid r) whole)), cast_null, keeps_text (column r 2) (inr it.accession), keeps_text (column r 3) (inr it.collection), keeps_text (column r 4) (inr it.class), keeps_int (column r 5) (inr it.closed), keeps_int (column r 6) (inr it.deposited), keeps_int (column r 7) (inr it.files), keeps_int (column r 8) (inr it.bytes), is_gone, is_due, is_holds) refl
 
 -- ---- one deposit
 
@@ -24,7 +39,7 @@ finds_deposit old new n rows office h =
 
 -- at most one deposit has the accession
 pub accessions : (db : Database) → IsOffice db → AllByRecursion (λ r. column r 2 ≡ Text (bytes_at r 2)) (db.trees deposit_tree)
-accessions db office = all_from _ (db.trees deposit_tree) (λ r there. (all_has IsDepositRow (db.trees deposit_tree) r (deposit_rows db office) there).0)
+accessions db office = all_from _ (db.trees deposit_tree) (λ r there. (all_has IsDepositRow (db.trees deposit_tree) r (deposit_rows db office) there).accession)
 
 pub few_accessions : (db : Database) → IsOffice db → (accession : List ℕ)
     → (filter (has_text 2 accession) (db.trees deposit_tree) ≡ []) ⊎ ((r : Row) × Has (db.trees deposit_tree) r × (has_text 2 accession r ≡ true) × (filter (has_text 2 accession) (db.trees deposit_tree) ≡ r ∷ []))
@@ -63,23 +78,19 @@ kept_alike decode keep set same (r ∷ rows) = ap₂ (λ y ys. y ∷ ys) (one (k
     one false = refl
 
 abbrev set_gone : ℤ → Row → Row
-set_gone day r = rowid r ∷ Null ∷ Text (bytes_at r 2) ∷ Text (bytes_at r 3) ∷ Text (bytes_at r 4) ∷ Int (int_at r 5) ∷ Int (int_at r 6) ∷ Int (int_at r 7) ∷ Int (int_at r 8) ∷ Int day ∷ column r 10 ∷ Int (int_at r 11) ∷ []
-
-cast_gone : (n day : ℤ) (r : Row) → IsDepositRow r → IsTrue (is_int (rowid r)) → cast_row deposit_table (drop 1 (shown_of (Int n ∷ Int day ∷ []) (deposit_with 9 (col 0 1)) r)) ≡ set_gone day r
-cast_gone n day r it whole =
-    let id : rowid r ≡ Int (id_in (rowid r)) = int_is (rowid r) whole in
-    let casts : cast kind.Integer (rowid r) ≡ rowid r = subst (λ v. cast kind.Integer v ≡ v) (sym id) (cast_int (id_in (rowid r))) in
-    rw (casts, cast_null, it.0, it.1, it.2, it.3, it.4, it.5, it.6, cast_int (int_at r 5), cast_int (int_at r 6), cast_int (int_at r 7), cast_int (int_at r 8), cast_int day, keeps_int (column r 10) it.7, it.8, cast_int (int_at r 11)) refl
+set_gone day r = with_last (Int day) (column r 10) (column r 11) r
 
 pub marks_gone : (old new : State) (n day : ℤ) (count : ℕ) → IsOffice old.now → Executes gone_text (Int n ∷ Int day ∷ []) old new (Ok count)
     → Becomes new.now (with_gone n day (tables_of old.now))
 marks_gone old new n day count office h =
     let db = old.now.trees in
     let shaped = of_deposits office.whole.shaped in
-    let done = revises gone_text (Int n ∷ Int day ∷ []) old new office_schema office.whole.schema_is 5 deposit_table refl idle shaped by_number (deposit_with 9 (col 0 1))
+    let done = revises gone_text (Int n ∷ Int day ∷ []) old new office_schema office.whole.schema_is deposit_place deposit_table refl idle shaped by_number (deposit_with 9 (col 0 1))
     (has_number n) (each_numbered n (Int day ∷ []) (db deposit_tree) shaped) deposit_meanings.gone_means (set_gone day) (few_numbered n (db deposit_tree) shaped)
-    (λ r there. (refl, cast_gone n day r (all_has IsDepositRow (db deposit_tree) r (deposit_rows old.now office) there) (all_has _ (db deposit_tree) r shaped.1 there), refl)) count h in
+    (λ r there.
+    let it = all_has IsDepositRow (db deposit_tree) r (deposit_rows old.now office) there in
+    (refl, cast_last (Int day) (column r 10) (column r 11) r it (all_has _ (db deposit_tree) r shaped.1 there) (cast_int day) (keeps_int (column r 10) it.due) (keeps_int (column r 11) (inr it.holds)), refl)) count h in
     let edit = edit_of db deposit_table (ids_of done.answer) Given 1 done.answer in
     let gone_is = decoded deposit_in (has_number n) (set_gone day) (is_deposit n) (λ d. record d { gone = Some day }) (λ r. refl) (λ r. refl) (db deposit_tree) in
     let dues_are : map due_in (edited db edit) ≡ map due_in (db deposit_tree) = ap (map due_in) done.made ∙ kept_alike due_in (has_number n) (set_gone day) (λ r. refl) (db deposit_tree) in
-    becomes old new edit count edit.news office (refl, (refl, tt)) done.change _ (ap₂ (λ rows dues. record (tables_of old.now) { deposits = rows; dues = dues }) (ap (map deposit_in) done.made ∙ gone_is) dues_are)
+    becomes old new edit count edit.news office refl done.change _ (ap₂ (λ rows dues. record (tables_of old.now) { deposits = rows; dues = dues }) (ap (map deposit_in) done.made ∙ gone_is) dues_are)

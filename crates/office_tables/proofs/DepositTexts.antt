@@ -1,5 +1,5 @@
 -- What the statements on deposits mean under the schema of an office.
-use Rattle.office_tables.proofs.Common.{ℕ, List, [], ◌∷◌, ◌++◌, ◌+◌, take, drop, codes, refl, Null, Term, lit, col, Insert, Update, Values, understood, everything, scan, as_program, Asks, by_number, rising, by_text, Means, office_schema, deposit_tree}
+use Rattle.office_tables.proofs.Common.{ℕ, List, [], ◌∷◌, ◌++◌, ◌+◌, length, take, drop, codes, refl, Null, Term, lit, col, Insert, Update, Values, understood, everything, scan, as_program, Asks, by_number, rising, by_text, Means, office_schema, deposit_place, deposit_tree}
 use Rattle.office_contents.proofs.LastRow.{AsksLast}
 
 -- ---- reads
@@ -27,6 +27,9 @@ put_text = codes "INSERT INTO deposit (number, accession, collection, class, clo
 abbrev pub put_terms : List Term
 put_terms = col 0 0 ∷ lit Null ∷ col 0 1 ∷ col 0 2 ∷ col 0 3 ∷ col 0 4 ∷ col 0 5 ∷ col 0 6 ∷ col 0 7 ∷ lit Null ∷ col 0 8 ∷ col 0 9 ∷ []
 
+abbrev pub put_width : ℕ
+put_width = length put_terms
+
 -- each column as it was, but for that one
 abbrev pub deposit_with : ℕ → Term → List Term
 deposit_with place term =
@@ -47,8 +50,8 @@ pub record DepositMeanings : Type 0 where
   pub asks_deposit : Asks office_schema deposit_text deposit_tree by_number deposit_columns []
   pub asks_accession : Asks office_schema accession_text deposit_tree (by_text 2) deposit_columns []
   pub asks_deposits : Asks office_schema deposits_text deposit_tree [] deposit_columns rising
-  pub put_means : Means office_schema put_text (Insert 5 (Values put_terms 12))
-  pub gone_means : Means office_schema gone_text (Update 5 (as_program (scan deposit_tree by_number (deposit_with 9 (col 0 1)) [])))
+  pub put_means : Means office_schema put_text (Insert deposit_place (Values put_terms put_width))
+  pub gone_means : Means office_schema gone_text (Update deposit_place (as_program (scan deposit_tree by_number (deposit_with 9 (col 0 1)) [])))
   pub asks_last : AsksLast office_schema last_text deposit_tree
 
 pub deposit_meanings : DepositMeanings

@@ -1,23 +1,11 @@
 -- What the statements on due days and on counts of holds do to the rows of an office.
-use Rattle.office_tables.proofs.FirstLemmas.{IsTrue, ◌≡◌, ◌⊎◌, ◌&&◌, codes, Float, is_nan, ℕ, ℤ, pos, ◌+ℤ◌, List, [], ◌∷◌, map, filter, slice_get, option_map, Bool, true, false, Option, Some, None, Ok, refl, sym, ap, ap₂, subst, subst₂, ◌∙◌, inl, inr, if◌then◌else◌, int_cmp, is_le, is_ge, Value, Null, Int, Real, Text, Row, column, value_cmp, id_in, edit_of, edited, Given, cast, cast_row, rowid, Binary, unary, binary, is_true, fits_i64, from_truth, State, Shown, Executes, Compare, Arith, Eq, Ge, Le, Add, TypeOf, int_or, real, cases_Bool, value_cmp-Int, is_int, Has, ids_of, all_has, all_from, mapped_has, int_is, ascending_weaker, map-map, filter-map, int_at, bytes_at, maybe_int, same_int, same_text, Update, scan, as_program, passes, shown_of, finds_one, Means, reads_same, reads_rising, IsText, has_text, by_text, each_passes, by_number, has_number, each_numbered, few_numbered, rising, decoded, cast_null, cast_int, map_alike, revises, rows_after, office_schema, deposit_table, deposit_tree, DepositRow, DueRow, is_due_of, is_due_between, due_numbered, with_due, with_dues, with_holds, beside, more_holds, with_more_holds, with_more_holds_class, is_within, is_of_class, of_class, least_number, is_by, is_disposable, IsOffice, Becomes, tables_of, deposit_in, due_in, of_deposits, idle, becomes, keeps_int, null_is, deposit_with, Term, lit, col, eval, reads_numbered, lists_all}
+use Rattle.office_tables.proofs.FirstLemmas.{if◌then◌else◌, IsTrue, ◌≡◌, ◌⊎◌, ◌&&◌, codes, Float, is_nan, ℕ, ℤ, pos, ◌+ℤ◌, List, [], ◌∷◌, map, filter, slice_get, option_map, Bool, true, false, Option, Some, None, Ok, refl, sym, ap, ap₂, subst, subst₂, ◌∙◌, inl, inr, int_cmp, is_le, is_ge, Value, Null, Int, Real, Text, Row, column, value_cmp, id_in, edit_of, edited, Given, cast, cast_row, rowid, Binary, unary, binary, is_true, fits_i64, from_truth, State, Shown, Executes, Compare, Arith, Eq, Ge, Le, Add, TypeOf, int_or, real, cases_Bool, value_cmp-Int, is_int, Has, ids_of, all_has, all_from, mapped_has, int_is, ascending_weaker, map-map, filter-map, int_at, bytes_at, maybe_int, same_int, same_text, Update, scan, as_program, passes, shown_of, finds_one, Means, reads_same, reads_rising, IsText, has_text, by_text, each_passes, by_number, has_number, each_numbered, few_numbered, rising, decoded, cast_null, cast_int, map_alike, revises, rows_after, office_schema, deposit_place, deposit_table, deposit_tree, DepositRow, DueRow, is_due_of, is_due_between, due_numbered, with_due, with_dues, with_holds, beside, more_holds, with_more_holds, with_more_holds_class, is_within, is_of_class, of_class, least_number, is_by, is_disposable, IsOffice, Becomes, tables_of, deposit_in, due_in, of_deposits, idle, becomes, keeps_int, null_is, deposit_with, Term, lit, col, eval, reads_numbered, lists_all}
 use Rattle.sqlite.specs.Kind.TheVariants as kind
 use Rattle.sql_meaning.proofs.ManyRows.{revises_all}
 use Rattle.office_rows.specs.Told.{disposable_row, closing_of, disposable_rows, class_closings}
 use Rattle.office_tables.specs.Dues.{shown_due, shown_beside, shown_place, shown_closing, FitMore, dues_of}
-use Rattle.office_tables.proofs.DepositLemmas.{IsDepositRow, deposit_rows, kept_alike}
+use Rattle.office_tables.proofs.DepositLemmas.{IsDepositRow, deposit_rows, with_last, cast_last, kept_alike}
 use Rattle.office_tables.proofs.DueTexts.{class_rows_text, class_rows_columns, due_of_text, due_of_columns, set_due_text, clear_due_text, set_dues_text, clear_dues_text, by_numbers, set_holds_text, add_holds_text, more_columns, add_holds_class_text, due_rows_text, is_due, due_rows_columns, beside_text, due_meanings}
-
--- ---- a stored deposit with other last columns
-
-abbrev with_last : Value → Value → Value → Row → Row
-with_last gone due holds r =
-    rowid r ∷ Null ∷ Text (bytes_at r 2) ∷ Text (bytes_at r 3) ∷ Text (bytes_at r 4) ∷ Int (int_at r 5) ∷ Int (int_at r 6) ∷ Int (int_at r 7) ∷ Int (int_at r 8) ∷ gone ∷ due ∷ holds ∷ []
-
-cast_last : (gone due holds : Value) (r : Row) → IsDepositRow r → IsTrue (is_int (rowid r)) → cast kind.Integer gone ≡ gone → cast kind.Integer due ≡ due → cast kind.Integer holds ≡ holds
-    → cast_row deposit_table (rowid r ∷ Null ∷ column r 2 ∷ column r 3 ∷ column r 4 ∷ column r 5 ∷ column r 6 ∷ column r 7 ∷ column r 8 ∷ gone ∷ due ∷ holds ∷ []) ≡ with_last gone due holds r
-cast_last gone due holds r it whole is_gone is_due is_holds =
-    let id : cast kind.Integer (rowid r) ≡ rowid r = keeps_int (rowid r) (inr (int_is (rowid r) whole)) in
-    rw (id, cast_null, it.0, it.1, it.2, it.3, it.4, it.5, it.6, cast_int (int_at r 5), cast_int (int_at r 6), cast_int (int_at r 7), cast_int (int_at r 8), is_gone, is_due, is_holds) refl
 
 -- ---- one deposit
 
@@ -27,45 +15,35 @@ finds_due old new n rows office h =
     let read = reads_numbered old new rows office due_meanings.asks_due_of n (of_deposits office.whole.shaped) h in
     (read.0, finds_one (old.now.trees deposit_tree) rows (has_number n) (shown_of (Int n ∷ []) due_of_columns) due_in shown_due (is_due_of n) (λ r. refl) (λ r. refl) read.1)
 
+-- a text by which it gets this value as its day
+module _ (text : List ℕ) (n : ℤ) (more : Row) (day : Term) (value : Value) (due : Option ℤ) (means : Means office_schema text (Update deposit_place (as_program (scan deposit_tree by_number (deposit_with 10 day) []))))
+    (shows : (r : Row) → eval day ((Int n ∷ more) ∷ r ∷ []) ≡ value) (keeps : cast kind.Integer value ≡ value) (is : maybe_int value ≡ due) where
+  sets_day : (old new : State) (count : ℕ) → IsOffice old.now → Executes text (Int n ∷ more) old new (Ok count) → Becomes new.now (with_due n due (tables_of old.now))
+  sets_day old new count office h =
+      let db = old.now.trees in
+      let shaped = of_deposits office.whole.shaped in
+      let set : Row → Row = λ r. with_last (column r 9) value (column r 11) r in
+      let done = revises text (Int n ∷ more) old new office_schema office.whole.schema_is deposit_place deposit_table refl idle shaped by_number (deposit_with 10 day)
+      (has_number n) (each_numbered n more (db deposit_tree) shaped) means set (few_numbered n (db deposit_tree) shaped)
+      (λ r there.
+      let it = all_has IsDepositRow (db deposit_tree) r (deposit_rows old.now office) there in (
+        refl,
+        ap (λ v. cast_row deposit_table (with_last (column r 9) v (column r 11) r)) (shows r)
+            ∙ cast_last (column r 9) value (column r 11) r it (all_has _ (db deposit_tree) r shaped.1 there) (keeps_int (column r 9) it.gone) keeps (keeps_int (column r 11) (inr it.holds)),
+        refl,
+      )) count h in
+      let edit = edit_of db deposit_table (ids_of done.answer) Given 1 done.answer in
+      let deposits_are : map deposit_in (edited db edit) ≡ map deposit_in (db deposit_tree) = ap (map deposit_in) done.made ∙ kept_alike deposit_in (has_number n) set (λ r. refl) (db deposit_tree) in
+      let dues_are = decoded due_in (has_number n) set (is_due_of n) (λ d. record d { due = due }) (λ r. refl) (λ r. ap (λ day. record (due_in r) { due = day }) is) (db deposit_tree) in
+      becomes old new edit count edit.news office refl done.change _ (ap₂ (λ rows dues. record (tables_of old.now) { deposits = rows; dues = dues }) deposits_are (ap (map due_in) done.made ∙ dues_are))
+
 pub sets_due : (old new : State) (n day : ℤ) (count : ℕ) → IsOffice old.now → Executes set_due_text (Int n ∷ Int day ∷ []) old new (Ok count)
     → Becomes new.now (with_due n (Some day) (tables_of old.now))
-sets_due old new n day count office h =
-    let db = old.now.trees in
-    let shaped = of_deposits office.whole.shaped in
-    let set : Row → Row = λ r. with_last (column r 9) (Int day) (Int (int_at r 11)) r in
-    let done = revises set_due_text (Int n ∷ Int day ∷ []) old new office_schema office.whole.schema_is 5 deposit_table refl idle shaped by_number (deposit_with 10 (col 0 1))
-    (has_number n) (each_numbered n (Int day ∷ []) (db deposit_tree) shaped) due_meanings.set_due_means set (few_numbered n (db deposit_tree) shaped)
-    (λ r there.
-    let it = all_has IsDepositRow (db deposit_tree) r (deposit_rows old.now office) there in (
-      refl,
-      ap (λ v. cast_row deposit_table (rowid r ∷ Null ∷ column r 2 ∷ column r 3 ∷ column r 4 ∷ column r 5 ∷ column r 6 ∷ column r 7 ∷ column r 8 ∷ column r 9 ∷ Int day ∷ v ∷ [])) it.8
-          ∙ cast_last (column r 9) (Int day) (Int (int_at r 11)) r it (all_has _ (db deposit_tree) r shaped.1 there) (keeps_int (column r 9) it.9) (cast_int day) (cast_int (int_at r 11)),
-      refl,
-    )) count h in
-    let edit = edit_of db deposit_table (ids_of done.answer) Given 1 done.answer in
-    let deposits_are : map deposit_in (edited db edit) ≡ map deposit_in (db deposit_tree) = ap (map deposit_in) done.made ∙ kept_alike deposit_in (has_number n) set (λ r. refl) (db deposit_tree) in
-    let dues_are = decoded due_in (has_number n) set (is_due_of n) (λ d. record d { due = Some day }) (λ r. refl) (λ r. refl) (db deposit_tree) in
-    becomes old new edit count edit.news office (refl, (refl, tt)) done.change _ (ap₂ (λ rows dues. record (tables_of old.now) { deposits = rows; dues = dues }) deposits_are (ap (map due_in) done.made ∙ dues_are))
+sets_due old new n day = sets_day set_due_text n (Int day ∷ []) (col 0 1) (Int day) (Some day) due_meanings.set_due_means (λ r. refl) (cast_int day) refl old new
 
 pub clears_due : (old new : State) (n : ℤ) (count : ℕ) → IsOffice old.now → Executes clear_due_text (Int n ∷ []) old new (Ok count)
-    → Becomes new.now (with_due n (None) (tables_of old.now))
-clears_due old new n count office h =
-    let db = old.now.trees in
-    let shaped = of_deposits office.whole.shaped in
-    let set : Row → Row = λ r. with_last (column r 9) (Null) (Int (int_at r 11)) r in
-    let done = revises clear_due_text (Int n ∷ []) old new office_schema office.whole.schema_is 5 deposit_table refl idle shaped by_number (deposit_with 10 (lit Null))
-    (has_number n) (each_numbered n [] (db deposit_tree) shaped) due_meanings.clear_due_means set (few_numbered n (db deposit_tree) shaped)
-    (λ r there.
-    let it = all_has IsDepositRow (db deposit_tree) r (deposit_rows old.now office) there in (
-      refl,
-      ap (λ v. cast_row deposit_table (rowid r ∷ Null ∷ column r 2 ∷ column r 3 ∷ column r 4 ∷ column r 5 ∷ column r 6 ∷ column r 7 ∷ column r 8 ∷ column r 9 ∷ Null ∷ v ∷ [])) it.8
-          ∙ cast_last (column r 9) (Null) (Int (int_at r 11)) r it (all_has _ (db deposit_tree) r shaped.1 there) (keeps_int (column r 9) it.9) cast_null (cast_int (int_at r 11)),
-      refl,
-    )) count h in
-    let edit = edit_of db deposit_table (ids_of done.answer) Given 1 done.answer in
-    let deposits_are : map deposit_in (edited db edit) ≡ map deposit_in (db deposit_tree) = ap (map deposit_in) done.made ∙ kept_alike deposit_in (has_number n) set (λ r. refl) (db deposit_tree) in
-    let dues_are = decoded due_in (has_number n) set (is_due_of n) (λ d. record d { due = None }) (λ r. refl) (λ r. refl) (db deposit_tree) in
-    becomes old new edit count edit.news office (refl, (refl, tt)) done.change _ (ap₂ (λ rows dues. record (tables_of old.now) { deposits = rows; dues = dues }) deposits_are (ap (map due_in) done.made ∙ dues_are))
+    → Becomes new.now (with_due n None (tables_of old.now))
+clears_due old new n = sets_day clear_due_text n [] (lit Null) Null None due_meanings.clear_due_means (λ r. refl) cast_null refl old new
 
 pub sets_holds : (old new : State) (n holds : ℤ) (count : ℕ) → IsOffice old.now → Executes set_holds_text (Int n ∷ Int holds ∷ []) old new (Ok count)
     → Becomes new.now (with_holds n holds (tables_of old.now))
@@ -73,15 +51,15 @@ sets_holds old new n holds count office h =
     let db = old.now.trees in
     let shaped = of_deposits office.whole.shaped in
     let set : Row → Row = λ r. with_last (column r 9) (column r 10) (Int holds) r in
-    let done = revises set_holds_text (Int n ∷ Int holds ∷ []) old new office_schema office.whole.schema_is 5 deposit_table refl idle shaped by_number (deposit_with 11 (col 0 1))
+    let done = revises set_holds_text (Int n ∷ Int holds ∷ []) old new office_schema office.whole.schema_is deposit_place deposit_table refl idle shaped by_number (deposit_with 11 (col 0 1))
     (has_number n) (each_numbered n (Int holds ∷ []) (db deposit_tree) shaped) due_meanings.set_holds_means set (few_numbered n (db deposit_tree) shaped)
     (λ r there.
     let it = all_has IsDepositRow (db deposit_tree) r (deposit_rows old.now office) there in
-    (refl, cast_last (column r 9) (column r 10) (Int holds) r it (all_has _ (db deposit_tree) r shaped.1 there) (keeps_int (column r 9) it.9) (keeps_int (column r 10) it.7) (cast_int holds), refl)) count h in
+    (refl, cast_last (column r 9) (column r 10) (Int holds) r it (all_has _ (db deposit_tree) r shaped.1 there) (keeps_int (column r 9) it.gone) (keeps_int (column r 10) it.due) (cast_int holds), refl)) count h in
     let edit = edit_of db deposit_table (ids_of done.answer) Given 1 done.answer in
     let deposits_are : map deposit_in (edited db edit) ≡ map deposit_in (db deposit_tree) = ap (map deposit_in) done.made ∙ kept_alike deposit_in (has_number n) set (λ r. refl) (db deposit_tree) in
     let dues_are = decoded due_in (has_number n) set (is_due_of n) (λ d. record d { holds = holds }) (λ r. refl) (λ r. refl) (db deposit_tree) in
-    becomes old new edit count edit.news office (refl, (refl, tt)) done.change _ (ap₂ (λ rows dues. record (tables_of old.now) { deposits = rows; dues = dues }) deposits_are (ap (map due_in) done.made ∙ dues_are))
+    becomes old new edit count edit.news office refl done.change _ (ap₂ (λ rows dues. record (tables_of old.now) { deposits = rows; dues = dues }) deposits_are (ap (map due_in) done.made ∙ dues_are))
 
 -- ---- more holds over those that pass
 
@@ -155,7 +133,7 @@ more_decoded those by keep tests (r ∷ rows) = rw (tests r) (ap₂ (λ y more. 
     one false = refl
 
 -- a text by which each deposit with that text in the column gets as many more
-module _ (text : List ℕ) (place : ℕ) (means : Means office_schema text (Update 5 (as_program (scan deposit_tree (by_text place) more_columns [])))) (typed : (r : Row) → IsDepositRow r → IsText place r)
+module _ (text : List ℕ) (place : ℕ) (means : Means office_schema text (Update deposit_place (as_program (scan deposit_tree (by_text place) more_columns [])))) (typed : (r : Row) → IsDepositRow r → IsText place r)
     (those : DepositRow → Bool) (name : List ℕ) (tests : (r : Row) → those (deposit_in r) ≡ has_text place name r) where
   adds_to : (old new : State) (by : ℤ) (count : ℕ) → IsOffice old.now → Executes text (Text name ∷ Int by ∷ []) old new (Ok count)
       → Becomes new.now (record (tables_of old.now) { dues = more_holds those by (tables_of old.now).deposits (tables_of old.now).dues }) × FitMore by (dues_of those (tables_of old.now))
@@ -165,35 +143,35 @@ module _ (text : List ℕ) (place : ℕ) (means : Means office_schema text (Upda
       let keep : Row → Bool = has_text place name in
       let rows_are = deposit_rows old.now office in
       let texts = all_from (IsText place) (db deposit_tree) (λ r there. typed r (all_has IsDepositRow (db deposit_tree) r rows_are there)) in
-      let done = revises_all text (Text name ∷ Int by ∷ []) old new office_schema office.whole.schema_is 5 deposit_table refl idle shaped (by_text place) more_columns keep (each_passes place name (Int by ∷ []) (db deposit_tree) texts)
+      let done = revises_all text (Text name ∷ Int by ∷ []) old new office_schema office.whole.schema_is deposit_place deposit_table refl idle shaped (by_text place) more_columns keep (each_passes place name (Int by ∷ []) (db deposit_tree) texts)
       means (set_sum by) (λ r. refl) (λ r there kept.
       let it = all_has IsDepositRow (db deposit_tree) r rows_are there in
-      let sum : if_integer (binary (Arith Add) (column r 11) (Int by)) ≡ sum_or_null (int_at r 11) by = ap (λ v. if_integer (binary (Arith Add) v (Int by))) it.8 ∙ sum_is (int_at r 11) by in (
-        ap (λ v. cast_row deposit_table (rowid r ∷ Null ∷ column r 2 ∷ column r 3 ∷ column r 4 ∷ column r 5 ∷ column r 6 ∷ column r 7 ∷ column r 8 ∷ column r 9 ∷ column r 10 ∷ v ∷ [])) sum
-            ∙ cast_last (column r 9) (column r 10) (sum_or_null (int_at r 11) by) r it (all_has _ (db deposit_tree) r shaped.1 there) (keeps_int (column r 9) it.9) (keeps_int (column r 10) it.7) (cast_sum (int_at r 11) by),
+      let sum : if_integer (binary (Arith Add) (column r 11) (Int by)) ≡ sum_or_null (int_at r 11) by = ap (λ v. if_integer (binary (Arith Add) v (Int by))) it.holds ∙ sum_is (int_at r 11) by in (
+        ap (λ v. cast_row deposit_table (with_last (column r 9) (column r 10) v r)) sum
+            ∙ cast_last (column r 9) (column r 10) (sum_or_null (int_at r 11) by) r it (all_has _ (db deposit_tree) r shaped.1 there) (keeps_int (column r 9) it.gone) (keeps_int (column r 10) it.due) (cast_sum (int_at r 11) by),
         refl,
       )) count h in
       let edit = edit_of db deposit_table (ids_of done.answer) Given 1 done.answer in
       let revised : Row → Row = λ r. if keep r then set_sum by r else r in
-      let after = becomes old new edit count edit.news office (refl, (refl, tt)) done.change _ refl in
+      let after = becomes old new edit count edit.news office refl done.change _ refl in
       let rows_now : new.now.trees deposit_tree ≡ map revised (db deposit_tree) = of_deposits (rows_after office_schema old new edit count edit.news done.change) ∙ done.made in
       let fits : (r : Row) → Has (db deposit_tree) r → keep r ≡ true → fits_i64 (int_at r 11 +ℤ by) ≡ true = λ r there kept.
       let set_there : Has (new.now.trees deposit_tree) (set_sum by r) = subst₂ (λ rs x. Has rs x) (sym rows_now) (ap (λ b. if b then set_sum by r else r) kept) (mapped_has revised (db deposit_tree) r there) in
-      sum_fits (int_at r 11) by (int_at (set_sum by r) 11) (all_has IsDepositRow (new.now.trees deposit_tree) (set_sum by r) (deposit_rows new.now after.office) set_there).8 in
+      sum_fits (int_at r 11) by (int_at (set_sum by r) 11) (all_has IsDepositRow (new.now.trees deposit_tree) (set_sum by r) (deposit_rows new.now after.office) set_there).holds in
       let made = done.made ∙ sums_set by keep (db deposit_tree) fits in
       let deposits_are : map deposit_in (edited db edit) ≡ map deposit_in (db deposit_tree) = ap (map deposit_in) made ∙ kept_alike deposit_in keep (set_more by) (λ r. refl) (db deposit_tree) in
       let dues_are = more_decoded those by keep tests (db deposit_tree) in (
-        becomes old new edit count edit.news office (refl, (refl, tt)) done.change _ (ap₂ (λ rows dues. record (tables_of old.now) { deposits = rows; dues = dues }) deposits_are (ap (map due_in) made ∙ dues_are)),
+        becomes old new edit count edit.news office refl done.change _ (ap₂ (λ rows dues. record (tables_of old.now) { deposits = rows; dues = dues }) deposits_are (ap (map due_in) made ∙ dues_are)),
         fit_those those by keep tests (db deposit_tree) fits,
       )
 
 pub adds_holds : (old new : State) (collection : List ℕ) (by : ℤ) (count : ℕ) → IsOffice old.now → Executes add_holds_text (Text collection ∷ Int by ∷ []) old new (Ok count)
     → Becomes new.now (with_more_holds collection by (tables_of old.now)) × FitMore by (dues_of (is_within collection) (tables_of old.now))
-adds_holds old new collection = adds_to add_holds_text 3 due_meanings.add_holds_means (λ r it. it.1) (is_within collection) collection (λ r. refl) old new
+adds_holds old new collection = adds_to add_holds_text 3 due_meanings.add_holds_means (λ r it. it.collection) (is_within collection) collection (λ r. refl) old new
 
 pub adds_holds_class : (old new : State) (class : List ℕ) (by : ℤ) (count : ℕ) → IsOffice old.now → Executes add_holds_class_text (Text class ∷ Int by ∷ []) old new (Ok count)
     → Becomes new.now (with_more_holds_class class by (tables_of old.now)) × FitMore by (dues_of (is_of_class class) (tables_of old.now))
-adds_holds_class old new class = adds_to add_holds_class_text 4 due_meanings.add_holds_class_means (λ r it. it.2) (is_of_class class) class (λ r. refl) old new
+adds_holds_class old new class = adds_to add_holds_class_text 4 due_meanings.add_holds_class_means (λ r it. it.class) (is_of_class class) class (λ r. refl) old new
 
 -- ---- what may be destroyed
 
@@ -228,9 +206,9 @@ and_end false b = refl
 
 passes_due : (day : ℤ) (r : Row) → IsDepositRow r → passes (Int day ∷ Int least_number ∷ []) is_due r ≡ is_disposable day (deposit_in r, due_in r)
 passes_due day r it =
-    ap₂ (λ a b. a && b) (null_is (column r 9) it.9)
-    (ap₂ (λ a b. a && b) (ap (λ v. is_true (binary (Compare Eq Binary) v (Int (pos 0)))) it.8 ∙ same_int (int_at r 11) (pos 0))
-    (and_end (is_true (binary (Compare Ge Binary) (column r 10) (Int least_number))) (is_true (binary (Compare Le Binary) (column r 10) (Int day))) ∙ day_is (column r 10) day it.7))
+    ap₂ (λ a b. a && b) (null_is (column r 9) it.gone)
+    (ap₂ (λ a b. a && b) (ap (λ v. is_true (binary (Compare Eq Binary) v (Int (pos 0)))) it.holds ∙ same_int (int_at r 11) (pos 0))
+    (and_end (is_true (binary (Compare Ge Binary) (column r 10) (Int least_number))) (is_true (binary (Compare Le Binary) (column r 10) (Int day))) ∙ day_is (column r 10) day it.due))
 
 beside_is : (rows : List Row) → beside (map deposit_in rows) (map due_in rows) ≡ map (λ r. (deposit_in r, due_in r)) rows
 beside_is [] = refl
@@ -270,7 +248,7 @@ lists_class old new class rows office h =
     let typed = deposit_rows old.now office in
     let keep : Row → Bool = has_text 4 class in
     let up = ascending_weaker _ _ (λ a b lower. rw lower refl) (db deposit_tree) (of_deposits office.whole.shaped).0 in
-    let texts = all_from (λ r. column r 4 ≡ Text (bytes_at r 4)) (db deposit_tree) (λ r there. (all_has IsDepositRow (db deposit_tree) r typed there).2) in
+    let texts = all_from (λ r. column r 4 ≡ Text (bytes_at r 4)) (db deposit_tree) (λ r there. (all_has IsDepositRow (db deposit_tree) r typed there).class) in
     let is = reads_rising office_schema class_rows_text deposit_tree (by_text 4) class_rows_columns rising due_meanings.asks_class_rows params old new office.whole.schema_is rows h keep (each_passes 4 class [] (db deposit_tree) texts) up in
     let shows : map shown_closing (map (shown_of params class_rows_columns) (filter keep (db deposit_tree))) ≡ map (λ r. closing_of (deposit_in r)) (filter keep (db deposit_tree)) = map-map shown_closing (shown_of params class_rows_columns) (filter keep (db deposit_tree)) in
     let found : map closing_of (of_class class (tables_of old.now)) ≡ map (λ r. closing_of (deposit_in r)) (filter keep (db deposit_tree)) =
@@ -288,7 +266,7 @@ passes_between first last more r whole =
     ∙ ap₂ (λ a b. a && b) (not_before (int_at r 0) first) (by_day (int_at r 0) last)
 
 -- a text by which each of them gets this value as its day
-module _ (text : List ℕ) (more : Row) (day : Term) (value : Value) (due : Option ℤ) (means : Means office_schema text (Update 5 (as_program (scan deposit_tree by_numbers (deposit_with 10 day) []))))
+module _ (text : List ℕ) (more : Row) (day : Term) (value : Value) (due : Option ℤ) (means : Means office_schema text (Update deposit_place (as_program (scan deposit_tree by_numbers (deposit_with 10 day) []))))
     (shows : (first last : ℤ) (r : Row) → eval day ((Int first ∷ Int last ∷ more) ∷ r ∷ []) ≡ value) (keeps : cast kind.Integer value ≡ value) (is : maybe_int value ≡ due) where
   sets_between : (old new : State) (first last : ℤ) (count : ℕ) → IsOffice old.now → Executes text (Int first ∷ Int last ∷ more) old new (Ok count)
       → Becomes new.now (with_dues first last due (tables_of old.now))
@@ -297,18 +275,18 @@ module _ (text : List ℕ) (more : Row) (day : Term) (value : Value) (due : Opti
       let shaped = of_deposits office.whole.shaped in
       let params : Row = Int first ∷ Int last ∷ more in
       let keep : Row → Bool = λ r. is_due_between first last (due_in r) in
-      let set : Row → Row = λ r. with_last (column r 9) value (Int (int_at r 11)) r in
+      let set : Row → Row = λ r. with_last (column r 9) value (column r 11) r in
       let each = all_from (λ r. passes params by_numbers r ≡ keep r) (db deposit_tree) (λ r there. passes_between first last more r (all_has _ (db deposit_tree) r shaped.1 there)) in
-      let done = revises_all text params old new office_schema office.whole.schema_is 5 deposit_table refl idle shaped by_numbers (deposit_with 10 day) keep each means set (λ r. refl) (λ r there kept.
+      let done = revises_all text params old new office_schema office.whole.schema_is deposit_place deposit_table refl idle shaped by_numbers (deposit_with 10 day) keep each means set (λ r. refl) (λ r there kept.
       let it = all_has IsDepositRow (db deposit_tree) r (deposit_rows old.now office) there in (
-        ap₂ (λ u v. cast_row deposit_table (rowid r ∷ Null ∷ column r 2 ∷ column r 3 ∷ column r 4 ∷ column r 5 ∷ column r 6 ∷ column r 7 ∷ column r 8 ∷ column r 9 ∷ u ∷ v ∷ [])) (shows first last r) it.8
-            ∙ cast_last (column r 9) value (Int (int_at r 11)) r it (all_has _ (db deposit_tree) r shaped.1 there) (keeps_int (column r 9) it.9) keeps (cast_int (int_at r 11)),
+        ap (λ v. cast_row deposit_table (with_last (column r 9) v (column r 11) r)) (shows first last r)
+            ∙ cast_last (column r 9) value (column r 11) r it (all_has _ (db deposit_tree) r shaped.1 there) (keeps_int (column r 9) it.gone) keeps (keeps_int (column r 11) (inr it.holds)),
         refl,
       )) count h in
       let edit = edit_of db deposit_table (ids_of done.answer) Given 1 done.answer in
       let deposits_are : map deposit_in (edited db edit) ≡ map deposit_in (db deposit_tree) = ap (map deposit_in) done.made ∙ kept_alike deposit_in keep set (λ r. refl) (db deposit_tree) in
       let dues_are = decoded due_in keep set (is_due_between first last) (λ d. record d { due = due }) (λ r. refl) (λ r. ap (λ day. record (due_in r) { due = day }) is) (db deposit_tree) in
-      becomes old new edit count edit.news office (refl, (refl, tt)) done.change _ (ap₂ (λ rows dues. record (tables_of old.now) { deposits = rows; dues = dues }) deposits_are (ap (map due_in) done.made ∙ dues_are))
+      becomes old new edit count edit.news office refl done.change _ (ap₂ (λ rows dues. record (tables_of old.now) { deposits = rows; dues = dues }) deposits_are (ap (map due_in) done.made ∙ dues_are))
 
 pub sets_dues : (old new : State) (first last day : ℤ) (count : ℕ) → IsOffice old.now → Executes set_dues_text (Int first ∷ Int last ∷ Int day ∷ []) old new (Ok count)
     → Becomes new.now (with_dues first last (Some day) (tables_of old.now))

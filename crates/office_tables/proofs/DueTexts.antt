@@ -1,5 +1,5 @@
 -- What the statements on due days, counts of holds and deciding rules mean under the schema of an office.
-use Rattle.office_tables.proofs.FirstLemmas.{ℕ, pos, List, [], ◌∷◌, codes, refl, Null, Int, Text, Term, lit, col, op1, op2, case, Binary, Update, understood, everything, Compare, Is, Arith, Eq, Ge, Le, Add, TypeOf, scan, as_program, Asks, by_number, rising, by_text, Means, office_schema, deposit_tree, deposit_with}
+use Rattle.office_tables.proofs.FirstLemmas.{ℕ, pos, List, [], ◌∷◌, codes, refl, Null, Int, Text, Term, lit, col, op1, op2, case, Binary, Update, understood, everything, Compare, Is, Arith, Eq, Ge, Le, Add, TypeOf, scan, as_program, Asks, by_number, rising, by_text, Means, office_schema, deposit_place, deposit_tree, deposit_with}
 
 -- ---- the deposits of a class
 
@@ -79,14 +79,14 @@ due_rows_columns = col 1 0 ∷ col 1 3 ∷ col 1 4 ∷ col 1 10 ∷ []
 pub record DueMeanings : Type 0 where
   pub asks_class_rows : Asks office_schema class_rows_text deposit_tree (by_text 4) class_rows_columns rising
   pub asks_due_of : Asks office_schema due_of_text deposit_tree by_number due_of_columns []
-  pub set_due_means : Means office_schema set_due_text (Update 5 (as_program (scan deposit_tree by_number (deposit_with 10 (col 0 1)) [])))
-  pub clear_due_means : Means office_schema clear_due_text (Update 5 (as_program (scan deposit_tree by_number (deposit_with 10 (lit Null)) [])))
-  pub set_dues_means : Means office_schema set_dues_text (Update 5 (as_program (scan deposit_tree by_numbers (deposit_with 10 (col 0 2)) [])))
-  pub clear_dues_means : Means office_schema clear_dues_text (Update 5 (as_program (scan deposit_tree by_numbers (deposit_with 10 (lit Null)) [])))
-  pub set_holds_means : Means office_schema set_holds_text (Update 5 (as_program (scan deposit_tree by_number (deposit_with 11 (col 0 1)) [])))
+  pub set_due_means : Means office_schema set_due_text (Update deposit_place (as_program (scan deposit_tree by_number (deposit_with 10 (col 0 1)) [])))
+  pub clear_due_means : Means office_schema clear_due_text (Update deposit_place (as_program (scan deposit_tree by_number (deposit_with 10 (lit Null)) [])))
+  pub set_dues_means : Means office_schema set_dues_text (Update deposit_place (as_program (scan deposit_tree by_numbers (deposit_with 10 (col 0 2)) [])))
+  pub clear_dues_means : Means office_schema clear_dues_text (Update deposit_place (as_program (scan deposit_tree by_numbers (deposit_with 10 (lit Null)) [])))
+  pub set_holds_means : Means office_schema set_holds_text (Update deposit_place (as_program (scan deposit_tree by_number (deposit_with 11 (col 0 1)) [])))
   pub asks_beside : Asks office_schema beside_text deposit_tree [] beside_columns rising
-  pub add_holds_means : Means office_schema add_holds_text (Update 5 (as_program (scan deposit_tree (by_text 3) more_columns [])))
-  pub add_holds_class_means : Means office_schema add_holds_class_text (Update 5 (as_program (scan deposit_tree (by_text 4) more_columns [])))
+  pub add_holds_means : Means office_schema add_holds_text (Update deposit_place (as_program (scan deposit_tree (by_text 3) more_columns [])))
+  pub add_holds_class_means : Means office_schema add_holds_class_text (Update deposit_place (as_program (scan deposit_tree (by_text 4) more_columns [])))
   pub asks_due_rows : Asks office_schema due_rows_text deposit_tree is_due due_rows_columns rising
 
 pub due_meanings : DueMeanings

@@ -1,5 +1,5 @@
 -- What the statements on holds do to the rows of an office.
-use Rattle.office_tables.proofs.FirstLemmas.{arith, ◌+◌, slice_index_or, IsTrue, ◌≡◌, ◌⊎◌, ◌&&◌, ◌||◌, not, unwrap_or, bytes_eq, ℕ, ℤ, pos, Bor, Bool, true, false, List, [], ◌∷◌, ◌++◌, map, filter, slice_get, option_map, Option, Some, None, Ok, Less, refl, ap, ap₂, subst, subst₂, sym, ◌∙◌, inl, inr, AllByRecursion, int_eq, int_cmp, nat_cmp, is_eq, is_lt, ints, IsPermutation, IsSorted, cases_Bool, map-append, int_cmp_total, is_eq-slice_cmp, IsPermutation-refl, IsPermutation-sym, IsPermutation-trans, IsPermutation-append_left, IsPermutation-cons, IsPermutation-middle, IsPermutation-map, Value, Null, Int, Text, Row, column, bytes, value_cmp, or_null, bound_value, id_in, edit_of, with_rowid, Chosen, Given, rowid, IsAscending, Term, Database, cast, cast_row, State, Shown, Executes, Datatype, NotNull, value_cmp-Int, value_cmp-Text, value_cmp-apart, Binary, binary, unary, is_true, truth, from_truth, not3, Compare, Is, Not, Eq, ascending_weaker, ascending-map, ascending-filter, map-map, filter-map, sorted_unique, IsSorted-map, same_text, same_int, found_by, int_itself, ids_of, all_has, all_from, int_is, is_int, IsShaped, int_at, bytes_at, maybe_int, maybe_bytes, maybe_bytes_at, Changes, inserts, none_before, Enforced, passes, shown_of, finds_one, Asks, reads_same, reads_rising, by_number, has_number, each_numbered, few_numbered, one_numbered, rising, typed_at, all_both, decoded, cast_null, cast_int, obeys_rule, revises, office_schema, hold_4_table, hold_tree, HoldRow, put_by, is_hold, hold_numbered, last_number, with_hold, with_released, is_live, holds_deposit, holds_collection, holds_class, is_live_on, is_live_within, is_live_of_class, is_live_over, live_holds, IsOffice, Becomes, tables_of, hold_in, of_holds, idle, becomes, AreOthers, adding, placed, reads_last, cast_maybe, keeps_int, keeps_text, maybe_back, null_is, only, reads_numbered}
+use Rattle.office_tables.proofs.FirstLemmas.{arith, ◌+◌, slice_index_or, IsTrue, ◌≡◌, ◌⊎◌, ◌&&◌, ◌||◌, not, unwrap_or, bytes_eq, ℕ, ℤ, pos, Bor, Bool, true, false, List, [], ◌∷◌, ◌++◌, map, filter, slice_get, option_map, Option, Some, None, Ok, Less, refl, ap, ap₂, subst, subst₂, sym, ◌∙◌, inl, inr, AllByRecursion, int_eq, int_cmp, nat_cmp, is_eq, is_lt, ints, IsPermutation, IsSorted, cases_Bool, map-append, int_cmp_total, is_eq-slice_cmp, IsPermutation-refl, IsPermutation-sym, IsPermutation-trans, IsPermutation-append_left, IsPermutation-cons, IsPermutation-middle, IsPermutation-map, Value, Null, Int, Text, Row, column, bytes, value_cmp, or_null, bound_value, id_in, edit_of, with_rowid, Chosen, Given, rowid, IsAscending, Term, Database, cast, cast_row, State, Shown, Executes, Datatype, NotNull, value_cmp-Int, value_cmp-Text, value_cmp-apart, Binary, binary, unary, is_true, truth, from_truth, not3, Compare, Is, Not, Eq, ascending_weaker, ascending-map, ascending-filter, map-map, filter-map, sorted_unique, IsSorted-map, same_text, same_int, found_by, int_itself, ids_of, all_has, all_from, int_is, is_int, IsShaped, int_at, bytes_at, maybe_int, maybe_bytes, maybe_bytes_at, Changes, inserts, none_before, Enforced, passes, shown_of, finds_one, Asks, reads_same, reads_rising, by_number, has_number, each_numbered, few_numbered, one_numbered, rising, typed_at, all_both, decoded, cast_null, cast_int, obeys_rule, revises, office_schema, hold_4_table, hold_tree, HoldRow, put_by, is_hold, hold_numbered, last_number, with_hold, with_released, is_live, holds_deposit, holds_collection, holds_class, is_live_on, is_live_within, is_live_of_class, is_live_over, live_holds, IsOffice, Becomes, tables_of, hold_in, of_holds, idle, becomes, adding, placed, reads_last, cast_maybe, keeps_int, keeps_text, maybe_back, null_is, only, reads_numbered}
 use Rattle.sqlite.specs.Kind.TheVariants as kind
 use Rattle.sqlite_trees.specs.declared.store.Shape.TheVariants as shape
 use Rattle.office_tables.specs.ShownHolds.{shown_hold}
@@ -8,10 +8,6 @@ use Rattle.office_tables.proofs.HoldTexts.{hold_text, hold_columns, last_text, p
 -- the rows of the holds ascend by number
 shaped_holds : (db : Database) → IsOffice db → IsShaped shape.Table (db.trees hold_tree)
 shaped_holds db office = of_holds office.whole.shaped
-
--- the tables that stay empty are others
-others : AreOthers hold_tree
-others = (refl, (refl, tt))
 
 -- ---- reads
 
@@ -66,7 +62,7 @@ module _ (old new : State) (hold : HoldRow) (live : hold.released ≡ None) (cou
       let number : HoldRow → ℤ = λ g. g.number in
       let is_it : hold_in (row_of hold) ≡ hold = rw (maybe_back hold.deposit [], text_back hold.collection [], text_back hold.class [], live) refl in
       let at_its_place = placed hold_in number (λ r. refl) old new hold_4_table (row_of hold) (stored_of hold) hold.number count (adding hold_4_table (row_of hold) old).news (shaped_holds old.now office) put_cast put_change in
-      becomes old new (adding hold_4_table (row_of hold) old) count (adding hold_4_table (row_of hold) old).news office others put_change _ (ap (λ rows. record (tables_of old.now) { holds = rows }) (at_its_place ∙ ap (λ x. put_by number x (map hold_in (old.now.trees hold_tree))) is_it))
+      becomes old new (adding hold_4_table (row_of hold) old) count (adding hold_4_table (row_of hold) old).news office refl put_change _ (ap (λ rows. record (tables_of old.now) { holds = rows }) (at_its_place ∙ ap (λ x. put_by number x (map hold_in (old.now.trees hold_tree))) is_it))
 
   -- so there was no hold of its number
   pub hold_was_new : hold_numbered hold.number (tables_of old.now).holds ≡ None
@@ -106,7 +102,7 @@ ends_hold old new k day count office h =
     (λ r there. (refl, cast_ended day r (all_has IsStoredHold (db hold_tree) r (hold_rows old.now office) there) (all_has _ (db hold_tree) r shaped.1 there), refl)) count h in
     let edit = edit_of db hold_4_table (ids_of done.answer) Given 1 done.answer in
     let ended_is = decoded hold_in (has_number k) (ended day) (is_hold k) (λ h. record h { released = Some day }) (λ r. refl) (λ r. refl) (db hold_tree) in
-    becomes old new edit count edit.news office others done.change _ (ap (λ rows. record (tables_of old.now) { holds = rows }) (ap (map hold_in) done.made ∙ ended_is))
+    becomes old new edit count edit.news office refl done.change _ (ap (λ rows. record (tables_of old.now) { holds = rows }) (ap (map hold_in) done.made ∙ ended_is))
 
 -- ---- the live holds
 

@@ -26,13 +26,13 @@ pub drops_callers : (old new : State) (count : ℕ) → IsOffice old.now → Exe
 drops_callers old new count office h =
     let db = old.now.trees in
     let done = drops drop_callers_text [] old new office_schema office.whole.schema_is 1 caller_table refl idle (of_callers office.whole.shaped) [] (col 1 0 ∷ []) (λ r. true) (all_from (λ r. true ≡ true) (db caller_tree) (λ r there. refl)) policy_meanings.drop_callers_means (λ r. refl) count h in
-    becomes old new (edit_of db caller_table (ids_of done.answer) Given 0 []) count _ office (refl, (refl, tt)) done.change _ (ap (λ rows. record (tables_of old.now) { callers = rows }) (ap (map caller_in) (done.made ∙ none_pass (λ r. false) (db caller_tree) (λ r there. refl))))
+    becomes old new (edit_of db caller_table (ids_of done.answer) Given 0 []) count _ office refl done.change _ (ap (λ rows. record (tables_of old.now) { callers = rows }) (ap (map caller_in) (done.made ∙ none_pass (λ r. false) (db caller_tree) (λ r there. refl))))
 
 pub drops_rules : (old new : State) (count : ℕ) → IsOffice old.now → Executes drop_rules_text [] old new (Ok count) → Becomes new.now (without_rules (tables_of old.now))
 drops_rules old new count office h =
     let db = old.now.trees in
     let done = drops drop_rules_text [] old new office_schema office.whole.schema_is 10 rule_5_table refl idle (of_rules office.whole.shaped) [] (col 1 0 ∷ []) (λ r. true) (all_from (λ r. true ≡ true) (db rule_tree) (λ r there. refl)) policy_meanings.drop_rules_means (λ r. refl) count h in
-    becomes old new (edit_of db rule_5_table (ids_of done.answer) Given 0 []) count _ office (refl, (refl, tt)) done.change _ (ap (λ rows. record (tables_of old.now) { rules = rows }) (ap (map rule_in) (done.made ∙ none_pass (λ r. false) (db rule_tree) (λ r there. refl))))
+    becomes old new (edit_of db rule_5_table (ids_of done.answer) Given 0 []) count _ office refl done.change _ (ap (λ rows. record (tables_of old.now) { rules = rows }) (ap (map rule_in) (done.made ∙ none_pass (λ r. false) (db rule_tree) (λ r there. refl))))
 
 -- ---- the new rows
 
@@ -45,7 +45,7 @@ adds_caller old new caller count office h =
     let done = inserts add_caller_text (Text caller.name ∷ Text caller.role ∷ []) old new office_schema office.whole.schema_is 1 caller_table refl idle (all_given 2) 3 policy_meanings.add_caller_means refl refl count h in
     let cast_is : cast_row caller_table source ≡ Null ∷ Text caller.name ∷ Text caller.role ∷ [] = rw cast_null refl in
     let end = appended db caller_table source (Text caller.name ∷ Text caller.role ∷ []) (of_callers office.whole.shaped) cast_is in
-    becomes old new edit count edit.news office (refl, (refl, tt)) done _ (ap (λ rows. record (tables_of old.now) { callers = rows }) (ap (map caller_in) end ∙ map-append caller_in (db caller_tree) _))
+    becomes old new edit count edit.news office refl done _ (ap (λ rows. record (tables_of old.now) { callers = rows }) (ap (map caller_in) end ∙ map-append caller_in (db caller_tree) _))
 
 abbrev pub params_of : RuleRow → Row
 params_of r = Int r.place ∷ Int r.effect ∷ Text r.role ∷ Text r.action ∷ Text r.collection ∷ Text r.class ∷ Int r.first ∷ Int r.last ∷ []
@@ -60,7 +60,7 @@ adds_rule old new rule count office h =
     let edit = edit_of old.now.trees rule_5_table [] Chosen 0 (row ∷ []) in
     let done = inserts add_rule_text (params_of rule) old new office_schema office.whole.schema_is 10 rule_5_table refl idle rule_terms 9 policy_meanings.add_rule_means refl refl count h in
     let cast_is : cast_row rule_5_table row ≡ row = rw (cast_null, cast_int rule.place, cast_int rule.effect, cast_int rule.first, cast_int rule.last) refl in
-    becomes old new edit count edit.news office (refl, (refl, tt)) done _ (ap (λ rows. record (tables_of old.now) { rules = rows })
+    becomes old new edit count edit.news office refl done _ (ap (λ rows. record (tables_of old.now) { rules = rows })
     (placed rule_in (λ (r : RuleRow). r.place) (λ r. refl) old new rule_5_table row (stored_of rule) rule.place count edit.news (of_rules office.whole.shaped) cast_is done))
 
 -- ---- all the new rows
