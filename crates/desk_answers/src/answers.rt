@@ -9,6 +9,7 @@ ghost use Rattle.desk_answers.specs.Responses.{media_type_of, body_of, carried_t
 use crate::bodies;
 use crate::content::{Content, content_bytes};
 use crate::methods::allow_line;
+use crate::object::text_of;
 use crate::refusals::{name_value, refusal_status, refusal_value};
 use crate::rows::record_data;
 use crate::status::Status;
@@ -65,7 +66,7 @@ fn content_of<'a>(alloc: Global, answer: &'a Answer) -> Result<Content<'a>, Allo
         Answer::DueList { day, deposits } => bodies::due_list(alloc, *day, deposits.as_slice()),
         Answer::Refused(refusal) => refusal_value(alloc, refusal),
     }?;
-    Ok(Content::Json(value.to_vec(alloc)?))
+    Ok(Content::Json(text_of(alloc, value)?))
 }
 
 /// The bytes of the response that gives the office's answer: status line, fields, an empty line and
@@ -104,6 +105,6 @@ pub fn refusal_bytes(alloc: Global, refusal: &DeskRefusal) -> Result<Vec<u8>, Al
     let refusal = *refusal;
     let allow = allow_line(alloc, refusal)?;
     let (status, name) = status_and_name(refusal);
-    let content = Content::Json(name_value(alloc, name)?.to_vec(alloc)?);
+    let content = Content::Json(text_of(alloc, name_value(alloc, name)?)?);
     content_bytes(alloc, status, allow.as_str(), content)
 }

@@ -7,7 +7,7 @@ use crate::status::Status;
 use std::alloc::{AllocError, Global};
 
 /// What a body is.
-#[derive(Clone, Copy, Debug, PartialEq, Eq)]
+#[derive(Clone, Copy)]
 pub enum MediaType {
     Json,
     OctetStream,

@@ -1,7 +1,8 @@
 //! Objects of JSON, from lists of their members.
 
-ghost use Rattle.std.specs.Prelude.{◌≡◌, IfOk, map};
+ghost use Rattle.std.specs.Prelude.{◌≡◌, IfOk, map, false};
 ghost use Rattle.serde_json.specs.View.{view};
+ghost use Rattle.serde_json.specs.Written.{compact_text, has_float};
 ghost use Rattle.desk_answers.specs.Objects.{whole};
 ghost use Rattle.desk_answers.specs.Members.{member_data, object_with};
 
@@ -96,4 +97,12 @@ pub(crate) fn object(
         put(&mut map, alloc, key, member_value(alloc, value)?)?;
     }
     Ok(Value::Object(map))
+}
+
+/// The value in JSON. It takes the value, so that few functions have the drop of one to prove.
+pub(crate) fn text_of(alloc: Global, value: Value) -> Result<Vec<u8>, AllocError>
+    ensures { IfOk result (λ text. has_float (view value) ≡ false
+        → text.items ≡ compact_text (view value)) }
+{
+    value.to_vec(alloc)
 }

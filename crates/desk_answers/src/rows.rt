@@ -4,7 +4,7 @@ ghost use Rattle.std.specs.Prelude.{◌≡◌, IfOk};
 ghost use Rattle.serde_json.specs.View.{view};
 ghost use Rattle.desk_answers.specs.Rows.{scope_text, record_data, live_hold_data};
 
-use crate::object::{MemberValue, object};
+use crate::object::{MemberValue, object, text_of};
 use crate::told::Told;
 use office_core::{DepositRecord, LiveHold, Scope};
 use serde_json::Value;
@@ -57,7 +57,7 @@ impl Told for DepositRecord {
     ghost told = { record_data };
 
     fn text(&self, alloc: Global) -> Result<Vec<u8>, AllocError> {
-        record_data(alloc, self)?.to_vec(alloc)
+        text_of(alloc, record_data(alloc, self)?)
     }
 }
 
@@ -65,6 +65,6 @@ impl Told for LiveHold {
     ghost told = { live_hold_data };
 
     fn text(&self, alloc: Global) -> Result<Vec<u8>, AllocError> {
-        live_hold_data(alloc, self)?.to_vec(alloc)
+        text_of(alloc, live_hold_data(alloc, self)?)
     }
 }

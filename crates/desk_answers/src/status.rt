@@ -6,7 +6,7 @@ ghost use Rattle.desk_answers.specs.Statuses.{code_of, phrase_of, status_text};
 use std::fmt;
 
 /// A status that an answer may have. Each is named by its reason phrase, but for `Success`, 200 OK.
-#[derive(Clone, Copy, Debug, PartialEq, Eq)]
+#[derive(Clone, Copy)]
 pub enum Status {
     Success,
     Created,

@@ -5,4 +5,4 @@ use Rattle.desk_answers.proofs.answers.content_of.Goals as goal
 pub returns-clause-body : goal.returns-clause-body
 returns-clause-body c =
     let is : json (view c.in_ok-value.value) ≡ content_of c.args.answer.now = search rules in
-    written_body c.args.answer.now (view c.in_ok-value.value) _ is c.in_ok-to_vec.ensures.text
+    written_body c.args.answer.now (view c.in_ok-value.value) _ is c.in_ok-text_of.ensures
