@@ -4,7 +4,7 @@ use Rattle.std.proofs.lemmas.Int.{by_lt_z}
 use Rattle.office_core.specs.declared.action.Action.TheVariants as acts
 use Rattle.office_core.specs.Verdicts as deciding
 use Rattle.office_core.specs.declared.request.Request.TheVariants.{Deposit as MakeDeposit}
-use Rattle.office_history.proofs.HistoryLemmas.{deposits_grown, holds_grown}
+use Rattle.office_history.proofs.HistoryLemmas.{one_deposit, one_hold, same_deposits, same_holds}
 
 -- ---- where no refusal stands
 
@@ -187,12 +187,12 @@ legal_by P begun more h (step before day caller request in_day asked legal) =
 pub deposits_by : (P : List (Date × Deposit) → Type 0) (x : History) (c : Change) → IsAccepted x c → P (deposits x)
     → ((day : Date) (deposit : Deposit) → IsDay day × IsDescription deposit.description → IsDepositable x day deposit → P (deposits x ++ (day, deposit) ∷ []))
     → P (deposits (with_changes x (c ∷ [])))
-deposits_by P x (Deposited day deposit) ok here made = subst P (sym (deposits_grown x (Deposited day deposit ∷ []))) (made day deposit ok.0 ok.1)
-deposits_by P x c ok here made = subst P (sym (deposits_grown x (c ∷ []) ∙ append-nil (deposits x))) here
+deposits_by P x (Deposited day deposit) ok here made = subst P (sym (one_deposit x day deposit [] refl)) (made day deposit ok.0 ok.1)
+deposits_by P x c ok here made = subst P (sym (same_deposits x (c ∷ []) refl)) here
 
 -- the holds after a change, likewise
 pub holds_by : (P : List (Date × Hold) → Type 0) (x : History) (c : Change) → IsAccepted x c → P (holds x)
     → ((day : Date) (hold : Hold) → IsDay day × IsHold hold → IsPlaceable x hold → P (holds x ++ (day, hold) ∷ []))
     → P (holds (with_changes x (c ∷ [])))
-holds_by P x (PlacedHold day hold) ok here made = subst P (sym (holds_grown x (PlacedHold day hold ∷ []))) (made day hold ok.0 ok.1)
-holds_by P x c ok here made = subst P (sym (holds_grown x (c ∷ []) ∙ append-nil (holds x))) here
+holds_by P x (PlacedHold day hold) ok here made = subst P (sym (one_hold x day hold [] refl)) (made day hold ok.0 ok.1)
+holds_by P x c ok here made = subst P (sym (same_holds x (c ∷ []) refl)) here

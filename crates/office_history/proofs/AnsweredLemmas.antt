@@ -1,5 +1,5 @@
 -- What is known of a history where an answer was given: which hold was placed, which was released, what is told.
-use Rattle.office_history.proofs.FirstLemmas.{◌≡◌, ℕ, zero, suc, ◌+◌, List, [], ◌∷◌, ◌++◌, length, Option, Some, None, slice_get, refl, sym, ap, ◌∙◌, length-append, arith, ◌≤◌, filter_map, cons_option, option_or, Decides-eqb, same_Some, Date, set_text, content_at, Answer, Refusal, Request, Record, Holds, DownloadBag, DownloadFile, Audit, HoldDeposit, HoldCollection, HoldClass, Release, DueList, first_said, item_numbered, History, Change, PlacedHold, ReleasedHold, Deposit, Hold, OnDeposit, OnCollection, OnClass, with_changes, deposit_numbered, hold_in, holds, hold_numbered, release_day, released_in, live_holds, report_on, refusal, answer, answer_unless, allowed_answer, told_of, file_answer, record_of, told_hold, told_holds, audit_report, change, changes_unless, allowed_change, after, numbered_last, holds_grown, releasable, by_Option}
+use Rattle.office_history.proofs.FirstLemmas.{◌≡◌, ℕ, zero, suc, ◌+◌, List, [], ◌∷◌, ◌++◌, length, Option, Some, None, slice_get, refl, sym, ap, ◌∙◌, filter_map, cons_option, option_or, Decides-eqb, same_Some, Date, set_text, content_at, Answer, Refusal, Request, Record, Holds, DownloadBag, DownloadFile, Audit, HoldDeposit, HoldCollection, HoldClass, Release, DueList, first_said, item_numbered, History, Change, PlacedHold, ReleasedHold, Deposit, Hold, OnDeposit, OnCollection, OnClass, with_changes, deposit_numbered, holds, hold_numbered, release_day, released_in, live_holds, report_on, refusal, answer, answer_unless, allowed_answer, told_of, file_answer, record_of, told_hold, told_holds, audit_report, change, changes_unless, allowed_change, after, numbered_last, releasable, by_Option, one_hold}
 use Rattle.office_core.specs.declared.answer.Answer.TheVariants as answers
 use Rattle.office_core.specs.declared.answer.LiveHold.{LiveHold}
 use Rattle.office_history.proofs.LawLemmas.{unrefused}
@@ -41,10 +41,7 @@ was_placed h day caller request k e =
 
 -- the holds after a hold was placed
 pub holds_after : (h : History) (day : Date) (changes : List Change) (hold : Hold) → changes ≡ PlacedHold day hold ∷ [] → holds (with_changes h changes) ≡ holds h ++ (day, hold) ∷ []
-holds_after h day changes hold e = ap (λ (c : List Change). holds (with_changes h c)) e ∙ holds_grown h (PlacedHold day hold ∷ [])
-
-pub more_holds : (h : History) (more : List Change) → length (holds h) ≤ length (holds (with_changes h more))
-more_holds h more = rw (holds_grown h more, length-append (holds h) (filter_map hold_in more)) (omega arith)
+holds_after h day changes hold e = ap (λ (c : List Change). holds (with_changes h c)) e ∙ one_hold h day hold [] refl
 
 -- a hold that was answered with a number has that number
 hold_there : (h : History) (day : Date) (caller : List ℕ) (request : Request) (hold : Hold) (k : ℕ) → answer_unless (refusal h day caller request) (answers.HoldPlaced (length (holds h) + 1)) ≡ answers.HoldPlaced k

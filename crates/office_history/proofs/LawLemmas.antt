@@ -1,5 +1,5 @@
 -- What holds and classes do over time, and what is served of a deposit.
-use Rattle.office_history.proofs.FirstLemmas.{◌≡◌, ◌≢◌, ℕ, ◌+◌, true, List, [], ◌∷◌, ◌++◌, Option, Some, None, Result, Ok, Err, length, refl, sym, ap, subst, ◌∙◌, inl, inr, append_assoc, filter_map, bytes_eq-Decides, Bor, Date, File, set_text, content_at, set_of, SetFault, Description, due_of, Answer, Refusal, DownloadBag, DownloadFile, item_numbered, History, Change, DefinedClass, OnCollection, OnClass, Deposit, with_changes, deposit_in, deposits, deposit_numbered, hold_numbered, release_day, released_in, covers, years_in, due, bag_of, valid_bag, if_valid, report_on, Report, refusal, answer, answer_unless, allowed_answer, told_of, change, changes_unless, deposit_change, after, Item, IsFailure, Step, Run, IsLater, first_said_front, last_said_last, numbered_last, grown_by_none, depositable, deposits_grown, deposit_stays, by_Option}
+use Rattle.office_history.proofs.FirstLemmas.{◌≡◌, ◌≢◌, ℕ, ◌+◌, true, List, [], ◌∷◌, ◌++◌, Option, Some, None, Result, Ok, Err, length, refl, sym, ap, subst, ◌∙◌, inl, inr, append_assoc, bytes_eq-Decides, Bor, Date, File, set_text, content_at, set_of, SetFault, Description, due_of, Answer, Refusal, DownloadBag, DownloadFile, item_numbered, History, Change, DefinedClass, OnCollection, OnClass, Deposit, with_changes, deposits, deposit_numbered, hold_numbered, release_day, released_in, covers, years_in, due, bag_of, valid_bag, if_valid, report_on, Report, refusal, answer, answer_unless, allowed_answer, told_of, change, changes_unless, deposit_change, after, Item, IsFailure, Step, Run, IsLater, first_said_front, last_said_last, numbered_last, grown_by_none, depositable, by_Option, one_deposit, bag_stays}
 use Rattle.office_core.specs.declared.answer.Answer.TheVariants as answers
 use Rattle.office_core.specs.declared.request.Request.TheVariants.{Deposit as MakeDeposit}
 
@@ -50,9 +50,9 @@ unrefused (Some r) given wanted e other = absurd (other r (sym e))
 pub deposit_adds : (h : History) (day : Date) (caller : List ℕ) (description : Description) (text : Bor (List ℕ)) (bag : List File) → refusal h day caller (MakeDeposit description text) ≡ None → bag_of text.now ≡ Ok bag
     → deposits (after h day caller (MakeDeposit description text)) ≡ deposits h ++ (day, record { description = description; bag = bag }) ∷ []
 deposit_adds h day caller description text bag e is =
-    deposits_grown h (change h day caller (MakeDeposit description text))
-    ∙ ap (λ (why : Option Refusal). deposits h ++ filter_map deposit_in (changes_unless why (deposit_change day description (bag_of text.now)))) e
-    ∙ ap (λ (r : Result (List File) (List ℕ)). deposits h ++ filter_map deposit_in (deposit_change day description r)) is
+    ap (λ (why : Option Refusal). deposits (with_changes h (changes_unless why (deposit_change day description (bag_of text.now))))) e
+    ∙ ap (λ (r : Result (List File) (List ℕ)). deposits (with_changes h (deposit_change day description r))) is
+    ∙ one_deposit h day (record { description = description; bag = bag }) [] refl
 
 -- the bag that a text gives is read from it
 pub read_of : (text : List ℕ) (bag : List File) → bag_of text ≡ Ok bag → set_of text ≡ Ok bag
@@ -84,10 +84,11 @@ was_deposited h next day n caller description bag e after_it =
     let there : deposit_numbered mid n ≡ Some made =
     ap (λ ds. item_numbered ds n) (deposit_adds h day caller description bag allowed.0 was.0 allowed.1)
     ∙ ap (λ m. item_numbered (deposits h ++ made ∷ []) m) (sym number) ∙ numbered_last (deposits h) made in
+    let it = bag_stays mid after_it.0 n made there in
     record {
-      found = made;
-      there = ap (λ x. deposit_numbered x n) after_it.1 ∙ deposit_stays mid after_it.0 n made there;
-      read = read_of bag.now allowed.0 allowed.1;
+      found = it.0;
+      there = ap (λ x. deposit_numbered x n) after_it.1 ∙ it.1;
+      read = read_of bag.now allowed.0 allowed.1 ∙ ap Ok (sym it.2);
     }
 
 -- of two items of a run, neither of which failed, the second was answered in a later history than the first made

@@ -1,5 +1,5 @@
--- What legal histories have: sound bags, and changes that were allowed at their places. Runs of items in range stay legal.
-use Rattle.office_history.proofs.FirstLemmas.{◌≡◌, ℕ, List, [], ◌∷◌, ◌++◌, Result, Ok, Err, refl, sym, ap, subst, ◌∙◌, inl, inr, append-nil, AllByRecursion, Date, File, IsBag, set_of, SetFault, Report, Valid, Answer, History, Change, Deposit, with_changes, deposits, bag_of, valid_bag, if_valid, report_or_text, IsChange, IsAllowed, Item, IsItem, AreItems, Step, Run, IsLegal, step, IsSound, as_of, split_two, all_append, IsAccepted, legal_by, deposits_by}
+-- What a bag that is accepted is, what each change of a legal history was, and that runs of items in range stay legal.
+use Rattle.office_history.proofs.FirstLemmas.{◌≡◌, ℕ, List, [], ◌∷◌, ◌++◌, Result, Ok, Err, refl, sym, ap, subst, ◌∙◌, inl, inr, append-nil, File, IsBag, set_of, SetFault, Report, Valid, Answer, History, Change, with_changes, bag_of, valid_bag, if_valid, report_or_text, IsChange, IsAllowed, Item, IsItem, AreItems, Step, Run, IsLegal, step, IsSound, as_of, split_two, IsAccepted, legal_by}
 use Rattle.bag_text.specs.declared.declaration.Version.{Version}
 use Rattle.bag_check.specs.Faults.{Fault}
 use Rattle.bag_check.specs.Judging.{judge}
@@ -26,15 +26,6 @@ sound_read reads judges text bag (Ok files) s e = sound_judged judges files bag 
 
 pub sound_bag : Reads → Judges → (text : List ℕ) (bag : List File) → bag_of text ≡ Ok bag → IsSound bag
 sound_bag reads judges text bag e = sound_read reads judges text bag (set_of text) refl e
-
-abbrev pub HasSoundBag : Date × Deposit → Type 0
-HasSoundBag found = IsSound found.1.bag
-
-pub sound_deposits : Reads → Judges → (h : History) → IsLegal h → AllByRecursion HasSoundBag (deposits h)
-sound_deposits reads judges h legal =
-    legal_by (λ x. AllByRecursion HasSoundBag (deposits x)) (λ a b a_in b_in. tt) (λ x c was ok all.
-    deposits_by (AllByRecursion HasSoundBag) x c ok all
-    (λ day deposit ranged allowed. all_append HasSoundBag (deposits x) ((day, deposit) ∷ []) all (sound_bag reads judges allowed.form deposit.bag allowed.read, tt))) h legal
 
 -- ---- the changes
 

@@ -1,19 +1,10 @@
 -- Legal histories: their policies are made of names, and what isn't there was neither destroyed nor released.
-use Rattle.office_history.proofs.FirstLemmas.{◌≡◌, ℕ, ◌==◌, List, [], ◌∷◌, Some, None, unwrap_or, refl, sym, ap, subst, ◌∙◌, if◌then◌else◌, option_or, Decides-eqb, first_said, last_said, History, Change, Installed, ReleasedHold, Destroyed, with_changes, installed_in, policy, deposit_numbered, destroyed_in, destruction_day, hold_numbered, released_in, release_day, PolicyValue, IsPolicy, IsChange, IsAllowed, IsLegal, deposit_stays, hold_stays, legal_by, policy_grown, gone_grown, released_grown}
+use Rattle.office_history.proofs.FirstLemmas.{◌≡◌, ℕ, ◌==◌, [], ◌∷◌, Some, None, unwrap_or, refl, sym, ap, subst, ◌∙◌, if◌then◌else◌, option_or, Decides-eqb, first_said, last_said, History, Change, Installed, ReleasedHold, Destroyed, installed_in, policy, deposit_numbered, destroyed_in, destruction_day, hold_numbered, released_in, release_day, PolicyValue, IsPolicy, IsChange, IsAllowed, IsLegal, legal_by, policy_grown, gone_grown, released_grown, no_deposit_before, no_hold_before}
 use Rattle.office_core.proofs.PolicyNames.{no_policy_is_policy}
-use Rattle.office_history.proofs.Common.{by_Bool, by_Option}
+use Rattle.office_history.proofs.Common.{by_Bool}
 
 not_that : {A : Type 0} (a b : ℕ) (x : A) → (a ≡ b → ⊥) → option_or (if a == b then Some x else None) None ≡ None
 not_that a b x other = by_Bool (a == b) (λ same. absurd (other ((Decides-eqb a b).0 same))) (λ apart. rw apart refl)
-
--- what isn't there now was not there before
-no_deposit_before : (h : History) (more : List Change) (n : ℕ) → deposit_numbered (with_changes h more) n ≡ None → deposit_numbered h n ≡ None
-no_deposit_before h more n e =
-    by_Option (deposit_numbered h n) (λ none. none) (λ found is. let wrong : Some found ≡ None = sym (deposit_stays h more n found is) ∙ e in absurd cc)
-
-no_hold_before : (h : History) (more : List Change) (j : ℕ) → hold_numbered (with_changes h more) j ≡ None → hold_numbered h j ≡ None
-no_hold_before h more j e =
-    by_Option (hold_numbered h j) (λ none. none) (λ found is. let wrong : Some found ≡ None = sym (hold_stays h more j found is) ∙ e in absurd cc)
 
 -- a change that is allowed destroys no deposit, and releases no hold, that isn't there
 not_destroyed : (x : History) (n : ℕ) (c : Change) → deposit_numbered x n ≡ None → IsAllowed x c → first_said (destroyed_in n) (c ∷ []) ≡ None

@@ -1,35 +1,10 @@
--- Numbers and accessions are given once, and released holds are not live.
-use Rattle.office_history.proofs.FirstLemmas.{◌≡◌, ◌≤◌, ℕ, zero, suc, ◌+◌, true, false, ◌&&◌, List, [], ◌∷◌, ◌++◌, length, Option, Some, None, slice_get, position, bytes_eq, refl, sym, ap, ◌∙◌, inl, inr, ◌⊎◌, length-append, arith, int_lt, filter_map, and_parts, true≢false, bytes_eq-Decides, Bor, Date, epoch_day, Description, allows, first_some, Decision, Due, On, Never, Held, Dispose, option_map_none, item_numbered, numbers, History, Change, Deposit, with_changes, deposit_in, deposits, deposit_numbered, destruction_day, due, holds, release_day, is_live, covers, live_holds, least_hold, refusal_in, refusal, of_deposit, disposal_refusals, denial_at, gone_refusal, held_refusal, not_due_refusal, answer, IsLegal, numbered_cases, none_passes, filter_has, has_at, deposits_grown, legal_by, deposits_by, by_Bool, by_Option}
+-- Numbers are given once, and released holds are not live.
+use Rattle.office_history.proofs.FirstLemmas.{◌≡◌, ℕ, ◌+◌, true, false, ◌&&◌, List, [], ◌∷◌, length, Option, Some, None, slice_get, refl, sym, ap, ◌∙◌, inl, inr, ◌⊎◌, int_lt, and_parts, true≢false, Bor, Date, epoch_day, Description, allows, first_some, Decision, Due, On, Never, Held, Dispose, numbers, History, Deposit, deposits, deposit_numbered, destruction_day, due, holds, release_day, is_live, covers, live_holds, least_hold, refusal_in, refusal, of_deposit, disposal_refusals, denial_at, gone_refusal, held_refusal, not_due_refusal, answer, filter_has, has_at, by_Bool, by_Option}
 use Rattle.office_core.specs.declared.action.Action.TheVariants as acts
 use Rattle.office_core.specs.declared.answer.Answer.TheVariants as answers
 use Rattle.office_core.specs.Verdicts as deciding
 use Rattle.office_core.specs.declared.request.Request.TheVariants.{Deposit as MakeDeposit}
 use Rattle.office_history.proofs.LawLemmas.{unrefused}
-
--- ---- accessions
-
--- two deposits of a list with one accession are one
-abbrev pub AreApart : List (Date × Deposit) → Type 0
-AreApart ds = (n m : ℕ) (a b : Date × Deposit) → item_numbered ds n ≡ Some a → item_numbered ds m ≡ Some b → a.1.description.accession ≡ b.1.description.accession → n ≡ m
-
--- no deposit of the list has the accession
-unused : (ds : List (Date × Deposit)) (accession : List ℕ) (n : ℕ) (a : Date × Deposit) → position (λ (d : Date × Deposit). bytes_eq d.1.description.accession accession) ds ≡ None → item_numbered ds n ≡ Some a → a.1.description.accession ≡ accession → ⊥
-unused ds accession zero a none at same = absurd cc
-unused ds accession (suc place) a none at same =
-    true≢false (sym ((bytes_eq-Decides a.1.description.accession accession).1 same) ∙ none_passes (λ (d : Date × Deposit). bytes_eq d.1.description.accession accession) ds place a none at)
-
-apart_added : (ds : List (Date × Deposit)) (added : Date × Deposit) → AreApart ds → position (λ (d : Date × Deposit). bytes_eq d.1.description.accession added.1.description.accession) ds ≡ None → AreApart (ds ++ added ∷ [])
-apart_added ds added apart none n m a b at_n at_m same =
-    elim (numbered_cases ds added n a at_n) [
-      | inl old_n ↦ elim (numbered_cases ds added m b at_m) [
-        | inl old_m ↦ apart n m a b old_n old_m same
-        | inr new_m ↦ absurd (unused ds added.1.description.accession n a none old_n (same ∙ ap (λ (d : Date × Deposit). d.1.description.accession) (sym new_m.1)))
-      ]
-      | inr new_n ↦ elim (numbered_cases ds added m b at_m) [
-        | inl old_m ↦ absurd (unused ds added.1.description.accession m b none old_m (sym same ∙ ap (λ (d : Date × Deposit). d.1.description.accession) (sym new_n.1)))
-        | inr new_m ↦ new_n.0 ∙ sym new_m.0
-      ]
-    ]
 
 -- ---- numbers
 
@@ -38,18 +13,6 @@ pub was_allowed : (h : History) (day : Date) (caller : List ℕ) (description : 
 was_allowed h day caller description text n e =
     let r = unrefused (refusal h day caller (MakeDeposit description text)) (answers.Deposited (length (deposits h) + 1)) (answers.Deposited n) e (λ r. λ wrong. absurd cc) in
     (r.0, (let same = r.1 in cc))
-
-pub more_deposits : (h : History) (more : List Change) → length (deposits h) ≤ length (deposits (with_changes h more))
-more_deposits h more = rw (deposits_grown h more, length-append (deposits h) (filter_map deposit_in more)) (omega arith)
-
-none_apart : AreApart []
-none_apart zero m a b at_n at_m same = absurd cc
-none_apart (suc n) m a b at_n at_m same = absurd cc
-
-pub accessions_apart : (h : History) → IsLegal h → AreApart (deposits h)
-accessions_apart h legal =
-    legal_by (λ x. AreApart (deposits x)) (λ a b a_in b_in. none_apart) (λ x c was ok apart.
-    deposits_by AreApart x c ok apart (λ day deposit ranged allowed. apart_added (deposits x) (day, deposit) apart (option_map_none _ _ allowed.new_accession))) h legal
 
 -- ---- released holds
 

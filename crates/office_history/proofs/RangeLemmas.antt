@@ -1,6 +1,8 @@
--- Each legal history: its limits hold, what is named is there, and its rows are in range.
-use Rattle.office_history.proofs.FirstLemmas.{◌≡◌, ◌<◌, ◌≤◌, ◌≤ℤ◌, ℕ, true, List, [], ◌∷◌, ◌++◌, length, length-append, Option, Some, None, is_some, refl, ap, subst, ◌∙◌, arith, bytes_eq, AllByRecursion, filter_map, list_any, option_or, filter_map-append, or_left, same_Some, cond_some, bytes_eq-Decides, Date, epoch_day, IsDay, IsDescription, IsName, IsYears, first_said, last_said, History, Change, DefinedClass, DefinedCollection, Deposited, PlacedHold, ReleasedHold, Destroyed, Target, OnDeposit, OnCollection, OnClass, Deposit, Hold, with_changes, years_in, years_of, has_class, collection_in, has_collection, deposit_in, deposits, deposit_numbered, destroyed_in, destruction_day, hold_in, holds, released_in, release_day, IsChange, IsHold, IsThere, IsLegal, IsWithin, all_append, all_weaker, deposit_stays, all_said, some_behind, last_said-append, legal_by, deposits_by, holds_by, by_Option}
+-- Each legal history: its limits hold, its accessions are used once, what is named is there, and its deposits, holds and changes are in range.
+use Rattle.office_history.proofs.FirstLemmas.{◌≡◌, ◌<◌, ◌≤◌, ◌≤ℤ◌, ℕ, true, List, [], ◌∷◌, ◌++◌, length, length-append, Option, Some, None, is_some, refl, ap, subst, ◌∙◌, arith, bytes_eq, AllByRecursion, filter_map, list_any, option_or, filter_map-append, or_left, same_Some, cond_some, bytes_eq-Decides, Date, epoch_day, IsDay, IsDescription, IsName, IsYears, first_said, last_said, History, Change, DefinedClass, DefinedCollection, ReleasedHold, Destroyed, Target, OnDeposit, OnCollection, OnClass, Deposit, Hold, with_changes, years_in, years_of, has_class, collection_in, has_collection, deposits, deposit_numbered, destroyed_in, destruction_day, holds, released_in, release_day, IsChange, IsHold, IsThere, IsLegal, IsWithin, all_append, all_weaker, all_said, some_behind, last_said-append, legal_by, deposits_by, holds_by, by_Option, no_deposit_before, zero, suc, sym, inl, inr, position, true≢false, item_numbered, IsSound, numbered_cases, none_passes, option_map_none}
 use Rattle.std.proofs.lemmas.List.Folds.{list_any-append}
+use Rattle.office_history.proofs.LegalLemmas.{Reads, Judges, sound_bag}
+use Rattle.office_history.specs.Acceptance.{IsDepositable, IsPlaceable}
 
 -- ---- the limits
 
@@ -19,16 +21,85 @@ limits_hold h legal =
     })
     h legal
 
--- ---- the day of a deposit
+-- ---- each deposit, and each hold
+
+abbrev pub IsDeposited : Date × Deposit → Type 0
+IsDeposited found = IsDay found.0 × IsDescription found.1.description
+
+abbrev pub IsPlaced : Date × Hold → Type 0
+IsPlaced found = IsDay found.0 × IsHold found.1
+
+-- what each deposit has that is allowed, and what stays so, each deposit has
+each_deposit : (P : History → Date × Deposit → Type 0) → ((h : History) (more : List Change) (found : Date × Deposit) → P h found → P (with_changes h more) found)
+    → ((h : History) (day : Date) (deposit : Deposit) → IsDeposited (day, deposit) → IsDepositable h day deposit → P h (day, deposit)) → (h : History) → IsLegal h → AllByRecursion (P h) (deposits h)
+each_deposit P stays made =
+    legal_by (λ x. AllByRecursion (P x) (deposits x)) (λ a b a_in b_in. tt) (λ x c was ok all.
+    let next = with_changes x (c ∷ []) in
+    let still = all_weaker (P x) (P next) (stays x (c ∷ [])) (deposits x) all in
+    deposits_by (AllByRecursion (P next)) x c ok still
+    (λ day deposit ranged allowed. all_append (P next) (deposits x) ((day, deposit) ∷ []) still (stays x (c ∷ []) (day, deposit) (made x day deposit ranged allowed), tt)))
+
+-- and so of holds
+each_hold : (P : History → Date × Hold → Type 0) → ((h : History) (more : List Change) (found : Date × Hold) → P h found → P (with_changes h more) found)
+    → ((h : History) (day : Date) (hold : Hold) → IsPlaced (day, hold) → IsPlaceable h hold → P h (day, hold)) → (h : History) → IsLegal h → AllByRecursion (P h) (holds h)
+each_hold P stays made =
+    legal_by (λ x. AllByRecursion (P x) (holds x)) (λ a b a_in b_in. tt) (λ x c was ok all.
+    let next = with_changes x (c ∷ []) in
+    let still = all_weaker (P x) (P next) (stays x (c ∷ [])) (holds x) all in
+    holds_by (AllByRecursion (P next)) x c ok still
+    (λ day hold ranged allowed. all_append (P next) (holds x) ((day, hold) ∷ []) still (stays x (c ∷ []) (day, hold) (made x day hold ranged allowed), tt)))
+
+pub ranged_deposits : (h : History) → IsLegal h → AllByRecursion IsDeposited (deposits h)
+ranged_deposits = each_deposit (λ h. IsDeposited) (λ h more found is. is) (λ h day deposit ranged allowed. ranged)
+
+pub ranged_holds : (h : History) → IsLegal h → AllByRecursion IsPlaced (holds h)
+ranged_holds = each_hold (λ h. IsPlaced) (λ h more found is. is) (λ h day hold ranged allowed. ranged)
 
 abbrev pub WasClosed : Date × Deposit → Type 0
 WasClosed found = epoch_day found.1.description.closed ≤ℤ epoch_day found.0
 
 pub closed_deposits : (h : History) → IsLegal h → AllByRecursion WasClosed (deposits h)
-closed_deposits h legal =
-    legal_by (λ x. AllByRecursion WasClosed (deposits x)) (λ a b a_in b_in. tt)
-    (λ x c was ok all. deposits_by (AllByRecursion WasClosed) x c ok all (λ day deposit ranged allowed. all_append WasClosed (deposits x) ((day, deposit) ∷ []) all (allowed.closed, tt)))
-    h legal
+closed_deposits = each_deposit (λ h. WasClosed) (λ h more found is. is) (λ h day deposit ranged allowed. allowed.closed)
+
+abbrev pub HasSoundBag : Date × Deposit → Type 0
+HasSoundBag found = IsSound found.1.bag
+
+pub sound_deposits : Reads → Judges → (h : History) → IsLegal h → AllByRecursion HasSoundBag (deposits h)
+sound_deposits reads judges = each_deposit (λ h. HasSoundBag) (λ h more found is. is) (λ h day deposit ranged allowed. sound_bag reads judges allowed.form deposit.bag allowed.read)
+
+-- ---- accessions
+
+-- two deposits of a list with one accession are one
+abbrev pub AreApart : List (Date × Deposit) → Type 0
+AreApart ds = (n m : ℕ) (a b : Date × Deposit) → item_numbered ds n ≡ Some a → item_numbered ds m ≡ Some b → a.1.description.accession ≡ b.1.description.accession → n ≡ m
+
+-- no deposit of the list has the accession
+unused : (ds : List (Date × Deposit)) (accession : List ℕ) (n : ℕ) (a : Date × Deposit) → position (λ (d : Date × Deposit). bytes_eq d.1.description.accession accession) ds ≡ None → item_numbered ds n ≡ Some a → a.1.description.accession ≡ accession → ⊥
+unused ds accession zero a none at same = absurd cc
+unused ds accession (suc place) a none at same =
+    true≢false (sym ((bytes_eq-Decides a.1.description.accession accession).1 same) ∙ none_passes (λ (d : Date × Deposit). bytes_eq d.1.description.accession accession) ds place a none at)
+
+apart_added : (ds : List (Date × Deposit)) (added : Date × Deposit) → AreApart ds → position (λ (d : Date × Deposit). bytes_eq d.1.description.accession added.1.description.accession) ds ≡ None → AreApart (ds ++ added ∷ [])
+apart_added ds added apart none n m a b at_n at_m same =
+    elim (numbered_cases ds added n a at_n) [
+      | inl old_n ↦ elim (numbered_cases ds added m b at_m) [
+        | inl old_m ↦ apart n m a b old_n old_m same
+        | inr new_m ↦ absurd (unused ds added.1.description.accession n a none old_n (same ∙ ap (λ (d : Date × Deposit). d.1.description.accession) (sym new_m.1)))
+      ]
+      | inr new_n ↦ elim (numbered_cases ds added m b at_m) [
+        | inl old_m ↦ absurd (unused ds added.1.description.accession m b none old_m (sym same ∙ ap (λ (d : Date × Deposit). d.1.description.accession) (sym new_n.1)))
+        | inr new_m ↦ new_n.0 ∙ sym new_m.0
+      ]
+    ]
+
+none_apart : AreApart []
+none_apart zero m a b at_n at_m same = absurd cc
+none_apart (suc n) m a b at_n at_m same = absurd cc
+
+pub accessions_apart : (h : History) → IsLegal h → AreApart (deposits h)
+accessions_apart h legal =
+    legal_by (λ x. AreApart (deposits x)) (λ a b a_in b_in. none_apart) (λ x c was ok apart.
+    deposits_by AreApart x c ok apart (λ day deposit ranged allowed. apart_added (deposits x) (day, deposit) apart (option_map_none _ _ allowed.new_accession))) h legal
 
 -- ---- all changes are in range
 
@@ -72,20 +143,6 @@ collection_name : Says collection_in IsName
 collection_name (DefinedCollection day name) ranged b e = subst IsName (same_Some _ _ e) ranged.1
 collection_name _ ranged b e = absurd cc
 
-abbrev pub IsDeposited : Date × Deposit → Type 0
-IsDeposited found = IsDay found.0 × IsDescription found.1.description
-
-deposited_so : Says deposit_in IsDeposited
-deposited_so (Deposited day deposit) ranged b e = subst IsDeposited (same_Some _ _ e) ranged
-deposited_so _ ranged b e = absurd cc
-
-abbrev pub IsPlaced : Date × Hold → Type 0
-IsPlaced found = IsDay found.0 × IsHold found.1
-
-placed_so : Says hold_in IsPlaced
-placed_so (PlacedHold day hold) ranged b e = subst IsPlaced (same_Some _ _ e) ranged
-placed_so _ ranged b e = absurd cc
-
 pub gone_days : (h : History) → IsLegal h → (n : ℕ) (day : Date) → destruction_day h n ≡ Some day → IsDay day
 gone_days h legal n = first_ranged (destroyed_in n) IsDay (gone_day n) h.changes (ranged_changes h legal)
 
@@ -97,12 +154,6 @@ named_classes h legal name = last_ranged (years_in name) (λ years. IsName name 
 
 pub named_collections : (h : History) → IsLegal h → AllByRecursion IsName (filter_map collection_in h.changes)
 named_collections h legal = all_said IsChange IsName collection_in collection_name h.changes (ranged_changes h legal)
-
-pub ranged_deposits : (h : History) → IsLegal h → AllByRecursion IsDeposited (deposits h)
-ranged_deposits h legal = all_said IsChange IsDeposited deposit_in deposited_so h.changes (ranged_changes h legal)
-
-pub ranged_holds : (h : History) → IsLegal h → AllByRecursion IsPlaced (holds h)
-ranged_holds h legal = all_said IsChange IsPlaced hold_in placed_so h.changes (ranged_changes h legal)
 
 -- ---- what is named is there
 
@@ -119,7 +170,7 @@ there_stays : (h : History) (more : List Change) (target : Target) → IsThere h
 there_stays h more (OnCollection name) e = collection_stays h more name e
 there_stays h more (OnClass name) e = class_stays h more name e
 there_stays h more (OnDeposit n) e =
-    by_Option (deposit_numbered h n) (λ none. absurd (let some = rw none at e in cc)) (λ found is. rw (deposit_stays h more n found is) refl)
+    by_Option (deposit_numbered (with_changes h more) n) (λ none. absurd (let some = rw (no_deposit_before h more n none) at e in cc)) (λ found is. rw is refl)
 
 abbrev pub HasPlace : History → Date × Deposit → Type 0
 HasPlace h found = (has_collection h found.1.description.collection ≡ true) × (has_class h found.1.description.class ≡ true)
@@ -128,20 +179,10 @@ place_stays : (h : History) (more : List Change) (found : Date × Deposit) → H
 place_stays h more found e = (collection_stays h more found.1.description.collection e.0, class_stays h more found.1.description.class e.1)
 
 pub placed_deposits : (h : History) → IsLegal h → AllByRecursion (HasPlace h) (deposits h)
-placed_deposits h legal =
-    legal_by (λ x. AllByRecursion (HasPlace x) (deposits x)) (λ a b a_in b_in. tt) (λ x c was ok all.
-    let still = all_weaker (HasPlace x) (HasPlace (with_changes x (c ∷ []))) (place_stays x (c ∷ [])) (deposits x) all in
-    deposits_by (AllByRecursion (HasPlace (with_changes x (c ∷ [])))) x c ok still
-    (λ day deposit ranged allowed. all_append (HasPlace (with_changes x (c ∷ []))) (deposits x) ((day, deposit) ∷ []) still
-    (place_stays x (c ∷ []) (day, deposit) (allowed.collection, allowed.class), tt))) h legal
+placed_deposits = each_deposit HasPlace place_stays (λ h day deposit ranged allowed. (allowed.collection, allowed.class))
 
 abbrev pub HasTarget : History → Date × Hold → Type 0
 HasTarget h found = IsThere h found.1.target
 
 pub placed_holds : (h : History) → IsLegal h → AllByRecursion (HasTarget h) (holds h)
-placed_holds h legal =
-    legal_by (λ x. AllByRecursion (HasTarget x) (holds x)) (λ a b a_in b_in. tt) (λ x c was ok all.
-    let still = all_weaker (HasTarget x) (HasTarget (with_changes x (c ∷ []))) (λ found there. there_stays x (c ∷ []) found.1.target there) (holds x) all in
-    holds_by (AllByRecursion (HasTarget (with_changes x (c ∷ [])))) x c ok still
-    (λ day hold ranged allowed. all_append (HasTarget (with_changes x (c ∷ []))) (holds x) ((day, hold) ∷ []) still
-    (there_stays x (c ∷ []) hold.target allowed.there, tt))) h legal
+placed_holds = each_hold HasTarget (λ h more found there. there_stays h more found.1.target there) (λ h day hold ranged allowed. allowed.there)

@@ -9,10 +9,10 @@ use Rattle.office_core.specs.Retention.{IsDue, IsDueNumber}
 use Rattle.office_core.specs.declared.rule.ActionPattern.TheVariants as action_patterns
 use Rattle.office_core.specs.declared.rule.Pattern.TheVariants as patterns
 use Rattle.office_history.specs.RowRanges.{AreNumbered, IsPatternText, IsActionText, IsOneTarget, IsCallerRow, IsRuleRow, IsClassRow, IsDepositRow, IsDueRow, IsFileRow, IsHoldRow, AreInRange}
-use Rattle.office_history.proofs.LegalLemmas.{Reads, Judges, HasSoundBag, sound_deposits}
+use Rattle.office_history.proofs.LegalLemmas.{Reads, Judges}
 use Rattle.office_history.proofs.LegalReadings.{legal_policy}
 use Rattle.office_history.proofs.Pictured.{there_is, told_at, was_defined, all_distinct, names_read}
-use Rattle.office_history.proofs.RangeLemmas.{limits_hold, WasClosed, closed_deposits, gone_days, released_days, named_classes, named_collections, IsDeposited, ranged_deposits, IsPlaced, ranged_holds, HasPlace, placed_deposits, HasTarget, placed_holds}
+use Rattle.office_history.proofs.RangeLemmas.{limits_hold, WasClosed, closed_deposits, gone_days, released_days, named_classes, named_collections, IsDeposited, ranged_deposits, IsPlaced, ranged_holds, HasPlace, placed_deposits, HasTarget, placed_holds, HasSoundBag, sound_deposits}
 
 -- ---- lists
 

@@ -1,5 +1,5 @@
 -- What is undone leaves what is kept of deposits: a hold that is released, and years of a class that are given back.
-use Rattle.office_history.proofs.FirstLemmas.{◌≡◌, ℕ, zero, suc, ◌+◌, ◌<◌, ◌==◌, ◌&&◌, pos, Bool, true, false, List, [], ◌∷◌, ◌++◌, filter, length, Option, Some, None, option_map, is_none, bytes_eq, refl, sym, ap, subst, ◌∙◌, append-nil, length-append, arith, cond, if◌then◌else◌, filter_map, range_with_len, option_or, option_map_or, nat_tests, bytes_eq-Decides, Date, due_of, Never, item_numbered, numbers, History, Change, DefinedClass, PlacedHold, ReleasedHold, Deposit, Hold, with_changes, years_in, years_of, deposits, due, holds, release_day, reaches, live_holds, due_number, due_rows, deposits_grown, holds_grown, numbered_front, or_none, last_said-append, released_grown, by_Bool}
+use Rattle.office_history.proofs.FirstLemmas.{◌≡◌, ℕ, zero, suc, ◌+◌, ◌<◌, ◌==◌, ◌&&◌, pos, Bool, true, false, List, [], ◌∷◌, ◌++◌, filter, length, Option, Some, None, option_map, is_none, bytes_eq, refl, sym, ap, subst, ◌∙◌, length-append, arith, cond, if◌then◌else◌, filter_map, range_with_len, option_or, option_map_or, nat_tests, bytes_eq-Decides, Date, due_of, Never, item_numbered, numbers, History, Change, DefinedClass, PlacedHold, ReleasedHold, Deposit, Hold, with_changes, years_in, years_of, deposits, due, holds, release_day, reaches, live_holds, due_number, due_rows, numbered_front, or_none, last_said-append, released_grown, by_Bool, one_hold, same_deposits, same_holds}
 use Rattle.office_history.proofs.Pictured.{there_is}
 
 -- deposits with the same due days and the same live holds have the same rows
@@ -41,7 +41,7 @@ module _ (h : History) (day later : Date) (hold : Hold) where
 
   pub holds_undone : (n : ℕ) (deposit : Deposit) → live_holds (with_changes h undone) n deposit ≡ live_holds h n deposit
   holds_undone n deposit =
-      (λ i. filter (live_by (λ k. released_grown h undone k i) (holds_grown h undone i) n deposit) (numbers (length (holds_grown h undone i))))
+      (λ i. let hs = one_hold h day hold (ReleasedHold later (length (holds h) + 1) ∷ []) refl i in filter (live_by (λ k. released_grown h undone k i) hs n deposit) (numbers (length hs)))
       ∙ ap (λ count. filter among (numbers count)) one_more
       ∙ none_more (live_by (release_day h) (holds h) n deposit) among 1 (length (holds h)) as_before released
     where
@@ -72,7 +72,7 @@ module _ (h : History) (day later : Date) (hold : Hold) where
 
   pub rows_undone : due_rows (with_changes h undone) ≡ due_rows h
   rows_undone =
-      rows_stay h (with_changes h undone) (deposits_grown h undone ∙ append-nil (deposits h))
+      rows_stay h (with_changes h undone) (same_deposits h undone refl)
       (λ deposit. ap (λ o. option_map_or (due_of deposit.description.closed) o Never) (last_said-append (years_in deposit.description.class) h.changes undone))
       holds_undone
 
@@ -91,6 +91,6 @@ module _ (h : History) (day later : Date) (name : List ℕ) (other years : Optio
   days_back deposit = ap (λ o. option_map_or (due_of deposit.description.closed) o Never) (years_back deposit.description.class)
 
   pub rows_back : due_rows (with_changes h given_back) ≡ due_rows h
-  rows_back = rows_stay h (with_changes h given_back) (deposits_grown h given_back ∙ append-nil (deposits h)) days_back (λ n deposit i.
-      let hs = (holds_grown h given_back ∙ append-nil (holds h)) i in
+  rows_back = rows_stay h (with_changes h given_back) (same_deposits h given_back refl) days_back (λ n deposit i.
+      let hs = same_holds h given_back refl i in
       filter (λ k. is_none ((released_grown h given_back k ∙ or_none (release_day h k)) i) && option_map_or (λ found. reaches found.1.target n deposit) (item_numbered hs k) false) (numbers (length hs)))

@@ -1,5 +1,5 @@
 -- The rows that a request leaves of a legal history, where nothing stands against it: the picture of the history after it.
-use Rattle.office_refines.proofs.FirstLemmas.{◌≡◌, ℕ, ◌+◌, ◌≤◌, ℤ, pos, negsuc, neg_ℤ, ◌+ℤ◌, ◌&&◌, true, List, [], ◌∷◌, length, Option, Some, None, IsSome, is_some, map, filter, option_map, Result, refl, sym, ap, ◌∙◌, arith, if◌then◌else◌, filter_map, option_map_or, Decides-eqb, length-map, length_push, same_Some, Date, IsBetween, epoch_day, signed_arith, File, max_years, ◌>>=◌, due_of, Refusal, Request, DefineClass, DefineCollection, HoldDeposit, HoldCollection, HoldClass, Release, Dispose, Never, ClassRow, DueRow, HoldRow, Tables, class_named, is_class, is_of_class, is_within, with_class, with_hold, with_holds, with_deposit_and_due, with_released, this_version, closing_of, IsPlaceable, IsReleasable, IsThere, allowed_change, changes_unless, deposit_change, bag_of, History, Change, Deposit, Hold, Target, OnDeposit, OnCollection, OnClass, DefinedClass, Deposited, PlacedHold, ReleasedHold, deposit_in, deposits, holds, live_holds, with_changes, years_in, years_of, last_said, due_rows, hold_row, picture, years_back, years_number, AreInRange, IsClassRow, IsLegal, allowed_of, depositable, disposable, grown_by_none, releasable, holds_grown, none_gone, all_numbered, HasTarget, limits_hold, placed_holds, ranged_deposits, is_between, years_of_number, Visit, target_of, allowed_rows, count_in, counted_on, counted_over, due_in, if_bag, stored_as, new_deposit, new_hold, placed, released, with_due_days, with_files, refusal_before, between, due_number, deposit_numbered, has_class, with_years, deposit_rows_are, live_told, not_yet, placed_told, released_told, bytes_eq-sym, eqb-sym, none_next, same_number, same_holds, few_live}
+use Rattle.office_refines.proofs.FirstLemmas.{◌≡◌, ℕ, ◌+◌, ◌≤◌, ℤ, pos, negsuc, neg_ℤ, ◌+ℤ◌, ◌&&◌, true, List, [], ◌∷◌, length, Option, Some, None, IsSome, is_some, map, filter, option_map, Result, refl, sym, ap, ◌∙◌, arith, if◌then◌else◌, option_map_or, Decides-eqb, length-map, length_push, same_Some, Date, IsBetween, epoch_day, signed_arith, File, max_years, ◌>>=◌, due_of, Refusal, Request, DefineClass, DefineCollection, HoldDeposit, HoldCollection, HoldClass, Release, Dispose, Never, ClassRow, DueRow, HoldRow, Tables, class_named, is_class, is_of_class, is_within, with_class, with_hold, with_holds, with_deposit_and_due, with_released, this_version, closing_of, IsPlaceable, IsReleasable, IsThere, allowed_change, changes_unless, deposit_change, bag_of, History, Change, Deposit, Hold, Target, OnDeposit, OnCollection, OnClass, DefinedClass, Deposited, PlacedHold, ReleasedHold, deposits, holds, live_holds, with_changes, years_in, years_of, last_said, due_rows, hold_row, picture, years_back, years_number, AreInRange, IsClassRow, IsLegal, allowed_of, depositable, disposable, grown_by_none, releasable, none_gone, all_numbered, HasTarget, limits_hold, placed_holds, ranged_deposits, is_between, years_of_number, Visit, target_of, allowed_rows, count_in, counted_on, counted_over, due_in, if_bag, stored_as, new_deposit, new_hold, placed, released, with_due_days, with_files, refusal_before, between, due_number, deposit_numbered, has_class, with_years, deposit_rows_are, live_told, not_yet, placed_told, released_told, bytes_eq-sym, eqb-sym, none_next, same_number, same_holds, few_live, LeavesDeposits, one_hold}
 use Rattle.office_core.specs.declared.request.Request.TheVariants.{Deposit as MakeDeposit}
 use Rattle.office_rows.specs.Rows as rows
 use Rattle.office_history.specs.Answers as histories
@@ -78,7 +78,7 @@ module _ (h : History) (legal : IsLegal h) (ranged : AreInRange this_version (pi
       ∙ (λ i. if now i && fits i then Some (with_holds (pos n) (pos (length (live_holds h n found.1)) +ℤ by) (record t { holds = hs })) else None)
 
   -- a change of holds, of which one more or one less counts over each deposit that is reached
-  module _ (more : List Change) (none : filter_map deposit_in more ≡ []) (silent : (name : List ℕ) → last_said (years_in name) more ≡ None) (by : ℤ) (hs : List HoldRow)
+  module _ (more : List Change) (none : LeavesDeposits more) (silent : (name : List ℕ) → last_said (years_in name) more ≡ None) (by : ℤ) (hs : List HoldRow)
       (told : (dues : List DueRow) → dues ≡ due_rows (with_changes h more) → record t { holds = hs; dues = dues } ≡ picture this_version (with_changes h more)) (room : length (holds (with_changes h more)) ≤ h.max_holds) where
     over_exact : (target : Target) → IsCounted h more by target → IsThere h target → counted_over target by (record t { holds = hs }) ≡ Some (picture this_version (with_changes h more))
     over_exact (OnDeposit n) counted there = over (deposit_numbered h n) refl there
@@ -103,7 +103,7 @@ module _ (h : History) (legal : IsLegal h) (ranged : AreInRange this_version (pi
     placed_exact =
         let one : length (holds h) + 1 ≡ 1 + length (holds h) = omega arith in
         (λ i. (next_hold h legal ranged ∙ ap Some one) i >>= λ k. counted_over hold.target (pos 1) (with_hold (new_hold k hold.target hold.matter day) t))
-        ∙ over_exact (PlacedHold day hold ∷ []) refl (λ name. refl) (pos 1) with_it.holds (placed_told h day hold (not_yet h legal)) (omega (arith, allowed.room, ap length (holds_grown h (PlacedHold day hold ∷ [])), length_push (holds h) (day, hold)))
+        ∙ over_exact (PlacedHold day hold ∷ []) refl (λ name. refl) (pos 1) with_it.holds (placed_told h day hold (not_yet h legal)) (omega (arith, allowed.room, ap length (one_hold h day hold [] refl), length_push (holds h) (day, hold)))
         hold.target (counted_placed h day hold (not_yet h legal)) allowed.there
 
   -- ---- a hold is released

@@ -1,5 +1,5 @@
 -- The rows of an office after a deposit was made.
-use Rattle.office_refines.proofs.FirstLemmas.{◌≡◌, ℕ, ◌+◌, pos, Bool, List, [], ◌∷◌, ◌++◌, map, filter, length, is_none, refl, sym, ap, ◌∙◌, arith, zero, suc, ◌<◌, Some, None, Less, subst, cond, append-nil, append_assoc, add-one, option_map_or, int_cmp, length_push, flat_map, range_with_len, AllByRecursion, filter-append, Date, File, slice_get_last, put_by, Tables, DepositRow, FileRow, this_version, with_deposit_and_due, put_last, item_numbered, numbers, History, Change, Deposit, Deposited, with_changes, deposits, due, live_holds, destruction_day, due_row, due_rows, row_by_gone, deposit_row, deposit_rows, file_row, file_rows, picture, deposits_grown, with_files, due_number, rows_from, rows_append, below, item_front, range_last, same_due_row, same_classes, same_collections, same_gone, same_hold_rows, pictured_by, due_rows_are, deposit_rows_are, by_Bool}
+use Rattle.office_refines.proofs.FirstLemmas.{◌≡◌, ℕ, ◌+◌, pos, Bool, List, [], ◌∷◌, ◌++◌, map, filter, length, is_none, refl, sym, ap, ◌∙◌, arith, zero, suc, ◌<◌, Some, None, Less, subst, cond, append-nil, append_assoc, add-one, option_map_or, int_cmp, length_push, flat_map, range_with_len, AllByRecursion, filter-append, Date, File, slice_get_last, put_by, Tables, DepositRow, FileRow, this_version, with_deposit_and_due, put_last, item_numbered, numbers, History, Change, Deposit, Deposited, with_changes, deposits, due, live_holds, destruction_day, due_row, due_rows, row_by_gone, deposit_row, deposit_rows, file_row, file_rows, picture, with_files, due_number, rows_from, rows_append, below, item_front, range_last, same_due_row, same_classes, same_collections, same_gone, same_hold_rows, pictured_by, due_rows_are, deposit_rows_are, by_Bool, one_deposit}
 use Rattle.std.proofs.lemmas.List.Concat.{flat_map-append}
 
 files_added : (n : ℕ) (files : List File) (t : Tables) → with_files (pos n) files t ≡ record t { files = t.files ++ map (file_row n) files }
@@ -32,7 +32,7 @@ module _ (h : History) (day : Date) (d : Deposit) where
       ∙ put_last (λ r. r.number) (due_row h next (day, d)) old (below (due_row h) (λ r. r.number) (λ m x. refl) next (deposits h) refl)
       ∙ sym (rows_append (due_row h) (deposits h) ((day, d) ∷ []) 1)
       ∙ (λ i. rows_from (λ m x. sym (same_due_row h more (λ name. refl) refl (λ k. refl) m x) i) 1 (deposits h ++ (day, d) ∷ []))
-      ∙ ap (rows_from (due_row longer) 1) (sym (deposits_grown h more))
+      ∙ ap (rows_from (due_row longer) 1) (sym (one_deposit h day d [] refl))
       ∙ sym (due_rows_are longer)
 
   module _ (not_gone : destruction_day h next ≡ None) where
@@ -45,7 +45,7 @@ module _ (h : History) (day : Date) (d : Deposit) where
         ∙ (λ i. deposit_rows_are h i ++ row_by_gone next (sym not_gone i) (day, d) ∷ [])
         ∙ sym (rows_append (deposit_row h) (deposits h) ((day, d) ∷ []) 1)
         ∙ (λ i. rows_from (λ m. row_by_gone m (sym (same_gone h more (λ n. refl) m) i)) 1 (deposits h ++ (day, d) ∷ []))
-        ∙ ap (rows_from (deposit_row longer) 1) (sym (deposits_grown h more))
+        ∙ ap (rows_from (deposit_row longer) 1) (sym (one_deposit h day d [] refl))
         ∙ sym (deposit_rows_are longer)
 
     abbrev files_in : List (Date × Deposit) → ℕ → List FileRow
@@ -60,7 +60,7 @@ module _ (h : History) (day : Date) (d : Deposit) where
         ∙ sym (flat_map-append (files_in (deposits h ++ (day, d) ∷ [])) (filter keeps (numbers (length (deposits h)))) (filter keeps (next ∷ [])))
         ∙ ap (flat_map (files_in (deposits h ++ (day, d) ∷ []))) (sym (filter-append keeps (numbers (length (deposits h))) (next ∷ [])))
         ∙ ap (λ ks. flat_map (files_in (deposits h ++ (day, d) ∷ [])) (filter keeps ks)) (sym (range_last 1 (length (deposits h))) ∙ ap (range_with_len 1) (sym (length_push (deposits h) (day, d) ∙ add-one (length (deposits h)))))
-        ∙ (λ i. flat_map (files_in (sym (deposits_grown h more) i)) (filter (λ m. is_none (sym (same_gone h more (λ n. refl) m) i)) (numbers (length (sym (deposits_grown h more) i)))))
+        ∙ (λ i. let ds = sym (one_deposit h day d [] refl) i in flat_map (files_in ds) (filter (λ m. is_none (sym (same_gone h more (λ n. refl) m) i)) (numbers (length ds))))
       where
         old : file_rows h ≡ flat_map (files_in (deposits h ++ (day, d) ∷ [])) (filter keeps (numbers (length (deposits h))))
         old = same_gathered (files_in (deposits h)) (files_in (deposits h ++ (day, d) ∷ [])) keeps (length (deposits h)) 1 (λ n low.

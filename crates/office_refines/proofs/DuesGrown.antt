@@ -1,5 +1,5 @@
 -- What is kept of deposits, after a longer history: due days and counts of holds.
-use Rattle.office_refines.proofs.FirstLemmas.{◌≡◌, ℕ, zero, suc, ◌+◌, ◌≤◌, ◌<◌, ◌&&◌, ℤ, pos, negsuc, ◌+ℤ◌, Bool, true, false, List, [], ◌∷◌, map, filter, length, Some, None, is_none, refl, sym, ap, ap₂, subst, ◌∙◌, arith, cond, if◌then◌else◌, filter_map, range_with_len, option_map_or, int_eq, Decides-int_eq, ints, same_Some, slice_get_within, Date, DepositRow, DueRow, more_holds, is_due_of, item_numbered, last_said, numbers, History, Change, Deposit, Hold, Target, ReleasedHold, with_changes, deposit_in, deposits, holds, hold_numbered, release_day, is_live, reaches, covers, live_holds, years_in, deposit_row, deposit_rows, due_row, due_rows, different, deposit_numbered, due_number, alike, another, itself, rows_changed, rows_from, same_count, deposit_rows_are, due_rows_are, released_then, same_deposits, same_due, same_holds}
+use Rattle.office_refines.proofs.FirstLemmas.{◌≡◌, ℕ, zero, suc, ◌+◌, ◌≤◌, ◌<◌, ◌&&◌, ℤ, pos, negsuc, ◌+ℤ◌, Bool, true, false, List, [], ◌∷◌, map, filter, length, Some, None, is_none, refl, sym, ap, ap₂, subst, ◌∙◌, arith, cond, if◌then◌else◌, range_with_len, option_map_or, int_eq, Decides-int_eq, ints, same_Some, slice_get_within, Date, DepositRow, DueRow, more_holds, is_due_of, item_numbered, last_said, numbers, History, Change, Deposit, Hold, Target, ReleasedHold, with_changes, deposits, holds, hold_numbered, release_day, is_live, reaches, covers, live_holds, years_in, deposit_row, deposit_rows, due_row, due_rows, different, deposit_numbered, due_number, alike, another, itself, rows_changed, rows_from, same_count, deposit_rows_are, due_rows_are, released_then, same_deposits, same_due, same_holds, LeavesDeposits}
 
 -- ---- changes that take no deposit and define no class
 
@@ -18,7 +18,7 @@ counted_if grows by count = if grows then pos count +ℤ by else pos count
 abbrev pub IsCounted : History → List Change → ℤ → Target → Type 0
 IsCounted h more by target = (n : ℕ) (d : Deposit) → counted_if (reaches target n d) by (length (live_holds h n d)) ≡ pos (length (live_holds (with_changes h more) n d))
 
-module _ (h : History) (more : List Change) (none : filter_map deposit_in more ≡ []) (silent : (name : List ℕ) → last_said (years_in name) more ≡ None) (by : ℤ) (target : Target) (counted : IsCounted h more by target) where
+module _ (h : History) (more : List Change) (none : LeavesDeposits more) (silent : (name : List ℕ) → last_said (years_in name) more ≡ None) (by : ℤ) (target : Target) (counted : IsCounted h more by target) where
   abbrev grown : History
   grown = with_changes h more
 

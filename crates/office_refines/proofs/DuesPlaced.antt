@@ -1,5 +1,5 @@
 -- What is kept of deposits, after a hold was placed.
-use Rattle.office_refines.proofs.FirstLemmas.{◌≡◌, ℕ, suc, ◌+◌, ◌&&◌, pos, Bool, true, false, List, [], ◌∷◌, ◌++◌, filter, length, None, is_none, refl, ap, ◌∙◌, add-one, append-nil, arith, cond, if◌then◌else◌, range_with_len, option_map_or, ints, length_push, filter-append, Date, slice_get_last, item_numbered, numbers, History, Change, Deposit, Hold, PlacedHold, with_changes, holds, release_day, reaches, live_holds, holds_grown, item_front, range_last, same_released}
+use Rattle.office_refines.proofs.FirstLemmas.{◌≡◌, ℕ, suc, ◌+◌, ◌&&◌, pos, Bool, true, false, List, [], ◌∷◌, ◌++◌, filter, length, None, is_none, refl, ap, ◌∙◌, add-one, append-nil, arith, cond, if◌then◌else◌, range_with_len, option_map_or, ints, length_push, filter-append, Date, slice_get_last, item_numbered, numbers, History, Change, Deposit, Hold, PlacedHold, with_changes, holds, release_day, reaches, live_holds, item_front, range_last, same_released, one_hold}
 use Rattle.office_refines.proofs.DuesGrown.{IsCounted, counted_if, same_passing}
 
 module _ (h : History) (day : Date) (hold : Hold) (not_yet : release_day h (1 + length (holds h)) ≡ None) where
@@ -18,7 +18,7 @@ module _ (h : History) (day : Date) (hold : Hold) (not_yet : release_day h (1 + 
 
   now : (n : ℕ) (d : Deposit) → live_holds longer n d ≡ filter (live_among (holds h ++ it ∷ []) n d) (range_with_len 1 (suc (length (holds h))))
   now n d =
-      (λ i. filter (λ k. is_none (same_released h more (λ m. refl) k i) && option_map_or (λ found. reaches found.1.target n d) (item_numbered (holds_grown h more i) k) false) (numbers (length (holds_grown h more i))))
+      (λ i. let hs = one_hold h day hold [] refl i in filter (λ k. is_none (same_released h more (λ m. refl) k i) && option_map_or (λ found. reaches found.1.target n d) (item_numbered hs k) false) (numbers (length hs)))
       ∙ ap (λ len. filter (live_among (holds h ++ it ∷ []) n d) (range_with_len 1 len)) (length_push (holds h) it ∙ add-one (length (holds h)))
 
   count_more : (n : ℕ) (d : Deposit) → length (live_holds longer n d) ≡ length (live_holds h n d) + (if reaches hold.target n d then 1 else 0)

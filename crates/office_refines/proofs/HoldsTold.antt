@@ -1,10 +1,10 @@
 -- The rows of holds, and the history that they picture.
-use Rattle.office_refines.proofs.Common.{◌≡◌, ℕ, suc, ◌+◌, ℤ, pos, Bool, false, not, ◌&&◌, ◌||◌, List, [], ◌∷◌, length, map, filter, Option, Some, None, option_map, unwrap_or, slice_get, is_none, is_some, refl, sym, ap, subst, ◌∙◌, arith, ◌++◌, Less, ◌==◌, if◌then◌else◌, bytes_eq, option_map_or, option_or, int_eq, int_cmp, AllByRecursion, Date, epoch_day, HoldRow, is_live_over, this_version, DueRow, with_hold, put_by, is_hold, with_released, put_last, History, Hold, Target, OnDeposit, OnCollection, OnClass, Deposit, holds, release_day, reaches, covers, Change, PlacedHold, with_changes, ReleasedHold, held_deposit, held_collection, held_class, hold_row, hold_rows, picture, row_by_release, due_rows, IsLegal, holds_grown, none_released, or_none, released_grown}
+use Rattle.office_refines.proofs.Common.{◌≡◌, ℕ, suc, ◌+◌, ℤ, pos, Bool, false, not, ◌&&◌, ◌||◌, List, [], ◌∷◌, length, map, filter, Option, Some, None, option_map, unwrap_or, slice_get, is_none, is_some, refl, sym, ap, subst, ◌∙◌, arith, ◌++◌, Less, ◌==◌, if◌then◌else◌, bytes_eq, option_map_or, option_or, int_eq, int_cmp, AllByRecursion, Date, epoch_day, HoldRow, is_live_over, this_version, DueRow, with_hold, put_by, is_hold, with_released, put_last, History, Hold, Target, OnDeposit, OnCollection, OnClass, Deposit, holds, release_day, reaches, covers, Change, PlacedHold, with_changes, ReleasedHold, held_deposit, held_collection, held_class, hold_row, hold_rows, picture, row_by_release, due_rows, IsLegal, none_released, or_none, released_grown, one_hold, same_holds}
 use Rattle.std.proofs.Math.Bool.{or-false}
 use Rattle.office_rows.specs.Rows as rows
 use Rattle.office_history.specs.Histories as histories
 use Rattle.office_refines.proofs.NumberedRows.{rows_from, rows_are, same_number, rows_append, below, none_next, rows_changed, mark, numbers_passing}
-use Rattle.office_refines.proofs.Unchanged.{same_classes, same_collections, same_deposit_rows, same_file_rows, same_released, pictured_by, same_holds}
+use Rattle.office_refines.proofs.Unchanged.{same_classes, same_collections, same_deposit_rows, same_file_rows, same_released, pictured_by}
 
 pub hold_rows_are : (h : History) → hold_rows h ≡ rows_from (hold_row h) 1 (holds h)
 hold_rows_are h = rows_are (hold_row h) (holds h)
@@ -56,7 +56,7 @@ module _ (h : History) (day : Date) (hold : Hold) (not_released : release_day h 
       ∙ (λ i. hold_rows_are h i ++ row_by_release next (sym not_released i) (day, hold) ∷ [])
       ∙ sym (rows_append (hold_row h) (holds h) ((day, hold) ∷ []) 1)
       ∙ (λ i. rows_from (λ m. row_by_release m (sym (same_released h more (λ k. refl) m) i)) 1 (holds h ++ (day, hold) ∷ []))
-      ∙ ap (rows_from (hold_row longer) 1) (sym (holds_grown h more))
+      ∙ ap (rows_from (hold_row longer) 1) (sym (one_hold h day hold [] refl))
       ∙ sym (hold_rows_are longer)
 
   -- where the counts over the deposits that the hold covers are told anew

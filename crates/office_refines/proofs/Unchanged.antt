@@ -1,5 +1,5 @@
 -- Which rows a longer history leaves as they were.
-use Rattle.office_refines.proofs.Common.{◌≡◌, ℕ, List, [], ◌∷◌, ◌++◌, map, filter, length, Option, None, option_map, unwrap_or, is_none, sym, ap, ◌∙◌, append-nil, pos, ◌&&◌, false, filter_map, flat_map, option_or, option_map_or, filter_map-append, Date, due_of, Never, ClassRow, DepositRow, DueRow, FileRow, HoldRow, this_version, first_said, last_said, item_numbered, numbers, in_first_places, History, Change, Deposit, with_changes, installed_in, policy, years_in, years_of, collection_in, deposit_in, deposits, destroyed_in, destruction_day, due, hold_in, holds, released_in, release_day, reaches, live_holds, class_in, class_row, class_rows, caller_row, rule_rows, office_row, collection_rows, row_by_gone, deposit_rows, due_row, due_rows, file_row, file_rows, row_by_release, hold_rows, picture, or_none, last_said-append, policy_grown, gone_grown, released_grown, due_number}
+use Rattle.office_refines.proofs.Common.{◌≡◌, ℕ, List, [], ◌∷◌, ◌++◌, map, filter, length, Option, None, option_map, unwrap_or, is_none, sym, ap, ◌∙◌, append-nil, pos, ◌&&◌, false, filter_map, flat_map, option_or, option_map_or, filter_map-append, Date, due_of, Never, ClassRow, DepositRow, DueRow, FileRow, HoldRow, this_version, first_said, last_said, item_numbered, numbers, in_first_places, History, Change, Deposit, with_changes, installed_in, policy, years_in, years_of, collection_in, destroyed_in, destruction_day, due, released_in, release_day, reaches, live_holds, class_in, class_row, class_rows, caller_row, rule_rows, office_row, collection_rows, row_by_gone, deposit_rows, due_row, due_rows, file_row, file_rows, row_by_release, hold_rows, picture, or_none, last_said-append, policy_grown, gone_grown, released_grown, due_number, LeavesDeposits, LeavesHolds, same_deposits, same_holds}
 
 module _ (h : History) (more : List Change) where
   -- what says of a history: none of `more`
@@ -31,37 +31,31 @@ module _ (h : History) (more : List Change) where
   pub same_gone : ((n : ℕ) → first_said (destroyed_in n) more ≡ None) → (n : ℕ) → destruction_day (with_changes h more) n ≡ destruction_day h n
   same_gone none n = gone_grown h more n ∙ ap (option_or (destruction_day h n)) (none n) ∙ or_none (destruction_day h n)
 
-  pub same_deposits : filter_map deposit_in more ≡ [] → deposits (with_changes h more) ≡ deposits h
-  same_deposits none = same_said deposit_in none
+  pub same_deposit_rows : LeavesDeposits more → ((n : ℕ) → first_said (destroyed_in n) more ≡ None) → deposit_rows (with_changes h more) ≡ deposit_rows h
+  same_deposit_rows none kept = λ i. filter_map (λ n. option_map (row_by_gone n (same_gone kept n i)) (item_numbered (same_deposits h more none i) n)) (numbers (length (same_deposits h more none i)))
 
-  pub same_deposit_rows : filter_map deposit_in more ≡ [] → ((n : ℕ) → first_said (destroyed_in n) more ≡ None) → deposit_rows (with_changes h more) ≡ deposit_rows h
-  same_deposit_rows none kept = λ i. filter_map (λ n. option_map (row_by_gone n (same_gone kept n i)) (item_numbered (same_deposits none i) n)) (numbers (length (same_deposits none i)))
-
-  pub same_file_rows : filter_map deposit_in more ≡ [] → ((n : ℕ) → first_said (destroyed_in n) more ≡ None) → file_rows (with_changes h more) ≡ file_rows h
+  pub same_file_rows : LeavesDeposits more → ((n : ℕ) → first_said (destroyed_in n) more ≡ None) → file_rows (with_changes h more) ≡ file_rows h
   same_file_rows none kept =
-      λ i. flat_map (λ n. map (file_row n) (option_map_or (λ found. found.1.bag) (item_numbered (same_deposits none i) n) [])) (filter (λ n. is_none (same_gone kept n i)) (numbers (length (same_deposits none i))))
+      λ i. flat_map (λ n. map (file_row n) (option_map_or (λ found. found.1.bag) (item_numbered (same_deposits h more none i) n) [])) (filter (λ n. is_none (same_gone kept n i)) (numbers (length (same_deposits h more none i))))
 
   -- it places and releases no hold
   pub same_released : ((k : ℕ) → first_said (released_in k) more ≡ None) → (k : ℕ) → release_day (with_changes h more) k ≡ release_day h k
   same_released none k = released_grown h more k ∙ ap (option_or (release_day h k)) (none k) ∙ or_none (release_day h k)
 
-  pub same_holds : filter_map hold_in more ≡ [] → holds (with_changes h more) ≡ holds h
-  same_holds none = same_said hold_in none
+  pub same_hold_rows : LeavesHolds more → ((k : ℕ) → first_said (released_in k) more ≡ None) → hold_rows (with_changes h more) ≡ hold_rows h
+  same_hold_rows none live = λ i. filter_map (λ k. option_map (row_by_release k (same_released live k i)) (item_numbered (same_holds h more none i) k)) (numbers (length (same_holds h more none i)))
 
-  pub same_hold_rows : filter_map hold_in more ≡ [] → ((k : ℕ) → first_said (released_in k) more ≡ None) → hold_rows (with_changes h more) ≡ hold_rows h
-  same_hold_rows none live = λ i. filter_map (λ k. option_map (row_by_release k (same_released live k i)) (item_numbered (same_holds none i) k)) (numbers (length (same_holds none i)))
-
-  pub same_live : filter_map hold_in more ≡ [] → ((k : ℕ) → first_said (released_in k) more ≡ None) → (n : ℕ) (d : Deposit) → live_holds (with_changes h more) n d ≡ live_holds h n d
-  same_live free live n d = λ i. filter (λ k. is_none (same_released live k i) && option_map_or (λ hold. reaches hold.1.target n d) (item_numbered (same_holds free i) k) false) (numbers (length (same_holds free i)))
+  pub same_live : LeavesHolds more → ((k : ℕ) → first_said (released_in k) more ≡ None) → (n : ℕ) (d : Deposit) → live_holds (with_changes h more) n d ≡ live_holds h n d
+  same_live free live n d = λ i. filter (λ k. is_none (same_released live k i) && option_map_or (λ hold. reaches hold.1.target n d) (item_numbered (same_holds h more free i) k) false) (numbers (length (same_holds h more free i)))
 
   -- it defines no class, and places and releases no hold
-  pub same_due_row : ((name : List ℕ) → last_said (years_in name) more ≡ None) → filter_map hold_in more ≡ [] → ((k : ℕ) → first_said (released_in k) more ≡ None) → (n : ℕ) (found : Date × Deposit) → due_row (with_changes h more) n found ≡ due_row h n found
+  pub same_due_row : ((name : List ℕ) → last_said (years_in name) more ≡ None) → LeavesHolds more → ((k : ℕ) → first_said (released_in k) more ≡ None) → (n : ℕ) (found : Date × Deposit) → due_row (with_changes h more) n found ≡ due_row h n found
   same_due_row silent free live n found = λ i. record { number = pos n; due = due_number (sym (same_due silent found.1) i); holds = pos (length (same_live free live n found.1 i)) }
 
   -- and takes no deposit
-  pub same_due_rows : filter_map deposit_in more ≡ [] → ((name : List ℕ) → last_said (years_in name) more ≡ None) → filter_map hold_in more ≡ [] → ((k : ℕ) → first_said (released_in k) more ≡ None)
+  pub same_due_rows : LeavesDeposits more → ((name : List ℕ) → last_said (years_in name) more ≡ None) → LeavesHolds more → ((k : ℕ) → first_said (released_in k) more ≡ None)
       → due_rows (with_changes h more) ≡ due_rows h
-  same_due_rows none silent free live = λ i. filter_map (λ n. option_map (λ found. same_due_row silent free live n found i) (item_numbered (same_deposits none i) n)) (numbers (length (same_deposits none i)))
+  same_due_rows none silent free live = λ i. filter_map (λ n. option_map (λ found. same_due_row silent free live n found i) (item_numbered (same_deposits h more none i) n)) (numbers (length (same_deposits h more none i)))
 
   -- the picture of a history that goes on under the same policy, by the tables that are left
   pub pictured_by : {classes : List ClassRow} {collections : List (List ℕ)} {deposits : List DepositRow} {dues : List DueRow} {files : List FileRow} {holds : List HoldRow}
