@@ -1,5 +1,5 @@
 -- Two histories that agree in all that the office decides by: they grow alike, and have one picture.
-use Rattle.office_history.proofs.Common.{◌≡◌, ℕ, zero, suc, ℤ, Bool, true, false, List, [], ◌∷◌, ◌++◌, length, map, filter, Option, Some, None, option_map, unwrap_or, slice_get, is_none, is_some, refl, sym, ap, ◌∙◌, pos, arith, ◌&&◌, bytes_eq, sum, filter_map, flat_map, list_any, cons_option, option_or, option_map_or, map-append, length-map, filter_map-append, same_Some, slice_get-map, Date, File, payload_files, payload_bytes, Description, due_of, Never, DepositRow, first_said, last_said, item_numbered, numbers, distinct_after, in_first_places, History, Change, Deposit, with_changes, installed_in, no_policy, policy, years_in, years_of, collection_in, deposit_in, deposits, deposit_numbered, destroyed_in, destruction_day, kept_numbers, due, Hold, Target, OnDeposit, reaches, is_live, hold_in, holds, hold_numbered, released_in, release_day, files_of, Stock, stock, class_in, class_row, caller_row, rule_rows, file_row, file_rows, row_by_release, row_by_gone, deposit_row, row_of_deposit, due_number, due_row, row_of_due, picture, is_nothing, by_Bool}
+use Rattle.office_history.proofs.Common.{◌≡◌, ℕ, zero, suc, ℤ, Bool, true, false, List, [], ◌∷◌, ◌++◌, length, map, filter, Option, Some, None, option_map, unwrap_or, slice_get, is_none, is_some, refl, sym, ap, ◌∙◌, pos, arith, ◌&&◌, bytes_eq, sum, filter_map, flat_map, list_any, cons_option, option_or, option_map_or, map-append, length-map, filter_map-append, same_Some, slice_get-map, Date, File, payload_files, payload_bytes, Description, due_of, Never, DepositRow, first_said, last_said, item_numbered, numbers, distinct_after, in_first_places, History, Change, Deposit, with_changes, installed_in, no_policy, policy, years_in, years_of, collection_in, collections, deposit_in, deposits, deposit_numbered, destroyed_in, destruction_day, kept_numbers, due, Hold, Target, OnDeposit, reaches, is_live, hold_in, holds, hold_numbered, released_in, release_day, files_of, Stock, stock, class_in, class_row, caller_row, rule_rows, file_row, file_rows, row_by_release, row_by_gone, deposit_row, row_of_deposit, due_number, due_row, row_of_due, picture, is_nothing, by_Bool}
 use Rattle.office_history.proofs.HistoryLemmas.{deposits_grown, holds_grown}
 
 -- what is known of a deposit whose bag may be gone
@@ -27,7 +27,7 @@ pub record Alike (h k : History) : Type 0 where
   pub same_policy : policy h ≡ policy k
   pub same_years : (name : List ℕ) → years_of h name ≡ years_of k name
   pub same_classes : in_first_places (filter_map class_in h.changes) ≡ in_first_places (filter_map class_in k.changes)
-  pub same_collections : in_first_places (filter_map collection_in h.changes) ≡ in_first_places (filter_map collection_in k.changes)
+  pub same_collections : in_first_places (collections h) ≡ in_first_places (collections k)
   pub same_deposits : map outline (deposits h) ≡ map outline (deposits k)
   pub same_gone : (n : ℕ) → destruction_day h n ≡ destruction_day k n
   pub same_bags : (n : ℕ) → destruction_day h n ≡ None → files_of h n ≡ files_of k n

@@ -1,5 +1,5 @@
 -- Histories that agree in all that the office decides by answer alike, and change alike.
-use Rattle.office_history.proofs.FirstLemmas.{◌≡◌, ℕ, ◌+◌, ◌&&◌, ◌||◌, Bool, true, false, List, [], ◌∷◌, length, map, filter, Option, Some, None, option_map, slice_get, is_none, refl, sym, ap, subst, ◌∙◌, nat_le, cond, if◌then◌else◌, position, bytes_eq, not, is_some, filter_map, list_any, position_from, option_map_or, same_Some, bytes_eq-Decides, and-true, Date, set_text, content_at, first_some, answer_if, PolicyValue, role_of, decision_of, due_of, Action, Answer, Never, Refusal, NoSuch, Gone, Taken, Released, Full, Request, DefineClass, DefineCollection, Record, Holds, DownloadBag, DownloadFile, Audit, HoldDeposit, HoldCollection, HoldClass, Release, Dispose, DueList, item_numbered, numbers, distinct_after, in_first_places, History, Change, DefinedCollection, Target, OnDeposit, OnCollection, OnClass, Deposit, Hold, with_changes, policy, has_collection, collection_in, deposits, deposit_numbered, accession_of, destruction_day, due, reaches, live_holds, has_accession, report_on, refusal_in, denial, denial_at, closed_ahead_refusal, bad_bag, held_refusal, not_due_refusal, full_of_holds, no_file, of_deposit, of_hold, release_denial_of, release_denial, refusal, Wanted, record_of, is_selected, listed_record, listed_records, due_list, live_hold, told_holds, audit_report, told_of, file_answer, allowed_answer, allowed_change, answer_unless, answer, changes_unless, change, after, Outline, outline, Alike, alike_grown, same_count, same_outline, same_found, same_kept, mapped_of_kept, is_nothing, by_Option, arith}
+use Rattle.office_history.proofs.FirstLemmas.{◌≡◌, ℕ, ◌+◌, ◌&&◌, ◌||◌, Bool, true, false, List, [], ◌∷◌, length, map, filter, Option, Some, None, option_map, slice_get, is_none, refl, sym, ap, subst, ◌∙◌, nat_le, cond, if◌then◌else◌, position, bytes_eq, not, is_some, filter_map, list_any, position_from, option_map_or, same_Some, bytes_eq-Decides, and-true, Date, set_text, content_at, first_some, answer_if, PolicyValue, role_of, decision_of, due_of, Action, Answer, Never, Refusal, NoSuch, Gone, Taken, Released, Full, Request, DefineClass, DefineCollection, Record, Holds, DownloadBag, DownloadFile, Audit, HoldDeposit, HoldCollection, HoldClass, Release, Dispose, DueList, item_numbered, numbers, distinct_after, in_first_places, History, Change, DefinedCollection, Target, OnDeposit, OnCollection, OnClass, Deposit, Hold, with_changes, policy, has_collection, collections, deposits, deposit_numbered, accession_of, destruction_day, due, reaches, live_holds, has_accession, report_on, refusal_in, denial, denial_at, closed_ahead_refusal, bad_bag, held_refusal, not_due_refusal, full_of_holds, no_file, of_deposit, of_hold, release_denial_of, release_denial, refusal, Wanted, record_of, is_selected, listed_record, listed_records, due_list, live_hold, told_holds, audit_report, told_of, file_answer, allowed_answer, allowed_change, answer_unless, answer, changes_unless, change, after, Outline, outline, Alike, alike_grown, same_count, same_outline, same_found, same_kept, mapped_of_kept, is_nothing, by_Option, arith}
 use Rattle.std.proofs.lemmas.Iterator.Adapters.{position_from-zero}
 use Rattle.office_core.specs.declared.action.Action.TheVariants as acts
 use Rattle.office_core.specs.declared.answer.Answer.TheVariants as answers
@@ -40,9 +40,9 @@ among_first_places text texts = among_distinct text [] texts ∙ and-true (list_
 
 same_collection : (h k : History) → Alike h k → (name : List ℕ) → has_collection h name ≡ has_collection k name
 same_collection h k a name =
-    sym (among_first_places name (filter_map collection_in h.changes))
+    sym (among_first_places name (collections h))
     ∙ ap (list_any (bytes_eq name)) a.same_collections
-    ∙ among_first_places name (filter_map collection_in k.changes)
+    ∙ among_first_places name (collections k)
 
 abbrev has_outline : List ℕ → Outline → Bool
 has_outline accession o = bytes_eq o.description.accession accession

@@ -40,7 +40,7 @@ pub use Rattle.office_core.specs.declared.rule.Rule.{Rule}
 pub use Rattle.office_history.specs.Acceptance.{IsAllowed, IsChange, IsDepositable, IsDisposable, IsHold, IsPlaceable, IsReleasable, IsThere}
 pub use Rattle.office_history.specs.Answers.{after, allowed_answer, allowed_change, answer, answer_unless, audit_report, change, changes_unless, deposit_change, due_list, file_answer, is_selected, listed_record, listed_records, live_hold, of_number, OnlyReads, record_of, told_hold, told_holds, told_of, Wanted}
 pub use Rattle.office_history.specs.Bags.{bag_of, if_valid, report_on, report_or_text, valid_bag}
-pub use Rattle.office_history.specs.Histories.{accession_of, Change, collection_in, covers, DefinedClass, DefinedCollection, Deposit, deposit_in, deposit_numbered, Deposited, deposits, Destroyed, destroyed_in, destruction_day, due, has_accession, has_class, has_collection, History, Hold, hold_in, hold_numbered, holds, Installed, installed_in, is_live, kept_numbers, least_hold, live_holds, no_policy, OnClass, OnCollection, OnDeposit, PlacedHold, policy, reaches, release_day, released_in, ReleasedHold, Target, with_changes, years_in, years_of}
+pub use Rattle.office_history.specs.Histories.{accession_of, Change, collection_in, collections, covers, DefinedClass, DefinedCollection, Deposit, deposit_in, deposit_numbered, Deposited, deposits, Destroyed, destroyed_in, destruction_day, due, has_accession, has_class, has_collection, History, Hold, hold_in, hold_numbered, holds, Installed, installed_in, is_live, kept_numbers, least_hold, live_holds, no_policy, OnClass, OnCollection, OnDeposit, PlacedHold, policy, reaches, release_day, released_in, ReleasedHold, Target, with_changes, years_in, years_of}
 pub use Rattle.office_history.specs.Lists.{distinct_after, first_said, in_first_places, item_numbered, last_said, numbers}
 pub use Rattle.office_history.specs.Pictures.{action_pattern_text, caller_row, class_in, class_row, class_rows, collection_rows, deposit_row, deposit_rows, description_of, due_number, due_row, due_rows, effect_number, file_row, file_rows, held_class, held_collection, held_deposit, hold_row, office_row, pattern_text, picture, row_by_gone, row_by_release, row_of_class, row_of_deposit, row_of_due, row_of_hold, rule_row, rule_rows, years_back, years_number}
 pub use Rattle.office_history.specs.Refusals.{asked_refusals, bad_as, bad_bag, bag_refusals, closed_ahead_refusal, deciding_rule_at, denial, denial_at, disposal_refusals, facts_of, full_of_deposits, full_of_holds, gone_refusal, held_refusal, no_file, no_such_class, no_such_collection, not_due_refusal, of_deposit, of_hold, filing_refusals, refusal, refusal_in, refusal_of, release_denial, release_denial_of, released_refusal, taken_refusal}

@@ -72,6 +72,11 @@ pub record WasDeposited (next : History) (n : ℕ) (text : List ℕ) : Type 0 wh
   pub there : deposit_numbered next n ≡ Some found
   pub read : set_of text ≡ Ok found.1.bag
 
+stands_later : (h next : History) (n : ℕ) (found : Date × Deposit) (text : List ℕ) → deposit_numbered h n ≡ Some found → set_of text ≡ Ok found.1.bag → IsLater h next → WasDeposited next n text
+stands_later h next n found text there read after_it =
+    let it = bag_stays h after_it.0 n found there in
+    record { found = it.0; there = ap (λ x. deposit_numbered x n) after_it.1 ∙ it.1; read = read ∙ ap Ok (sym it.2) }
+
 pub was_deposited : (h next : History) (day : Date) (n : ℕ) (caller : List ℕ) (description : Description) (bag : Bor (List ℕ))
     → answer h day caller (MakeDeposit description bag) ≡ answers.Deposited n
     → IsLater (after h day caller (MakeDeposit description bag)) next → WasDeposited next n bag.now
@@ -84,12 +89,7 @@ was_deposited h next day n caller description bag e after_it =
     let there : deposit_numbered mid n ≡ Some made =
     ap (λ ds. item_numbered ds n) (deposit_adds h day caller description bag allowed.0 was.0 allowed.1)
     ∙ ap (λ m. item_numbered (deposits h ++ made ∷ []) m) (sym number) ∙ numbered_last (deposits h) made in
-    let it = bag_stays mid after_it.0 n made there in
-    record {
-      found = it.0;
-      there = ap (λ x. deposit_numbered x n) after_it.1 ∙ it.1;
-      read = read_of bag.now allowed.0 allowed.1 ∙ ap Ok (sym it.2);
-    }
+    stands_later mid next n made bag.now there (read_of bag.now allowed.0 allowed.1) after_it
 
 -- of two items of a run, neither of which failed, the second was answered in a later history than the first made
 pub record BothAnswered (h late : History) (first last : Item) (a b : Answer) : Type 0 where

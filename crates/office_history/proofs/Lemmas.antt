@@ -9,4 +9,4 @@ pub use Rattle.office_history.proofs.LawLemmas.{both_answered, covers_class, cov
 pub use Rattle.office_history.proofs.LegalLemmas.{changes_stand, run_legal, sound_bag}
 pub use Rattle.office_history.proofs.ListLemmas.{all_numbered}
 pub use Rattle.office_history.proofs.OnceLemmas.{held_least, not_among_live, refuses_none, was_allowed}
-pub use Rattle.office_history.proofs.RangeLemmas.{closed_deposits, HasPlace, HasTarget, limits_hold, placed_deposits, placed_holds, WasClosed, accessions_apart, HasSoundBag, sound_deposits}
+pub use Rattle.office_history.proofs.RangeLemmas.{accessions_apart, closed_deposits, HasPlace, HasSoundBag, HasTarget, limits_hold, placed_deposits, placed_holds, sound_deposits, WasClosed}

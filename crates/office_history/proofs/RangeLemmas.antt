@@ -1,5 +1,5 @@
 -- Each legal history: its limits hold, its accessions are used once, what is named is there, and its deposits, holds and changes are in range.
-use Rattle.office_history.proofs.FirstLemmas.{◌≡◌, ◌<◌, ◌≤◌, ◌≤ℤ◌, ℕ, true, List, [], ◌∷◌, ◌++◌, length, length-append, Option, Some, None, is_some, refl, ap, subst, ◌∙◌, arith, bytes_eq, AllByRecursion, filter_map, list_any, option_or, filter_map-append, or_left, same_Some, cond_some, bytes_eq-Decides, Date, epoch_day, IsDay, IsDescription, IsName, IsYears, first_said, last_said, History, Change, DefinedClass, DefinedCollection, ReleasedHold, Destroyed, Target, OnDeposit, OnCollection, OnClass, Deposit, Hold, with_changes, years_in, years_of, has_class, collection_in, has_collection, deposits, deposit_numbered, destroyed_in, destruction_day, holds, released_in, release_day, IsChange, IsHold, IsThere, IsLegal, IsWithin, all_append, all_weaker, all_said, some_behind, last_said-append, legal_by, deposits_by, holds_by, by_Option, no_deposit_before, zero, suc, sym, inl, inr, position, true≢false, item_numbered, IsSound, numbered_cases, none_passes, option_map_none}
+use Rattle.office_history.proofs.FirstLemmas.{◌≡◌, ◌<◌, ◌≤◌, ◌≤ℤ◌, ℕ, true, List, [], ◌∷◌, ◌++◌, length, length-append, Option, Some, None, is_some, refl, ap, subst, ◌∙◌, arith, bytes_eq, AllByRecursion, filter_map, list_any, option_or, filter_map-append, or_left, same_Some, cond_some, bytes_eq-Decides, Date, epoch_day, IsDay, IsDescription, IsName, IsYears, first_said, last_said, History, Change, DefinedClass, DefinedCollection, ReleasedHold, Destroyed, Target, OnDeposit, OnCollection, OnClass, Deposit, Hold, with_changes, years_in, years_of, has_class, collection_in, collections, has_collection, deposits, deposit_numbered, destroyed_in, destruction_day, holds, released_in, release_day, IsChange, IsHold, IsThere, IsLegal, IsWithin, all_append, all_weaker, all_said, some_behind, last_said-append, legal_by, deposits_by, holds_by, by_Option, no_deposit_before, zero, suc, sym, inl, inr, position, true≢false, item_numbered, IsSound, numbered_cases, none_passes, option_map_none}
 use Rattle.std.proofs.lemmas.List.Folds.{list_any-append}
 use Rattle.office_history.proofs.LegalLemmas.{Reads, Judges, sound_bag}
 use Rattle.office_history.specs.Acceptance.{IsDepositable, IsPlaceable}
@@ -152,7 +152,7 @@ released_days h legal k = first_ranged (released_in k) IsDay (released_day k) h.
 pub named_classes : (h : History) → IsLegal h → (name : List ℕ) (years : Option ℕ) → years_of h name ≡ Some years → IsName name × IsYears years
 named_classes h legal name = last_ranged (years_in name) (λ years. IsName name × IsYears years) (class_years name) h.changes (ranged_changes h legal)
 
-pub named_collections : (h : History) → IsLegal h → AllByRecursion IsName (filter_map collection_in h.changes)
+pub named_collections : (h : History) → IsLegal h → AllByRecursion IsName (collections h)
 named_collections h legal = all_said IsChange IsName collection_in collection_name h.changes (ranged_changes h legal)
 
 -- ---- what is named is there
@@ -163,7 +163,7 @@ class_stays h more name e = ap is_some (last_said-append (years_in name) h.chang
 collection_stays : (h : History) (more : List Change) (name : List ℕ) → has_collection h name ≡ true → has_collection (with_changes h more) name ≡ true
 collection_stays h more name e =
     ap (list_any (bytes_eq name)) (filter_map-append collection_in h.changes more)
-    ∙ list_any-append (bytes_eq name) (filter_map collection_in h.changes) (filter_map collection_in more)
+    ∙ list_any-append (bytes_eq name) (collections h) (filter_map collection_in more)
     ∙ or_left (has_collection h name) _ e
 
 there_stays : (h : History) (more : List Change) (target : Target) → IsThere h target → IsThere (with_changes h more) target

@@ -1,5 +1,5 @@
 -- The rows of a legal history are in range.
-use Rattle.office_history.proofs.FirstLemmas.{◌≡◌, ◌≤◌, ◌<ℤ◌, ◌&&◌, ℕ, zero, suc, ◌+◌, ℤ, pos, Bool, true, List, [], ◌∷◌, length, map, filter, Option, Some, None, IfSome, is_none, is_some, option_map, refl, sym, ap, subst, ◌∙◌, inl, inr, ◌⊎◌, arith, ⊤, Contains, bytes_eq, neg_ℤ, AllByRecursion, filter_map, flat_map, list_any, range_with_len, cons_option, length-map, bytes_eq-Decides, epoch_day-lt, epoch_day_range, signed_arith, Date, epoch_day, IsBetween, File, Fits, Has, has_contains, any_has, day_number, first_year, last_year, IsDay, IsDayNumber, IsYearsAfter, IsName, IsYears, due_number, due_of, Due, On, Never, IsNamed, HasNames, HasDays, IsNamedCaller, Caller, ActionPattern, Effect, Allow, Deny, Pattern, Rule, RuleRow, ClassRow, DepositRow, DueRow, HoldRow, item_numbered, numbers, in_first_places, History, Target, OnDeposit, OnCollection, OnClass, Deposit, policy, years_of, has_class, collection_in, has_collection, deposits, deposit_numbered, destruction_day, due, holds, hold_numbered, release_day, is_live, covers, live_holds, IsThere, office_row, effect_number, pattern_text, action_pattern_text, caller_row, rule_rows, years_number, class_row, class_in, row_of_class, class_rows, collection_rows, deposit_row, deposit_rows, row_of_deposit, due_row, row_of_due, file_row, held_deposit, held_collection, held_class, hold_row, row_of_hold, picture, IsLegal, files_of, all_numbered, all_said, each, all_append, first_places_have, is_nothing, option_map_some, by_Bool, by_Option}
+use Rattle.office_history.proofs.FirstLemmas.{◌≡◌, ◌≤◌, ◌<ℤ◌, ◌&&◌, ℕ, zero, suc, ◌+◌, ℤ, pos, Bool, true, List, [], ◌∷◌, length, map, filter, Option, Some, None, IfSome, is_none, is_some, option_map, refl, sym, ap, subst, ◌∙◌, inl, inr, ◌⊎◌, arith, ⊤, Contains, bytes_eq, neg_ℤ, AllByRecursion, filter_map, flat_map, list_any, range_with_len, cons_option, length-map, bytes_eq-Decides, epoch_day-lt, epoch_day_range, signed_arith, Date, epoch_day, IsBetween, File, Fits, Has, has_contains, any_has, day_number, first_year, last_year, IsDay, IsDayNumber, IsYearsAfter, IsName, IsYears, due_number, due_of, Due, On, Never, IsNamed, HasNames, HasDays, IsNamedCaller, Caller, ActionPattern, Effect, Allow, Deny, Pattern, Rule, RuleRow, ClassRow, DepositRow, DueRow, HoldRow, item_numbered, numbers, in_first_places, History, Target, OnDeposit, OnCollection, OnClass, Deposit, policy, years_of, has_class, has_collection, deposits, deposit_numbered, destruction_day, due, holds, hold_numbered, release_day, is_live, covers, live_holds, IsThere, office_row, effect_number, pattern_text, action_pattern_text, caller_row, rule_rows, years_number, class_row, class_in, row_of_class, class_rows, collection_rows, deposit_row, deposit_rows, row_of_deposit, due_row, row_of_due, file_row, held_deposit, held_collection, held_class, hold_row, row_of_hold, picture, IsLegal, files_of, all_numbered, all_said, each, all_append, first_places_have, is_nothing, option_map_some, by_Bool, by_Option, collections}
 use Rattle.std.proofs.lemmas.List.FromFn.{length-range_with_len}
 use Rattle.std.proofs.lemmas.List.Sums.{length-filter, count_by-le-length}
 use Rattle.bag_check.proofs.CodeLemmas.{few_payload, small_payload}
@@ -52,7 +52,7 @@ text_there name texts e =
     has_contains (in_first_places texts) name (first_places_have name texts here)
 
 collection_there : (h : History) (name : List ℕ) → has_collection h name ≡ true → Contains (collection_rows h) name
-collection_there h name e = text_there name (filter_map collection_in h.changes) e
+collection_there h name e = text_there name (collections h) e
 
 class_there : (h : History) (name : List ℕ) → has_class h name ≡ true → Contains (map (λ (row : ClassRow). row.name) (class_rows h)) name
 class_there h name e =
@@ -250,7 +250,7 @@ rows_in_range reads judges h version legal =
       rules = ranged_rules 1 (policy h).rules rules.rules_ask_for_names rules.rules_have_days;
       places = numbered_rules 1 (policy h).rules;
       classes = all_told IsClassRow (row_of_class h) (class_ranged h legal) (in_first_places (filter_map class_in h.changes));
-      collections = all_distinct IsName [] (filter_map collection_in h.changes) (named_collections h legal);
+      collections = all_distinct IsName [] (collections h) (named_collections h legal);
       deposits = all_told (IsDepositRow (picture version h)) (row_of_deposit h) (deposit_ranged reads judges h version legal) (numbers (length (deposits h)));
       deposit_numbers = numbered_rows (deposits h) (deposit_row h) (λ (row : DepositRow). row.number) (λ n x. refl) (length (deposits h)) 1 (omega arith) (omega arith);
       dues = all_told (IsDueRow (office_row version h)) (row_of_due h) (due_row_ranged h version legal) (numbers (length (deposits h)));

@@ -78,8 +78,12 @@ abbrev pub collection_in : Change → Option (List ℕ)
 collection_in (DefinedCollection day name) = Some name
 collection_in _ = None
 
+-- in the order in which they were defined
+abbrev pub collections : History → List (List ℕ)
+collections h = filter_map collection_in h.changes
+
 abbrev pub has_collection : History → List ℕ → Bool
-has_collection h name = list_any (bytes_eq name) (filter_map collection_in h.changes)
+has_collection h name = list_any (bytes_eq name) (collections h)
 
 -- ---- deposits: the n-th that was accepted has the number n, from 1
 

@@ -19,7 +19,7 @@ pub use Rattle.office_core.specs.Retention.{due_number}
 use Rattle.office_core.specs.declared.caller.Caller.{Caller}
 use Rattle.office_rows.specs.Rows.{OfficeRow, CallerRow, RuleRow, ClassRow, DepositRow, DueRow, FileRow, HoldRow, Tables}
 use Rattle.office_history.specs.Lists.{numbers, in_first_places}
-use Rattle.office_history.specs.Histories.{History, Change, DefinedClass, Deposit, Hold, Target, OnDeposit, OnCollection, OnClass, policy, years_of, collection_in, deposits, deposit_numbered, destruction_day, due, live_holds, kept_numbers, holds, hold_numbered, release_day}
+use Rattle.office_history.specs.Histories.{History, Change, DefinedClass, Deposit, Hold, Target, OnDeposit, OnCollection, OnClass, policy, years_of, deposits, deposit_numbered, destruction_day, due, live_holds, kept_numbers, holds, hold_numbered, release_day, collections}
 use Rattle.office_history.specs.Stocks.{files_of}
 
 -- ---- one row each
@@ -145,7 +145,7 @@ abbrev pub class_rows : History → List ClassRow
 class_rows h = filter_map (row_of_class h) (in_first_places (filter_map class_in h.changes))
 
 abbrev pub collection_rows : History → List (List ℕ)
-collection_rows h = in_first_places (filter_map collection_in h.changes)
+collection_rows h = in_first_places (collections h)
 
 abbrev pub row_of_deposit : History → ℕ → Option DepositRow
 row_of_deposit h n = option_map (deposit_row h n) (deposit_numbered h n)

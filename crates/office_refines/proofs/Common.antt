@@ -41,7 +41,7 @@ pub use Rattle.office_history.proofs.RangeLemmas.{HasTarget, IsDeposited, limits
 pub use Rattle.office_history.specs.Acceptance.{IsPlaceable, IsReleasable, IsThere}
 pub use Rattle.office_history.specs.Answers.{allowed_change, answer_unless, changes_unless, deposit_change, file_answer, is_selected, live_hold, record_of, scope_of, told_of, Wanted}
 pub use Rattle.office_history.specs.Bags.{bag_of, report_on}
-pub use Rattle.office_history.specs.Histories.{accession_of, Change, collection_in, covers, DefinedClass, DefinedCollection, Deposit, deposit_in, deposit_numbered, Deposited, deposits, Destroyed, destroyed_in, destruction_day, due, has_class, has_collection, History, Hold, hold_in, hold_numbered, holds, Installed, installed_in, is_live, least_hold, live_holds, OnClass, OnCollection, OnDeposit, PlacedHold, policy, reaches, release_day, released_in, ReleasedHold, Target, with_changes, years_in, years_of}
+pub use Rattle.office_history.specs.Histories.{accession_of, Change, collection_in, collections, covers, DefinedClass, DefinedCollection, Deposit, deposit_in, deposit_numbered, Deposited, deposits, Destroyed, destroyed_in, destruction_day, due, has_class, has_collection, History, Hold, hold_in, hold_numbered, holds, Installed, installed_in, is_live, least_hold, live_holds, OnClass, OnCollection, OnDeposit, PlacedHold, policy, reaches, release_day, released_in, ReleasedHold, Target, with_changes, years_in, years_of}
 pub use Rattle.office_history.specs.Lists.{distinct_after, first_said, in_first_places, item_numbered, last_said, numbers}
 pub use Rattle.office_history.specs.Pictures.{action_pattern_text, caller_row, class_in, class_row, class_rows, collection_rows, deposit_row, deposit_rows, description_of, due_number, due_row, due_rows, effect_number, file_row, file_rows, held_class, held_collection, held_deposit, hold_row, hold_rows, office_row, pattern_text, picture, row_by_gone, row_by_release, rule_row, rule_rows, years_back, years_number}
 pub use Rattle.office_history.specs.Refusals.{deciding_rule, deciding_rule_at, denial, denial_at, disposal_refusals, facts_of, file_refusals, gone_refusal, held_refusal, no_file, not_due_refusal, of_deposit, refusal_in, refusal_of}
