@@ -1,6 +1,6 @@
 -- What going over a history gives.
-use Rattle.test_plain.proofs.Common.{◌≡◌, ◌≢◌, ℕ, ◌+◌, ◌-◌, ◌<◌, ◌≤◌, suc, zero, Bool, true, false, List, [], ◌∷◌, ◌++◌, length, Option, Some, None, option_map, refl, sym, ap, ◌∙◌, arith, append-nil, append_assoc, length-append, filter, if◌then◌else◌, cond, drop, get_or, drop-cons, is_none, is_some, not, bytes_eq, range_with_len, position_from, filter_map, cons_option, Bor, Result, IfOk, IfOk-weaker, first_some, filing_refusals, bag_refusals, refusal, Date, History, Change, Deposited, PlacedHold, Deposit, Hold, with_changes, deposit_in, hold_in, deposits, holds, accession_of, has_accession, item_numbered, IsWithin, HasRoom, Refusal}
-use Rattle.std.proofs.lemmas.List.Elements.{filter_map-append}
+use Rattle.test_plain.proofs.Common.{◌≡◌, ◌≢◌, ℕ, ◌+◌, ◌-◌, ◌<◌, ◌≤◌, suc, zero, Bool, true, false, List, [], ◌∷◌, ◌++◌, length, Option, Some, None, option_map, refl, sym, ap, ◌∙◌, arith, append_assoc, length-append, filter, if◌then◌else◌, cond, drop, get_or, drop-cons, is_none, is_some, not, bytes_eq, range_with_len, position_from, filter_map, cons_option, Bor, Result, IfOk, IfOk-weaker, first_some, filing_refusals, bag_refusals, refusal, Date, History, Change, Deposited, PlacedHold, Deposit, with_changes, deposit_in, deposits, holds, accession_of, has_accession, item_numbered, IsWithin, HasRoom, Refusal}
+use Rattle.office_history.proofs.HistoryLemmas.{one_deposit, one_hold, same_deposits, same_holds}
 use Rattle.std.proofs.lemmas.Iterator.Adapters.{position_from-zero}
 use Rattle.std.specs.declared.alloc.AllocError.{AllocError}
 use Rattle.std.proofs.lemmas.Bool.Decides.{nat_tests}
@@ -15,45 +15,23 @@ few h within = (
   grind (arith, nat_tests, within.holds_in, within.holds_limit),
 )
 
--- a change that is neither a deposit nor a hold adds none
-within_other : (h : History) (change : Change) → deposit_in change ≡ None → hold_in change ≡ None → IsWithin h → IsWithin (with_changes h (change ∷ []))
-within_other h change no_deposit no_hold within =
-    let d : deposits (with_changes h (change ∷ [])) ≡ deposits h = rw (filter_map-append deposit_in h.changes (change ∷ []), no_deposit) (append-nil (deposits h)) in
-    let k : holds (with_changes h (change ∷ [])) ≡ holds h = rw (filter_map-append hold_in h.changes (change ∷ []), no_hold) (append-nil (holds h)) in
-    record {
-      deposits_in = rw d within.deposits_in;
-      holds_in = rw k within.holds_in;
-      deposits_limit = within.deposits_limit;
-      holds_limit = within.holds_limit;
-    }
-
-within_deposit : (h : History) (day : Date) (deposit : Deposit) → length (deposits h) < h.max_deposits → IsWithin h → IsWithin (with_changes h (Deposited day deposit ∷ []))
-within_deposit h day deposit room within =
-    let d : length (deposits (with_changes h (Deposited day deposit ∷ []))) ≡ length (deposits h) + 1 = rw (filter_map-append deposit_in h.changes (Deposited day deposit ∷ [])) (length-append (deposits h) ((day, deposit) ∷ [])) in
-    let k : holds (with_changes h (Deposited day deposit ∷ [])) ≡ holds h = rw (filter_map-append hold_in h.changes (Deposited day deposit ∷ [])) (append-nil (holds h)) in
-    record {
-      deposits_in = rw d (omega arith);
-      holds_in = rw k within.holds_in;
-      deposits_limit = within.deposits_limit;
-      holds_limit = within.holds_limit;
-    }
-
-within_hold : (h : History) (day : Date) (hold : Hold) → length (holds h) < h.max_holds → IsWithin h → IsWithin (with_changes h (PlacedHold day hold ∷ []))
-within_hold h day hold room within =
-    let d : deposits (with_changes h (PlacedHold day hold ∷ [])) ≡ deposits h = rw (filter_map-append deposit_in h.changes (PlacedHold day hold ∷ [])) (append-nil (deposits h)) in
-    let k : length (holds (with_changes h (PlacedHold day hold ∷ []))) ≡ length (holds h) + 1 = rw (filter_map-append hold_in h.changes (PlacedHold day hold ∷ [])) (length-append (holds h) ((day, hold) ∷ [])) in
-    record {
-      deposits_in = rw d within.deposits_in;
-      holds_in = rw k (omega arith);
-      deposits_limit = within.deposits_limit;
-      holds_limit = within.holds_limit;
-    }
+within_so : (h : History) (more : List Change) → IsWithin h → length (deposits (with_changes h more)) ≤ h.max_deposits → length (holds (with_changes h more)) ≤ h.max_holds → IsWithin (with_changes h more)
+within_so h more within deposits_in holds_in = record { deposits_in = deposits_in; holds_in = holds_in; deposits_limit = within.deposits_limit; holds_limit = within.holds_limit }
 
 -- a change for which there is room keeps the limits
 pub within_grown : (h : History) (change : Change) → HasRoom h change → IsWithin h → IsWithin (with_changes h (change ∷ []))
-within_grown h (Deposited day deposit) room within = within_deposit h day deposit room within
-within_grown h (PlacedHold day hold) room within = within_hold h day hold room within
-within_grown h change room within = within_other h change refl refl within
+within_grown h (Deposited day deposit) room within =
+    let d = one_deposit h day deposit [] refl in
+    let k = same_holds h (Deposited day deposit ∷ []) refl in
+    within_so h (Deposited day deposit ∷ []) within (omega (arith, room, ap length d, length-append (deposits h) ((day, deposit) ∷ []))) (omega (arith, within.holds_in, ap length k))
+within_grown h (PlacedHold day hold) room within =
+    let d = same_deposits h (PlacedHold day hold ∷ []) refl in
+    let k = one_hold h day hold [] refl in
+    within_so h (PlacedHold day hold ∷ []) within (omega (arith, within.deposits_in, ap length d)) (omega (arith, room, ap length k, length-append (holds h) ((day, hold) ∷ [])))
+within_grown h change room within =
+    let d = same_deposits h (change ∷ []) refl in
+    let k = same_holds h (change ∷ []) refl in
+    within_so h (change ∷ []) within (omega (arith, within.deposits_in, ap length d)) (omega (arith, within.holds_in, ap length k))
 
 -- the number of the first deposit that has this accession, where so many stand before
 abbrev pub accession_behind : ℕ → List ℕ → List (Date × Deposit) → Option ℕ
@@ -69,7 +47,7 @@ behind_is n accession (d ∷ ds) = by (has_accession accession d) (behind_is (n 
     by true h = refl
     by false h = h
 
-pub accession_found : (h : History) (accession : List ℕ) → accession_behind 0 accession (deposits h) ≡ accession_of h accession
+pub accession_found : (h : History) (accession : List ℕ) → accession_behind 0 accession (filter_map deposit_in h.changes) ≡ accession_of h accession
 accession_found h accession = behind_is 0 accession (deposits h) ∙ ap (option_map (λ place. place + 1)) (sym (position_from-zero (has_accession accession) (deposits h)))
 
 -- the item of a number, after the first

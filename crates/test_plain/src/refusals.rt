@@ -4,14 +4,14 @@ ghost use Rattle.std.specs.Prelude.{◌≡◌, IfOk};
 ghost use Rattle.office_core.specs.FirstOf.{first_some};
 ghost use Rattle.office_core.specs.declared.request.Request.TheVariants as requests;
 ghost use Rattle.office_history.specs.Histories.{deposit_numbered, hold_numbered};
-ghost use Rattle.office_history.specs.Refusals.{of_deposit, of_hold, release_denial, asked_refusals, file_refusals, hold_refusals, collection_hold_refusals, class_hold_refusals, release_refusals, filing_refusals, bag_refusals, refusal};
+ghost use Rattle.office_history.specs.Refusals.{of_deposit, of_hold, release_denial, taken_refusal, closed_ahead_refusal, bad_bag, full_of_deposits, no_file, released_refusal, asked_refusals, file_refusals, hold_refusals, collection_hold_refusals, class_hold_refusals, release_refusals, filing_refusals, bag_refusals, refusal};
 
 use crate::change::{Deposit, Hold, Target};
-use crate::history::Office;
-use crate::reading::{deposit_numbered, hold_numbered};
+use crate::history::{Office, limits_of};
+use crate::judging::bag_of;
+use crate::reading::{accession_of, deposit_count, deposit_numbered, hold_numbered, release_day};
 use crate::refusing::{
-    bad_bag, closed_ahead_refusal, denial, denial_at, facts_of, full_of_deposits, full_of_holds,
-    no_file, no_such_class, no_such_collection, released_refusal, taken_refusal,
+    denial, denial_at, facts_of, full_of_holds, no_such_class, no_such_collection,
 };
 use office_core::{Action, Day, Description, Name, Refusal, Request, Subject, verdict};
 use office_history::judging::refusal_of;
@@ -54,6 +54,48 @@ fn asked_refusal(
             alloc, office, day, caller, action, number, deposit,
         ),
         None => Ok(Some(Refusal::NoSuch(Subject::Deposit))),
+    }
+}
+
+/// E4
+fn taken_refusal(office: &Office, accession: &str) -> Option<Refusal>
+    ensures { result ≡ taken_refusal office.now accession.now }
+{
+    match accession_of(office, accession) {
+        Some(number) => Some(Refusal::Taken(number)),
+        None => None,
+    }
+}
+
+/// E5
+fn closed_ahead_refusal(day: Day, closed: Day) -> Option<Refusal>
+    ensures { result ≡ closed_ahead_refusal day closed }
+{
+    if day.number() < closed.number() {
+        Some(Refusal::ClosedAhead)
+    } else {
+        None
+    }
+}
+
+/// E6
+fn bad_bag(alloc: Global, text: &[u8]) -> Result<Option<Refusal>, AllocError>
+    ensures { IfOk result (λ refusal. refusal ≡ bad_bag text.now) }
+{
+    match bag_of(alloc, text)? {
+        Ok(_) => Ok(None),
+        Err(fault) => Ok(Some(Refusal::BadBag(fault))),
+    }
+}
+
+/// E10
+fn full_of_deposits(office: &Office) -> Option<Refusal>
+    ensures { result ≡ full_of_deposits office.now }
+{
+    if limits_of(office).deposits <= deposit_count(office) {
+        Some(Refusal::Full)
+    } else {
+        None
     }
 }
 
@@ -105,6 +147,16 @@ fn first_filing_refusal(
         Some(collection),
         Some(class),
     )
+}
+
+/// E13
+fn no_file(alloc: Global, deposit: &Deposit, path: &[u8]) -> Result<Option<Refusal>, AllocError>
+    ensures { IfOk result (λ refusal. refusal ≡ no_file deposit.now path.now) }
+{
+    match deposit.bag.content(alloc, path)? {
+        Some(_) => Ok(None),
+        None => Ok(Some(Refusal::NoFile)),
+    }
 }
 
 /// E2, E3 and E13.
@@ -243,6 +295,16 @@ fn release_denial(office: &Office, day: Day, caller: &str, hold: &Hold) -> Optio
             None,
             Some(name.as_str()),
         ),
+    }
+}
+
+/// E9
+fn released_refusal(office: &Office, hold: u32) -> Option<Refusal>
+    ensures { result ≡ released_refusal office.now hold }
+{
+    match release_day(office, hold) {
+        Some(day) => Some(Refusal::Released(day)),
+        None => None,
     }
 }
 

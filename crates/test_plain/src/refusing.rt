@@ -1,16 +1,14 @@
-//! Which requests are refused, and why.
+//! Refusals that several requests share, and what decides them.
 
 ghost use Rattle.std.specs.Prelude.{◌≡◌, IfOk, option_copied};
 ghost use Rattle.office_core.specs.Policies.{role_of};
 ghost use Rattle.office_history.specs.Histories.{policy};
-ghost use Rattle.office_history.specs.Refusals.{deciding_rule, facts_of, denial, denial_at, no_such_class, no_such_collection, taken_refusal, closed_ahead_refusal, bad_bag, released_refusal, full_of_deposits, full_of_holds, no_file};
+ghost use Rattle.office_history.specs.Refusals.{deciding_rule, facts_of, denial, denial_at, no_such_class, no_such_collection, full_of_holds};
 
 use crate::change::Deposit;
 use crate::history::{Office, limits_of};
-use crate::judging::bag_of;
 use crate::reading::{
-    accession_of, deposit_count, destruction_day, due, has_class, has_collection, hold_count,
-    installed_policy, live_holds, release_day,
+    destruction_day, due, has_class, has_collection, hold_count, installed_policy, live_holds,
 };
 use office_core::{Action, Ask, Day, Decision, Facts, Refusal, Rule, Subject, decide, or_stranger};
 use office_history::judging::refusal_of;
@@ -145,58 +143,6 @@ pub fn no_such_collection(office: &Office, name: &str) -> Option<Refusal>
     }
 }
 
-/// E4
-pub fn taken_refusal(office: &Office, accession: &str) -> Option<Refusal>
-    ensures { result ≡ taken_refusal office.now accession.now }
-{
-    match accession_of(office, accession) {
-        Some(number) => Some(Refusal::Taken(number)),
-        None => None,
-    }
-}
-
-/// E5
-pub fn closed_ahead_refusal(day: Day, closed: Day) -> Option<Refusal>
-    ensures { result ≡ closed_ahead_refusal day closed }
-{
-    if day.number() < closed.number() {
-        Some(Refusal::ClosedAhead)
-    } else {
-        None
-    }
-}
-
-/// E6
-pub fn bad_bag(alloc: Global, text: &[u8]) -> Result<Option<Refusal>, AllocError>
-    ensures { IfOk result (λ refusal. refusal ≡ bad_bag text.now) }
-{
-    match bag_of(alloc, text)? {
-        Ok(_) => Ok(None),
-        Err(fault) => Ok(Some(Refusal::BadBag(fault))),
-    }
-}
-
-/// E9
-pub fn released_refusal(office: &Office, hold: u32) -> Option<Refusal>
-    ensures { result ≡ released_refusal office.now hold }
-{
-    match release_day(office, hold) {
-        Some(day) => Some(Refusal::Released(day)),
-        None => None,
-    }
-}
-
-/// E10
-pub fn full_of_deposits(office: &Office) -> Option<Refusal>
-    ensures { result ≡ full_of_deposits office.now }
-{
-    if limits_of(office).deposits <= deposit_count(office) {
-        Some(Refusal::Full)
-    } else {
-        None
-    }
-}
-
 /// E10
 pub fn full_of_holds(office: &Office) -> Option<Refusal>
     ensures { result ≡ full_of_holds office.now }
@@ -205,15 +151,5 @@ pub fn full_of_holds(office: &Office) -> Option<Refusal>
         Some(Refusal::Full)
     } else {
         None
-    }
-}
-
-/// E13
-pub fn no_file(alloc: Global, deposit: &Deposit, path: &[u8]) -> Result<Option<Refusal>, AllocError>
-    ensures { IfOk result (λ refusal. refusal ≡ no_file deposit.now path.now) }
-{
-    match deposit.bag.content(alloc, path)? {
-        Some(_) => Ok(None),
-        None => Ok(Some(Refusal::NoFile)),
     }
 }
