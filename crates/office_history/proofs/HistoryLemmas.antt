@@ -1,5 +1,5 @@
 -- What longer histories have of shorter ones. Beside these lemmas only `alike_grown` looks at how deposits and holds are read off changes.
-use Rattle.office_history.proofs.Common.{◌≡◌, ◌≤◌, ℕ, List, [], ◌∷◌, ◌++◌, length, length-append, append-nil, arith, refl, sym, ap, ◌∙◌, Some, None, filter_map, filter_map-append, Date, History, Change, Deposited, PlacedHold, Deposit, Hold, OnClass, OnCollection, with_changes, deposit_in, deposits, deposit_numbered, hold_in, holds, hold_numbered, by_Option}
+use Rattle.office_history.proofs.Common.{◌≡◌, ◌≤◌, ℕ, List, [], ◌∷◌, ◌++◌, length, length-append, append-nil, arith, refl, sym, ap, ◌∙◌, Some, None, filter_map, filter_map-append, Date, History, Change, Deposited, PlacedHold, Deposit, Hold, OnClass, OnCollection, with_changes, collection_in, collections, deposit_in, deposits, deposit_numbered, hold_in, holds, hold_numbered, by_Option}
 use Rattle.office_history.proofs.ListLemmas.{numbered_front}
 
 pub deposits_grown : (h : History) (more : List Change) → deposits (with_changes h more) ≡ deposits h ++ filter_map deposit_in more
@@ -8,12 +8,18 @@ deposits_grown h more = filter_map-append deposit_in h.changes more
 pub holds_grown : (h : History) (more : List Change) → holds (with_changes h more) ≡ holds h ++ filter_map hold_in more
 holds_grown h more = filter_map-append hold_in h.changes more
 
--- changes that leave the deposits, and the holds, as they were
+-- changes that leave the collections, the deposits, and the holds, as they were
+abbrev pub LeavesCollections : List Change → Type 0
+LeavesCollections more = filter_map collection_in more ≡ []
+
 abbrev pub LeavesDeposits : List Change → Type 0
 LeavesDeposits more = filter_map deposit_in more ≡ []
 
 abbrev pub LeavesHolds : List Change → Type 0
 LeavesHolds more = filter_map hold_in more ≡ []
+
+pub same_collections : (h : History) (more : List Change) → LeavesCollections more → collections (with_changes h more) ≡ collections h
+same_collections h more left = filter_map-append collection_in h.changes more ∙ ap (λ added. collections h ++ added) left ∙ append-nil (collections h)
 
 pub same_deposits : (h : History) (more : List Change) → LeavesDeposits more → deposits (with_changes h more) ≡ deposits h
 same_deposits h more left = deposits_grown h more ∙ ap (λ added. deposits h ++ added) left ∙ append-nil (deposits h)

@@ -1,5 +1,5 @@
 -- The rows of classes and the due days of their deposits, and the history that they picture.
-use Rattle.office_refines.proofs.FirstLemmas.{◌≡◌, ℕ, Bool, true, false, List, [], ◌∷◌, Option, Some, None, option_map, is_some, refl, sym, ap, ◌∙◌, if◌then◌else◌, ◌||◌, ◌++◌, map, true≢false, append-nil, bytes_eq, option_or, AllByRecursion, filter_map, cons_option, list_any, bytes_eq-Decides, filter_map-append, Date, ClassRow, class_named, Tables, is_class, with_class, with_new_class, this_version, first_said, in_first_places, History, years_of, DefinedClass, with_changes, deposits, class_rows, years_back, class_in, class_row, years_number, picture, row_years, years_read, rows_by, HasYears, all_have_years, all_distinct, among_first_places, years_grown, same_collections, same_deposit_rows, same_file_rows, same_hold_rows, pictured_by, bytes_eq-sym, first_places_last, by_Bool, by_Option}
+use Rattle.office_refines.proofs.FirstLemmas.{◌≡◌, ℕ, Bool, true, false, List, [], ◌∷◌, Option, Some, None, option_map, is_some, refl, sym, ap, ◌∙◌, if◌then◌else◌, ◌||◌, ◌++◌, map, true≢false, append-nil, bytes_eq, option_or, AllByRecursion, filter_map, cons_option, list_any, bytes_eq-Decides, filter_map-append, Date, ClassRow, class_named, Tables, is_class, with_class, with_new_class, this_version, first_said, in_first_places, History, years_of, DefinedClass, with_changes, deposits, class_rows, years_back, class_in, class_row, years_number, picture, row_years, years_read, rows_by, HasYears, all_have_years, all_distinct, among_first_places, years_grown, same_collection_rows, same_deposit_rows, same_file_rows, same_hold_rows, pictured_by, bytes_eq-sym, first_places_last, by_Bool, by_Option}
 use Rattle.office_rows.specs.Rows.{has_class, with_years}
 use Rattle.office_refines.proofs.DuesRevised.{days_from, days_revised, set_all}
 
@@ -93,6 +93,6 @@ module _ (h : History) (day : Date) (name : List ℕ) (y : Option ℕ) where
   pub class_told : (let t = with_class name (years_number y) (picture this_version h) in record t { dues = set_all (days_from name y 1 (deposits h)) t.dues }) ≡ picture this_version longer
   class_told =
       ap (λ (t : Tables). record t { dues = set_all (days_from name y 1 (deposits h)) t.dues }) with_class_is
-      ∙ pictured_by h (DefinedClass day name y ∷ []) refl refl (sym (same_collections h (DefinedClass day name y ∷ []) refl))
+      ∙ pictured_by h (DefinedClass day name y ∷ []) refl refl (sym (same_collection_rows h (DefinedClass day name y ∷ []) refl))
       (sym (same_deposit_rows h (DefinedClass day name y ∷ []) refl (λ n. refl))) (days_revised h day name y)
       (sym (same_file_rows h (DefinedClass day name y ∷ []) refl (λ n. refl))) (sym (same_hold_rows h (DefinedClass day name y ∷ []) refl (λ k. refl)))

@@ -33,7 +33,7 @@ pub use Rattle.office_core.specs.declared.rule.Rule.{Rule}
 pub use Rattle.office_history.proofs.Accepted.{allowed_of, depositable, disposable, grown_by_none, releasable, not_gone}
 pub use Rattle.office_history.proofs.Alike.{gone_grown, last_said-append, or_none, policy_grown, released_grown}
 pub use Rattle.office_history.proofs.AlikeAnswers.{among_first_places}
-pub use Rattle.office_history.proofs.HistoryLemmas.{LeavesDeposits, LeavesHolds, one_deposit, one_hold, same_deposits, same_holds}
+pub use Rattle.office_history.proofs.HistoryLemmas.{LeavesCollections, LeavesDeposits, LeavesHolds, one_deposit, one_hold, same_collections, same_deposits, same_holds}
 pub use Rattle.office_history.proofs.LegalReadings.{legal_policy, none_gone, none_released}
 pub use Rattle.office_history.proofs.ListLemmas.{all_numbered, each}
 pub use Rattle.office_history.proofs.Pictured.{all_distinct, all_have_years, different, HasYears, not_star, row_years, rows_by, same_list, there_is, told_at, years_read, own, files_told}

@@ -1,5 +1,5 @@
 -- The rows of an office after a deposit was made.
-use Rattle.office_refines.proofs.FirstLemmas.{◌≡◌, ℕ, ◌+◌, pos, Bool, List, [], ◌∷◌, ◌++◌, map, filter, length, is_none, refl, sym, ap, ◌∙◌, arith, zero, suc, ◌<◌, Some, None, Less, subst, cond, append-nil, append_assoc, add-one, option_map_or, int_cmp, length_push, flat_map, range_with_len, AllByRecursion, filter-append, Date, File, slice_get_last, put_by, Tables, DepositRow, FileRow, this_version, with_deposit_and_due, put_last, item_numbered, numbers, History, Change, Deposit, Deposited, with_changes, deposits, due, live_holds, destruction_day, due_row, due_rows, row_by_gone, deposit_row, deposit_rows, file_row, file_rows, picture, with_files, due_number, rows_from, rows_append, below, item_front, range_last, same_due_row, same_classes, same_collections, same_gone, same_hold_rows, pictured_by, due_rows_are, deposit_rows_are, by_Bool, one_deposit}
+use Rattle.office_refines.proofs.FirstLemmas.{◌≡◌, ℕ, ◌+◌, pos, Bool, List, [], ◌∷◌, ◌++◌, map, filter, length, is_none, refl, sym, ap, ◌∙◌, arith, zero, suc, ◌<◌, Some, None, Less, subst, cond, append-nil, append_assoc, add-one, option_map_or, int_cmp, length_push, flat_map, range_with_len, AllByRecursion, filter-append, Date, File, slice_get_last, put_by, Tables, DepositRow, FileRow, this_version, with_deposit_and_due, put_last, item_numbered, numbers, History, Change, Deposit, Deposited, with_changes, deposits, due, live_holds, destruction_day, due_row, due_rows, row_by_gone, deposit_row, deposit_rows, file_row, file_rows, picture, with_files, due_number, rows_from, rows_append, below, item_front, range_last, same_due_row, same_classes, same_collection_rows, same_gone, same_hold_rows, pictured_by, due_rows_are, deposit_rows_are, by_Bool, one_deposit}
 use Rattle.std.proofs.lemmas.List.Concat.{flat_map-append}
 
 files_added : (n : ℕ) (files : List File) (t : Tables) → with_files (pos n) files t ≡ record t { files = t.files ++ map (file_row n) files }
@@ -78,5 +78,5 @@ module _ (h : History) (day : Date) (d : Deposit) where
     pub deposited_told : with_files (pos next) d.bag (with_deposit_and_due new_row (due_number (due h d)) (pos (length (live_holds h next d))) (picture this_version h)) ≡ picture this_version longer
     deposited_told =
         files_added next d.bag (with_deposit_and_due new_row (due_number (due h d)) (pos (length (live_holds h next d))) (picture this_version h))
-        ∙ pictured_by h more refl (sym (same_classes h more refl (λ name. refl))) (sym (same_collections h more refl))
+        ∙ pictured_by h more refl (sym (same_classes h more refl (λ name. refl))) (sym (same_collection_rows h more refl))
         deposits_told dues_deposited files_told (sym (same_hold_rows h more refl (λ k. refl)))

@@ -5,4 +5,4 @@ pub use Rattle.office_refines.proofs.DepositsTold.{accession_told, both, deposit
 pub use Rattle.office_refines.proofs.FirstPlaces.{first_places_last}
 pub use Rattle.office_refines.proofs.HoldsTold.{hold_rows_are, live_same, live_told, not_yet, placed_told, released_then, released_told}
 pub use Rattle.office_refines.proofs.NumberedRows.{alike, another, below, bytes_eq-sym, eqb-sym, found_at, is_less, is_nil, item_front, itself, last_is, mark, none_next, numbers_passing, PassAlike, range_last, rows_append, rows_changed, rows_from, same_count, same_number}
-pub use Rattle.office_refines.proofs.Unchanged.{pictured_by, same_classes, same_collections, same_deposit_rows, same_due, same_due_row, same_due_rows, same_file_rows, same_gone, same_hold_rows, same_live, same_released, years_grown}
+pub use Rattle.office_refines.proofs.Unchanged.{pictured_by, same_classes, same_collection_rows, same_deposit_rows, same_due, same_due_row, same_due_rows, same_file_rows, same_gone, same_hold_rows, same_live, same_released, years_grown}

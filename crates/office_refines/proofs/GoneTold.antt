@@ -1,5 +1,5 @@
 -- The rows of an office after a deposit was destroyed.
-use Rattle.office_refines.proofs.FirstLemmas.{◌≡◌, ℕ, ◌+◌, ◌==◌, pos, Bool, true, false, not, List, [], ◌∷◌, ◌++◌, length, map, filter, Some, None, is_none, refl, sym, ap, ◌∙◌, cond, if◌then◌else◌, flat_map, option_or, option_map_or, int_eq, Date, epoch_day, File, DepositRow, FileRow, is_deposit, is_file_of, with_gone, without_files, this_version, item_numbered, numbers, History, Change, Destroyed, Deposit, with_changes, deposits, destruction_day, files_of, row_by_gone, deposit_row, deposit_rows, file_row, file_rows, picture, gone_grown, or_none, rows_from, rows_changed, itself, another, mark, deposit_rows_are, same_due_rows, same_classes, same_collections, same_deposits, same_hold_rows, pictured_by}
+use Rattle.office_refines.proofs.FirstLemmas.{◌≡◌, ℕ, ◌+◌, ◌==◌, pos, Bool, true, false, not, List, [], ◌∷◌, ◌++◌, length, map, filter, Some, None, is_none, refl, sym, ap, ◌∙◌, cond, if◌then◌else◌, flat_map, option_or, option_map_or, int_eq, Date, epoch_day, File, DepositRow, FileRow, is_deposit, is_file_of, with_gone, without_files, this_version, item_numbered, numbers, History, Change, Destroyed, Deposit, with_changes, deposits, destruction_day, files_of, row_by_gone, deposit_row, deposit_rows, file_row, file_rows, picture, gone_grown, or_none, rows_from, rows_changed, itself, another, mark, deposit_rows_are, same_due_rows, same_classes, same_collection_rows, same_deposits, same_hold_rows, pictured_by}
 use Rattle.office_refines.proofs.FilesTold.{file_rows_at, filter_gathered}
 
 module _ (h : History) (day : Date) (n : ℕ) (kept_before : destruction_day h n ≡ None) where
@@ -75,5 +75,5 @@ module _ (h : History) (day : Date) (n : ℕ) (kept_before : destruction_day h n
 
   pub gone_told : without_files (pos n) (with_gone (pos n) (epoch_day day) (picture this_version h)) ≡ picture this_version longer
   gone_told =
-      pictured_by h more refl (sym (same_classes h more refl (λ name. refl))) (sym (same_collections h more refl))
+      pictured_by h more refl (sym (same_classes h more refl (λ name. refl))) (sym (same_collection_rows h more refl))
       deposits_told (sym (same_due_rows h more refl (λ name. refl) refl (λ k. refl))) files_told (sym (same_hold_rows h more refl (λ k. refl)))

@@ -4,7 +4,7 @@ use Rattle.std.proofs.Math.Bool.{or-false}
 use Rattle.office_rows.specs.Rows as rows
 use Rattle.office_history.specs.Histories as histories
 use Rattle.office_refines.proofs.NumberedRows.{rows_from, rows_are, same_number, rows_append, below, none_next, rows_changed, mark, numbers_passing}
-use Rattle.office_refines.proofs.Unchanged.{same_classes, same_collections, same_deposit_rows, same_file_rows, same_released, pictured_by}
+use Rattle.office_refines.proofs.Unchanged.{same_classes, same_collection_rows, same_deposit_rows, same_file_rows, same_released, pictured_by}
 
 pub hold_rows_are : (h : History) → hold_rows h ≡ rows_from (hold_row h) 1 (holds h)
 hold_rows_are h = rows_are (hold_row h) (holds h)
@@ -62,7 +62,7 @@ module _ (h : History) (day : Date) (hold : Hold) (not_released : release_day h 
   -- where the counts over the deposits that the hold covers are told anew
   pub placed_told : (dues : List DueRow) → dues ≡ due_rows longer → record (with_hold new_row (picture this_version h)) { dues = dues } ≡ picture this_version longer
   placed_told dues is =
-      pictured_by h more refl (sym (same_classes h more refl (λ name. refl))) (sym (same_collections h more refl))
+      pictured_by h more refl (sym (same_classes h more refl (λ name. refl))) (sym (same_collection_rows h more refl))
       (sym (same_deposit_rows h more refl (λ n. refl))) is (sym (same_file_rows h more refl (λ n. refl))) holds_told
 
 -- the next hold is none that was released
@@ -94,5 +94,5 @@ module _ (h : History) (day : Date) (k : ℕ) (live : release_day h k ≡ None) 
   -- where the counts over the deposits that the hold covers are told anew
   pub released_told : (dues : List DueRow) → dues ≡ due_rows later → record (with_released (pos k) (epoch_day day) (picture this_version h)) { dues = dues } ≡ picture this_version later
   released_told dues is =
-      pictured_by h end refl (sym (same_classes h end refl (λ name. refl))) (sym (same_collections h end refl))
+      pictured_by h end refl (sym (same_classes h end refl (λ name. refl))) (sym (same_collection_rows h end refl))
       (sym (same_deposit_rows h end refl (λ n. refl))) is (sym (same_file_rows h end refl (λ n. refl))) ended_told

@@ -1,5 +1,5 @@
 -- The rows of callers, and those of a policy that is installed.
-use Rattle.office_refines.proofs.FirstLemmas.{◌≡◌, ℕ, ◌+◌, List, [], ◌∷◌, map, option_map, refl, ap, ◌∙◌, arith, ◌<◌, pos, Less, sym, bytes_eq, find, int_cmp, AllByRecursion, PolicyValue, or_stranger, Rule, CallerRow, RuleRow, caller_named, DisposableRowsRise, with_policy, this_version, sorted_already, caller_row, rule_rows, office_row, picture, History, Change, Installed, with_changes, policy, policy_grown, is_less, same_classes, same_collections, same_deposit_rows, same_due_rows, same_file_rows, same_hold_rows, by_Bool}
+use Rattle.office_refines.proofs.FirstLemmas.{◌≡◌, ℕ, ◌+◌, List, [], ◌∷◌, map, option_map, refl, ap, ◌∙◌, arith, ◌<◌, pos, Less, sym, bytes_eq, find, int_cmp, AllByRecursion, PolicyValue, or_stranger, Rule, CallerRow, RuleRow, caller_named, DisposableRowsRise, with_policy, this_version, sorted_already, caller_row, rule_rows, office_row, picture, History, Change, Installed, with_changes, policy, policy_grown, is_less, same_classes, same_collection_rows, same_deposit_rows, same_due_rows, same_file_rows, same_hold_rows, by_Bool}
 use Rattle.office_core.specs.declared.caller.Caller.{Caller}
 
 -- ---- the role
@@ -33,7 +33,7 @@ module _ (h : History) (new : PolicyValue) where
     callers = map caller_row (sym is_policy i).callers;
     rules = (sorted_already (λ (r : RuleRow). r.place) (rule_rows 1 new.rules) (places_rise 1 new.rules) ∙ ap (λ (p : PolicyValue). rule_rows 1 p.rules) (sym is_policy)) i;
     classes = sym (same_classes h install refl (λ n. refl)) i;
-    collections = sym (same_collections h install refl) i;
+    collections = sym (same_collection_rows h install refl) i;
     deposits = sym (same_deposit_rows h install refl (λ n. refl)) i;
     dues = sym (same_due_rows h install refl (λ n. refl) refl (λ k. refl)) i;
     files = sym (same_file_rows h install refl (λ n. refl)) i;

@@ -1,5 +1,5 @@
 -- Which rows a longer history leaves as they were.
-use Rattle.office_refines.proofs.Common.{◌≡◌, ℕ, List, [], ◌∷◌, ◌++◌, map, filter, length, Option, None, option_map, unwrap_or, is_none, sym, ap, ◌∙◌, append-nil, pos, ◌&&◌, false, filter_map, flat_map, option_or, option_map_or, filter_map-append, Date, due_of, Never, ClassRow, DepositRow, DueRow, FileRow, HoldRow, this_version, first_said, last_said, item_numbered, numbers, in_first_places, History, Change, Deposit, with_changes, installed_in, policy, years_in, years_of, collection_in, destroyed_in, destruction_day, due, released_in, release_day, reaches, live_holds, class_in, class_row, class_rows, caller_row, rule_rows, office_row, collection_rows, row_by_gone, deposit_rows, due_row, due_rows, file_row, file_rows, row_by_release, hold_rows, picture, or_none, last_said-append, policy_grown, gone_grown, released_grown, due_number, LeavesDeposits, LeavesHolds, same_deposits, same_holds}
+use Rattle.office_refines.proofs.Common.{◌≡◌, ℕ, List, [], ◌∷◌, ◌++◌, map, filter, length, Option, None, option_map, unwrap_or, is_none, sym, ap, ◌∙◌, append-nil, pos, ◌&&◌, false, filter_map, flat_map, option_or, option_map_or, filter_map-append, Date, due_of, Never, ClassRow, DepositRow, DueRow, FileRow, HoldRow, this_version, first_said, last_said, item_numbered, numbers, in_first_places, History, Change, Deposit, with_changes, installed_in, policy, years_in, years_of, destroyed_in, destruction_day, due, released_in, release_day, reaches, live_holds, class_in, class_row, class_rows, caller_row, rule_rows, office_row, collection_rows, row_by_gone, deposit_rows, due_row, due_rows, file_row, file_rows, row_by_release, hold_rows, picture, or_none, last_said-append, policy_grown, gone_grown, released_grown, due_number, LeavesCollections, LeavesDeposits, LeavesHolds, same_collections, same_deposits, same_holds}
 
 module _ (h : History) (more : List Change) where
   -- what says of a history: none of `more`
@@ -24,8 +24,8 @@ module _ (h : History) (more : List Change) where
   same_classes none silent = λ i. filter_map (λ name. option_map (class_row name) (same_years silent name i)) (in_first_places (same_said class_in none i))
 
   -- it defines no collection
-  pub same_collections : filter_map collection_in more ≡ [] → collection_rows (with_changes h more) ≡ collection_rows h
-  same_collections none = ap in_first_places (same_said collection_in none)
+  pub same_collection_rows : LeavesCollections more → collection_rows (with_changes h more) ≡ collection_rows h
+  same_collection_rows none = ap in_first_places (same_collections h more none)
 
   -- it destroys no deposit
   pub same_gone : ((n : ℕ) → first_said (destroyed_in n) more ≡ None) → (n : ℕ) → destruction_day (with_changes h more) n ≡ destruction_day h n

@@ -21,17 +21,11 @@ within_so h more within deposits_in holds_in = record { deposits_in = deposits_i
 -- a change for which there is room keeps the limits
 pub within_grown : (h : History) (change : Change) → HasRoom h change → IsWithin h → IsWithin (with_changes h (change ∷ []))
 within_grown h (Deposited day deposit) room within =
-    let d = one_deposit h day deposit [] refl in
-    let k = same_holds h (Deposited day deposit ∷ []) refl in
-    within_so h (Deposited day deposit ∷ []) within (omega (arith, room, ap length d, length-append (deposits h) ((day, deposit) ∷ []))) (omega (arith, within.holds_in, ap length k))
+    within_so h _ within (omega (arith, room, ap length (one_deposit h day deposit [] refl), length-append (deposits h) ((day, deposit) ∷ []))) (omega (arith, within.holds_in, ap length (same_holds h (Deposited day deposit ∷ []) refl)))
 within_grown h (PlacedHold day hold) room within =
-    let d = same_deposits h (PlacedHold day hold ∷ []) refl in
-    let k = one_hold h day hold [] refl in
-    within_so h (PlacedHold day hold ∷ []) within (omega (arith, within.deposits_in, ap length d)) (omega (arith, room, ap length k, length-append (holds h) ((day, hold) ∷ [])))
+    within_so h _ within (omega (arith, within.deposits_in, ap length (same_deposits h (PlacedHold day hold ∷ []) refl))) (omega (arith, room, ap length (one_hold h day hold [] refl), length-append (holds h) ((day, hold) ∷ [])))
 within_grown h change room within =
-    let d = same_deposits h (change ∷ []) refl in
-    let k = same_holds h (change ∷ []) refl in
-    within_so h (change ∷ []) within (omega (arith, within.deposits_in, ap length d)) (omega (arith, within.holds_in, ap length k))
+    within_so h _ within (omega (arith, within.deposits_in, ap length (same_deposits h (change ∷ []) refl))) (omega (arith, within.holds_in, ap length (same_holds h (change ∷ []) refl)))
 
 -- the number of the first deposit that has this accession, where so many stand before
 abbrev pub accession_behind : ℕ → List ℕ → List (Date × Deposit) → Option ℕ
