@@ -37,9 +37,13 @@ AreOthers written = list_any (λ tree. tree == written) emptied_trees ≡ false
 same_rows : (edit : Edit) (db : Database) (tree : ℕ) → (tree == edit.table.tree) ≡ false → db.trees tree ≡ [] → (with_edit edit db).trees tree ≡ []
 same_rows edit db tree other empty = rw other empty
 
--- they stay so where each table has the rows that it has there
+-- what is so of each table is so of those
+pub of_emptied : (P : ℕ → Type 0) → AllByRecursion (λ (t : Table). P t.tree) all_tables → AllByRecursion P emptied_trees
+of_emptied P each = (of_old_holds each, (of_old_rules each, tt))
+
+-- where each table has the rows that it has there, they are as empty
 pub still_empty : (a b : Database) → AllByRecursion (λ t. a.trees t.tree ≡ b.trees t.tree) all_tables → StayEmpty b.trees → StayEmpty a.trees
-still_empty a b is empty = (of_old_holds is ∙ empty.0, (of_old_rules is ∙ empty.1.0, tt))
+still_empty a b is empty = all_both (λ tree (same : a.trees tree ≡ b.trees tree) (none : b.trees tree ≡ []). same ∙ none) emptied_trees (of_emptied (λ tree. a.trees tree ≡ b.trees tree) is) empty
 
 pub becomes_shaped : (old new : State) (edit : Edit) (count : ℕ) (written : List Row) → AreShaped office_schema old.now.trees → StayEmpty old.now.trees → AreOthers edit.table.tree
     → Changes office_schema old new edit count written → (tables : Tables) → tables_of (with_edit edit old.now) ≡ tables → Becomes new.now tables

@@ -13,4 +13,4 @@ pub enum TableVersion {
 }
 
 /// The number of the newest of them, which each office has once it was opened.
-pub const NEWEST_VERSION: u32 = 5;
+pub const NEWEST_VERSION: i64 = 5;

@@ -5,12 +5,12 @@ pub use Rattle.office_contents.specs.Calls.{GoesOnInside, GoesOnInTurn, Writes}
 pub use Rattle.office_contents.specs.Contents.{AreContents, AreStoredOnce, content_at, content_referred, DiffersInBytes, HasSameContents, is_intact, IsMarked, StoresOnce, LeavesContents, references_of, without_bytes}
 pub use Rattle.office_tables.specs.Deposits.{added_row, IsAdded, shown_deposit}
 pub use Rattle.office_contents.specs.Faults.{IsFailure}
-pub use Rattle.office_tables.specs.Moving.{all_in_version, AllRows, BecomesAt, in_version, moved_hold, moved_rule, rows_at}
+pub use Rattle.office_tables.specs.Moving.{all_in_version, AllRows, BecomesAt, in_version, moved_hold, moved_rule, renewed, rows_at}
 pub use Rattle.office_tables.specs.Opening.{has_office, is_limit_told, is_one, IsKnownAsOther, IsLeft, IsMade, IsMadeLeft, HasSameTables, known_row, look_text, Looks, shows_office, ShowsVersion}
 pub use Rattle.office_contents.specs.Schema.{caller_table, caller_tree, class_table, class_tree, collection_table, collection_tree, content_table, deposit_place, deposit_table, deposit_tree, file_table, file_tree, hold_4_table, hold_table, hold_tree, no_schema, office_schema, office_table, office_tree, old_hold_tree, old_rule_tree, plain_index, rule_5_table, rule_table, rule_tree, stage}
 pub use Rattle.office_tables.specs.ShownPolicy.{shown_rule}
 pub use Rattle.office_contents.specs.Tables.{Becomes, caller_in, class_in, collection_in, content_in, contents_of, deposit_in, due_in, file_in, hold_in, IsOffice, office_in, rule_in, shown_limits, tables_of}
-pub use Rattle.office_contents.specs.Versions.{emptied_at, first_day, IsOfficeAt, last_day, Newest, old_hold_in, old_rule_in, schema_at, tables_at}
+pub use Rattle.office_contents.specs.Versions.{emptied_at, first_day, IsOfficeAt, last_day, Newest, old_hold_in, old_rule_in, schema_at, tables_at, version_number}
 pub use Rattle.office_contents.specs.declared.fault.TableFault.{TableFault}
 pub use Rattle.office_contents.specs.declared.version.TableVersion.{TableVersion}
 pub use Rattle.office_contents.specs.declared.version.TableVersion.TheVariants.{Fifth, Fourth, Third}

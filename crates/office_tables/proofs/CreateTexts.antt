@@ -185,10 +185,10 @@ builds_office = builds_then no_schema (stage 10 13) office_schema (first_texts +
 -- ---- the row of the office
 
 abbrev pub start_text : List ℕ
-start_text = codes "INSERT INTO office (id, version, max_deposits, max_holds) VALUES (1, 5, ?1, ?2)"
+start_text = codes "INSERT INTO office (id, version, max_deposits, max_holds) VALUES (1, ?1, ?2, ?3)"
 
 abbrev pub start_terms : List Term
-start_terms = lit (Int (pos 1)) ∷ lit Null ∷ lit (Int (pos 5)) ∷ col 0 0 ∷ col 0 1 ∷ []
+start_terms = lit (Int (pos 1)) ∷ lit Null ∷ col 0 0 ∷ col 0 1 ∷ col 0 2 ∷ []
 
 pub start_means : Means office_schema start_text (Insert 0 (Values start_terms 5))
 unfolding understood everything

@@ -26,7 +26,6 @@ pub mod DueTexts
 pub mod DueLemmas
 pub mod MatchTexts
 pub mod MatchLemmas
-pub mod MovingTexts
 pub mod TakenOver
 pub mod MovedHolds
 pub mod MovedRules

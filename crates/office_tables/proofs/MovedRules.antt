@@ -1,9 +1,29 @@
 -- The rules, taken over into the table whose rules have days.
-use Rattle.office_tables.proofs.FirstLemmas.{◌≡◌, ℕ, [], ◌∷◌, map, drop, Ok, IsTrue, refl, ap, ◌∙◌, inr, AllByRecursion, Int, Text, Row, column, cast, cast_row, Schema, rowid, Database, State, Executes, Binary, Datatype, NotNull, is_int, all_has, int_is, int_at, bytes_at, IsWhole, Sets, Grows, typed_at, all_both, cast_null, cast_int, obeys_rule, shown_of, rule_table, rule_5_table, old_rule_tree, old_hold_tree, rule_tree, rule_in, AllRows, moved_rule, BecomesAt, rows_at, first_day, last_day, schema_at, old_rule_in, Fourth, Fifth, of_office, of_callers, of_old_rules, of_classes, of_collections, of_deposits, of_files, of_old_holds, of_contents, of_holds, copy_rules_text, copied_rule, empty_rules_text, eight, moving_meanings, takes_over, empties, starts_empty, rows_taken, others_kept, idle, keeps_int, keeps_text}
+use Rattle.office_tables.proofs.FirstLemmas.{◌≡◌, ℕ, [], ◌∷◌, map, drop, Ok, IsTrue, refl, ap, ◌∙◌, inr, AllByRecursion, Int, Text, Row, column, cast, cast_row, Schema, rowid, Database, State, Executes, Binary, Datatype, NotNull, is_int, all_has, int_is, int_at, bytes_at, IsWhole, Sets, Grows, typed_at, all_both, cast_null, cast_int, obeys_rule, shown_of, rule_table, rule_5_table, old_rule_tree, old_hold_tree, rule_tree, rule_in, AllRows, moved_rule, BecomesAt, rows_at, first_day, last_day, schema_at, old_rule_in, Fourth, Fifth, of_office, of_callers, of_old_rules, of_classes, of_collections, of_files, of_old_holds, of_contents, of_holds, eight, takes_over, empties, starts_empty, rows_taken, others_kept, keeps_int, keeps_text, List, codes, understood, everything, Term, lit, col, Null, Insert, Delete, scan, as_program, noting, rising, Means, idle_at, of_first_deposits}
 use Rattle.sqlite.specs.Kind.TheVariants as kind
+use Rattle.sqlite.specs.Source.TheVariants.{Query}
 
 abbrev fifth : Schema
 fifth = schema_at Fifth
+
+-- ---- the two statements
+
+abbrev pub copy_rules_text : List ℕ
+copy_rules_text = codes "INSERT INTO rule_5 (place, effect, role, action, collection, class, first, last) SELECT place, effect, role, action, collection, class, -25567, 2859848 FROM rule ORDER BY place"
+
+abbrev copied_rule : List Term
+copied_rule = col 1 0 ∷ lit Null ∷ col 1 2 ∷ col 1 3 ∷ col 1 4 ∷ col 1 5 ∷ col 1 6 ∷ lit (Int first_day) ∷ lit (Int last_day) ∷ []
+
+copy_rules_means : Means fifth copy_rules_text (Insert 10 (Query (as_program (noting (Binary ∷ eight) (scan old_rule_tree [] copied_rule rising)))))
+unfolding understood everything
+copy_rules_means = record { is = refl; plain = (refl, refl) }
+
+abbrev pub empty_rules_text : List ℕ
+empty_rules_text = codes "DELETE FROM rule"
+
+empty_rules_means : Means fifth empty_rules_text (Delete 2 (as_program (scan old_rule_tree [] (col 1 0 ∷ []) [])))
+unfolding understood everything
+empty_rules_means = record { is = refl; plain = (refl, refl) }
 
 abbrev IsStored : Row → Type 0
 IsStored r = (column r 2 ≡ Int (int_at r 2)) × (column r 3 ≡ Text (bytes_at r 3)) × (column r 4 ≡ Text (bytes_at r 4)) × (column r 5 ≡ Text (bytes_at r 5)) × (column r 6 ≡ Text (bytes_at r 6))
@@ -20,11 +40,13 @@ moves_row r it whole =
 
 pub copies_rules : (old new : State) (count : ℕ) → IsWhole fifth old.now → old.now.trees rule_tree ≡ [] → Executes copy_rules_text [] old new (Ok count)
     → Sets fifth rule_tree (map moved_rule (old.now.trees old_rule_tree)) old.now new.now
-copies_rules = takes_over fifth idle rule_table 2 refl (λ db whole. of_old_rules whole.shaped) rule_5_table 10 refl refl refl copied_rule (Binary ∷ eight) moved_rule copy_rules_text moving_meanings.copy_rules_means
+copies_rules = takes_over fifth (idle_at Fifth) rule_table 2 refl (λ db whole. of_old_rules whole.shaped) rule_5_table 10 refl refl refl copied_rule (Binary ∷ eight) moved_rule copy_rules_text copy_rules_means
     (λ db whole r there. moves_row r (all_has IsStored (db.trees old_rule_tree) r (stored_rows db whole) there)) (λ r. refl)
 
 pub empties_rules : (old new : State) (count : ℕ) → IsWhole fifth old.now → Executes empty_rules_text [] old new (Ok count) → Sets fifth old_rule_tree [] old.now new.now
-empties_rules = empties fifth idle rule_table 2 refl (λ db whole. of_old_rules whole.shaped) empty_rules_text moving_meanings.empty_rules_means
+empties_rules = empties fifth (idle_at Fifth) rule_table 2 refl (λ db whole. of_old_rules whole.shaped) empty_rules_text empty_rules_means
+
+-- ---- all of it
 
 -- the rules are copied into the table that was made, and their old table is emptied; each other table has its place here
 module _ (d0 d1 : Database) (grown : Grows (schema_at Fourth) fifth d0 d1) where
@@ -36,6 +58,6 @@ module _ (d0 d1 : Database) (grown : Grows (schema_at Fourth) fifth d0 d1) where
       let typed : map rule_in (d3.trees rule_tree) ≡ map old_rule_in (d0.trees old_rule_tree) =
       rows_taken (schema_at Fourth) fifth rule_table rule_5_table refl refl d0 d1 grown (ap (drop 10) grown.tables) moved_rule d2 d3 copied emptied rule_in (of_old_rules grown.kept) in
       let o = others_kept (schema_at Fourth) fifth rule_table rule_5_table refl refl d0 d1 grown (ap (drop 10) grown.tables) moved_rule d2 d3 copied emptied in
-      let same : rows_at Fifth d3 ≡ rows_at Fourth d0 = rw (typed, of_office o, of_callers o, of_classes o, of_collections o, of_deposits o, of_files o, of_contents o, of_holds o) refl in
+      let same : rows_at Fifth d3 ≡ rows_at Fourth d0 = rw (typed, of_office o, of_callers o, of_classes o, of_collections o, of_first_deposits o, of_files o, of_contents o, of_holds o) refl in
       let still : d3.trees old_hold_tree ≡ [] = of_old_holds o ∙ was.office.emptied.0 in
       record { office = record { whole = emptied.whole; emptied = (still, (of_old_rules o, tt)) }; are = same ∙ was.are }

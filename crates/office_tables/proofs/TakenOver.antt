@@ -1,10 +1,14 @@
 -- The rows of an older table are taken over into a newer one, and the older one is emptied: of any two tables.
-use Rattle.office_tables.proofs.Common.{◌≡◌, ◌==◌, ℕ, List, [], ◌∷◌, ◌++◌, map, true, false, Some, Ok, IsTrue, slice_get, refl, sym, ap, subst, ◌∙◌, if◌then◌else◌, AllByRecursion, Row, cast_row, Collation, Insert, Delete, edit_of, Chosen, Given, Schema, Table, Term, col, rowid, Database, State, Executes, is_int, IsShaped, ids_of, Has, all_has, all_from, map-map, IsWhole, Sets, with_rows, Grows, Means, IsIdle, all_both, sets, none_pass, drops, rising, scan, as_program, noting, shown_of}
+use Rattle.office_tables.proofs.Common.{◌≡◌, ◌==◌, ℕ, List, [], ◌∷◌, ◌++◌, map, true, false, Some, Ok, IsTrue, slice_get, refl, sym, ap, subst, ◌∙◌, if◌then◌else◌, AllByRecursion, Row, cast_row, Binary, Collation, Insert, Delete, edit_of, Chosen, Given, Schema, Table, Term, col, rowid, Database, State, Executes, is_int, IsShaped, ids_of, Has, all_has, all_from, map-map, IsWhole, Sets, with_rows, Grows, Means, IsIdle, all_both, sets, none_pass, drops, rising, scan, as_program, noting, shown_of}
 use Rattle.sqlite.specs.Source.TheVariants.{Query}
 use Rattle.sqlite_trees.specs.declared.store.Shape.TheVariants as shape
 use Rattle.sql_meaning.proofs.Copying.{copies}
 
 -- ---- the two statements
+
+-- the collations of eight columns
+abbrev pub eight : List Collation
+eight = Binary ∷ Binary ∷ Binary ∷ Binary ∷ Binary ∷ Binary ∷ Binary ∷ Binary ∷ []
 
 module _ (schema : Schema) (acts : IsIdle schema) (older : Table) (place : ℕ) (is_older : slice_get schema.tables place ≡ Some older) (shaped : (db : Database) → IsWhole schema db → IsShaped shape.Table (db.trees older.tree)) where
   -- the newer table has each of its rows, as it was moved

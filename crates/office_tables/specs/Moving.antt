@@ -1,6 +1,6 @@
 -- What a call makes of an office whose tables are of an older version. `old` is the connection before it and `new` the
 -- connection after it.
-use Rattle.std.specs.Prelude.{◌≡◌, ℕ, ℤ, pos, List, [], ◌∷◌, map, Ok, if◌then◌else◌}
+use Rattle.std.specs.Prelude.{◌≡◌, ℕ, ℤ, List, [], ◌∷◌, map, Ok, if◌then◌else◌}
 use Rattle.sqlite.specs.declared.types.Value.TheVariants.{Null, Int}
 use Rattle.sqlite.specs.Order.{Row, column}
 use Rattle.sqlite.specs.Tree.{rowid}
@@ -12,7 +12,7 @@ use Rattle.sqlite.specs.Held.{Held, state}
 use Rattle.sql_meaning.specs.Making.{Builds}
 use Rattle.sql_meaning.specs.Growing.{Grows}
 use Rattle.sql_meaning.specs.Whole.{IsWhole}
-use Rattle.office_rows.specs.Rows.{OfficeRow, ContentRow, Tables, is_office_row}
+use Rattle.office_rows.specs.Rows.{OfficeRow, ContentRow, Tables, is_office_row, this_version}
 use Rattle.office_contents.specs.Stored.{contents_of}
 use Rattle.office_contents.specs.Contents.{references_of}
 use Rattle.office_contents.specs.Versions.{IsOfficeAt, tables_at, first_day, last_day}
@@ -66,6 +66,6 @@ TakesOver {S} g texts old new = (made : Held S) × (copied : Held S) × (count :
 
 -- the rows after an upgrade
 abbrev pub renewed : TableVersion → AllRows → AllRows
-renewed Third rows = all_in_version (pos 5) rows
-renewed Fourth rows = all_in_version (pos 5) rows
+renewed Third rows = all_in_version this_version rows
+renewed Fourth rows = all_in_version this_version rows
 renewed Fifth rows = rows

@@ -17,7 +17,7 @@ ghost use Rattle.office_tables.specs.Opening.{HasSameTables, IsMade, IsMadeLeft}
 ghost use Rattle.office_contents.specs.Contents.{StoresOnce};
 
 use crate::opening::OfficeLimits;
-use office_contents::{Result, TableFault, change};
+use office_contents::{NEWEST_VERSION, Result, TableFault, change};
 use sqlite::{Alter, Connection, Transaction, params};
 use sqlite_schema::schema::Schema;
 
@@ -89,8 +89,8 @@ fn start<S: Alter>(tx: &mut Transaction<'_, S>, limits: OfficeLimits) -> Result<
 {
     change(
         tx,
-        "INSERT INTO office (id, version, max_deposits, max_holds) VALUES (1, 5, ?1, ?2)",
-        params![limits.max_deposits, limits.max_holds],
+        "INSERT INTO office (id, version, max_deposits, max_holds) VALUES (1, ?1, ?2, ?3)",
+        params![NEWEST_VERSION, limits.max_deposits, limits.max_holds],
     )
 }
 

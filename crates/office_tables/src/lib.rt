@@ -26,7 +26,7 @@ pub use dues::{
 pub use holds::{
     HoldRow, HoldTarget, end_hold, has_release_outside, hold_row, last_hold, live_holds, put_hold,
 };
-pub use moving::{move_holds, renew_fourth};
+pub use moving::{move_holds, renew};
 pub use office_contents::{
     ContentSize, FileRow, Result, TableFault, TableVersion, contents, drop_files, file_of,
     files_of, intact_file_of, intact_files_of, put_file, put_marked,

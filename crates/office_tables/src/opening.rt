@@ -13,7 +13,7 @@ ghost use Rattle.office_contents.specs.Versions.{IsOfficeAt, tables_at};
 ghost use Rattle.office_contents.specs.declared.version.TableVersion.{TableVersion};
 ghost use Rattle.office_tables.specs.Opening.{shows_office, known_row, ShowsVersion, has_office, HasVersion, HasOtherVersion, IsKnownAsOther, NotAnOffice, HasSameTables};
 
-use office_contents::{Result, TableFault, ask};
+use office_contents::{NEWEST_VERSION, Result, TableFault, ask};
 use office_rows::is_limit;
 use sqlite::types::ValueRef;
 use sqlite::{Alter, Connection, Row, Transaction, params};
@@ -89,8 +89,8 @@ pub fn has_office(schema: &Schema) -> bool
         && table.column_named(b"max_holds").is_some()
 }
 
-/// Finds by the table `office` whether the database is an office whose tables are of version 5. No answer changes a row, as long as
-/// the connection is open.
+/// Finds by the table `office` whether the database is an office whose tables are of the newest version. No answer changes a row, as
+/// long as the connection is open.
 ///
 /// Fails with `NotAnOffice` where there is no table `office` with its columns, or no row 1 in it of whole numbers with limits from
 /// 1 to 1,000,000; with `OtherVersion` where that row has another version (of several, the first by version counts); with `Memory` or
@@ -135,7 +135,7 @@ pub fn open_tables<S: Alter>(conn: &mut Connection<S>) -> Result<()>
     let seen = version_told(&mut tx);
     tx.rollback();
     match seen {
-        Ok(Some(5)) => Ok(()),
+        Ok(Some(version)) if version == NEWEST_VERSION => Ok(()),
         Ok(Some(_)) => Err(TableFault::OtherVersion),
         Ok(None) => Err(TableFault::NotAnOffice),
         Err(failure) => Err(failure),

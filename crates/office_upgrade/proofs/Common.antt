@@ -6,7 +6,7 @@ pub use Rattle.office_tables.specs.Moving.{AllRows, BecomesAt, renewed}
 pub use Rattle.office_tables.specs.Opening.{HasVersion, HasSameTables, NotAnOffice, ShowsVersion}
 pub use Rattle.office_contents.specs.Versions.{IsOfficeAt, Newest, tables_at, version_number}
 pub use Rattle.office_contents.specs.declared.version.TableVersion.{TableVersion}
-pub use Rattle.office_contents.specs.declared.version.TableVersion.TheVariants.{Fifth, Fourth, Third}
+pub use Rattle.office_contents.specs.declared.version.TableVersion.TheVariants.{Third}
 pub use Rattle.office_upgrade.specs.Upgrading.{GoesBack, HasUnknownVersion, IsLeftAt, IsOfficeOf, IsOlder, IsRenewed, IsUpgrade, HasSameOffice, LeavesOffice, NewestSurvives, OpensOlder, TakesUp, TellsKnown, TellsUnknown, TellsVersion, UpgradeLasts, Upgrades}
 pub use Rattle.sqlite.proofs.StateLemmas.{survives_then, survives_weaker}
 pub use Rattle.sqlite.specs.Effect.{Database, IsDatabase}

@@ -1,5 +1,5 @@
 -- What an upgrade leaves, and what a crash may leave of it.
-use Rattle.office_upgrade.proofs.Common.{◌≡◌, ℤ, pos, Bool, true, false, Option, None, Some, Ok, Err, Result, IsTrue, refl, sym, ap, subst, ◌∙◌, inl, inr, arith, Database, Trees, Held, state, HasCleanDisk, Survives, survives_then, OnOk, HasVersion, ShowsVersion, version_of, AllRows, BecomesAt, renewed, version_number, IsOfficeOf, IsOlder, IsRenewed, IsUpgrade, IsLeftAt, HasUnknownVersion, TellsVersion, TableVersion, Newest, clean_first, tells_version}
+use Rattle.office_upgrade.proofs.Common.{◌≡◌, ℤ, Bool, true, false, Option, None, Some, Ok, Err, Result, IsTrue, refl, sym, ap, subst, ◌∙◌, inl, inr, arith, Database, Trees, Held, state, HasCleanDisk, Survives, survives_then, OnOk, HasVersion, ShowsVersion, version_of, AllRows, BecomesAt, renewed, version_number, IsOfficeOf, IsOlder, IsRenewed, IsUpgrade, IsLeftAt, HasUnknownVersion, TellsVersion, TableVersion, Newest, clean_first, tells_version}
 use Rattle.sqlite.specs.Store.{Ghosts}
 use Rattle.sqlite.proofs.Callers.{survives_begin}
 use Rattle.sql_meaning.specs.Inside.{Stays}
@@ -7,13 +7,6 @@ use Rattle.sql_meaning.proofs.Inside.{survives_commit}
 use Rattle.office_contents.specs.Faults.{IsFailure}
 use Rattle.office_contents.specs.declared.fault.TableFault.{TableFault}
 use Rattle.office_contents.specs.declared.fault.TableFault.TheVariants.{NotAnOffice, OtherVersion, Memory, Store}
-
--- a version is one number alone
-pub not_fourth : (version : ℤ) → version ≡ pos 3 → version ≡ pos 4 → ⊥
-not_fourth version three four = let it : pos 3 ≡ pos 4 = sym three ∙ four in cc
-
-pub not_fifth : (version : ℤ) → version ≡ pos 3 → version ≡ pos 5 → ⊥
-not_fifth version three five = let it : pos 3 ≡ pos 5 = sym three ∙ five in cc
 
 -- the version that was seen is that of the office
 pub same_version : (version : TableVersion) (rows : AllRows) (db : Database) (seen : ℤ) → IsOfficeOf version db rows → ShowsVersion db (Some seen) → seen ≡ version_number version

@@ -15,40 +15,8 @@ ghost use Rattle.office_contents.specs.Versions.{Newest, version_number};
 ghost use Rattle.office_upgrade.specs.Upgrading.{IsOfficeOf, IsOlder, IsUpgrade, IsRenewed, IsLeftAt, HasUnknownVersion, TellsVersion};
 ghost use Rattle.office_contents.specs.declared.version.TableVersion.{TableVersion as Version};
 
-use office_tables::{TableFault, has_office, move_holds, renew_fourth, version_told};
+use office_tables::{TableFault, has_office, renew, version_told};
 use sqlite::{Alter, Connection, Transaction};
-
-/// Makes the tables of the newest version of those of this one, and says whether there was anything to do.
-fn renew<S: Alter>(tx: &mut Transaction<'_, S>, version: i64) -> Result<bool, TableFault>
-    ensures same_reference { tx.new.conn.ghost_name ≡ tx.old.conn.ghost_name }
-    ensures stays { CommitsNothing S.Store tx.old.conn.now tx.new.conn.now }
-    ensures goes_on { ContinuesInTurn S.Store tx.old.conn.now tx.new.conn.now result }
-    ensures renewed { HasCleanDisk (state S.Store tx.new.conn.now)
-        → OnOk result
-        ((known : Version) (rows : AllRows) → version ≡ version_number known
-        → BecomesAt known (state S.Store tx.old.conn.now).now rows
-        → BecomesAt Newest (state S.Store tx.new.conn.now).now (renewed known rows)) }
-    ensures known { OnOk result ((known : Version) × (version ≡ version_number known)) }
-    ensures newest { result ≡ Ok false → (version ≡ version_number Newest) × (tx.new ≡ tx.old) }
-    ensures older { result ≡ Ok true → version ≢ version_number Newest }
-    ensures is_office { result ≢ Err fault.NotAnOffice }
-    ensures other { result ≡ Err fault.OtherVersion → (known : Version)
-        → version ≢ version_number known }
-{
-    match version {
-        3 => {
-            move_holds(tx)?;
-            renew_fourth(tx)?;
-            Ok(true)
-        }
-        4 => {
-            renew_fourth(tx)?;
-            Ok(true)
-        }
-        5 => Ok(false),
-        _ => Err(TableFault::OtherVersion),
-    }
-}
 
 /// Makes the tables of the newest version of those that are found, and says whether there was anything to do.
 fn take_over<S: Alter>(tx: &mut Transaction<'_, S>) -> Result<bool, TableFault>
