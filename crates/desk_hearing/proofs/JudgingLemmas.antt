@@ -1,9 +1,7 @@
 -- What the steps of the code answer, as what is heard.
-use Rattle.desk_hearing.proofs.Common.{◌≡◌, ◌≢◌, ℕ, inl, inr, List, [], Option, Some, None, Ok, Err, refl, sym, ap, ◌∙◌, subst, Result, ok_or, option_and_then, query_pairs, AsksListing, Listing, HeadContents, Judges, HeadRefusal, pattern_of, resource_named, method_of, route_at, route_of, route_of_resource, path_part, query_part, Resource, DeskRefusal, Truncated, NoRoute, Method, BadQuery, Route, QueryAsks, fault_of_query, fault_of_body, refusal_of_head, HearsRest, route_of_head, HearsRoute, HearsFront, AllowsQuery, IsRefusedQuery, AnswersQuery, AnswersBody, AnswersFront, OwnedRequest, JudgingFault, Announced, Question}
-use Rattle.desk_forms.specs.Bodies.{SaysYears, SaysHold}
+use Rattle.desk_hearing.proofs.Common.{◌≡◌, ◌≢◌, ℕ, inl, inr, List, [], Option, Some, None, Ok, Err, refl, sym, ap, ◌∙◌, subst, Result, ok_or, option_and_then, query_pairs, AsksListing, Listing, HeadContents, Judges, HeadRefusal, pattern_of, resource_named, method_of, route_at, route_of, route_of_resource, path_part, query_part, Resource, DeskRefusal, Truncated, NoRoute, Method, BadQuery, Route, QueryAsks, fault_of_query, fault_of_body, refusal_of_head, HearsRest, route_of_head, HearsRoute, HearsFront, AllowsQuery, IsRefusedQuery, AnswersQuery, AnswersBody, BodyAsks, AnswersFront, OwnedRequest, JudgingFault, Announced, Question}
 use Rattle.desk_forms.specs.declared.body.BodyFault.{BodyFault}
 use Rattle.desk_forms.specs.declared.body.BodyFault.TheVariants as bodies
-use Rattle.desk_forms.specs.declared.body.HoldBody.{HoldBody}
 use Rattle.desk_forms.specs.declared.query.QueryFault.{QueryFault}
 use Rattle.desk_forms.specs.declared.query.QueryFault.TheVariants as queries
 use Rattle.desk_heads.specs.declared.refusal.HeadRefusal.TheVariants as heads
@@ -31,20 +29,13 @@ listing_refused query queries.Memory h = tt
 
 -- ---- bodies
 
-pub years_refused : (name body : List ℕ) (fault : BodyFault) → (fault ≡ bodies.BadBody → (years : Option ℕ) → SaysYears body years → ⊥)
-    → AnswersBody (questions.Class name) body (Err (fault_of_body fault))
-years_refused name body bodies.BadBody h = (refl, λ ask x. h refl x.0 x.1)
-years_refused name body bodies.Memory h = tt
+pub form_refused : (question : Question) (body : List ℕ) (fault : BodyFault) → (fault ≡ bodies.BadBody → (ask : OwnedRequest) → BodyAsks question body ask → ⊥)
+    → AnswersBody question body (Err (fault_of_body fault))
+form_refused question body bodies.BadBody h = (refl, h refl)
+form_refused question body bodies.Memory h = tt
 
-pub hold_refused : (body : List ℕ) (fault : BodyFault) → (fault ≡ bodies.BadBody → (hold : HoldBody) → SaysHold body hold → ⊥)
-    → AnswersBody questions.Hold body (Err (fault_of_body fault))
-hold_refused body bodies.BadBody h = (refl, λ ask x. h refl x.0 x.1)
-hold_refused body bodies.Memory h = tt
-
-pub body_refused : (known : OwnedRequest) (body : List ℕ) (fault : BodyFault) → (body ≡ [] → ⊥) → fault ≡ bodies.BadBody
-    → AnswersBody (questions.Whole known) body (Err (fault_of_body fault))
-body_refused known body bodies.BadBody some e = (refl, λ ask x. some x.0)
-body_refused known body bodies.Memory some e = tt
+pub body_refused : (known : OwnedRequest) (body : List ℕ) (fault : BodyFault) → (body ≡ [] → ⊥) → AnswersBody (questions.Whole known) body (Err (fault_of_body fault))
+body_refused known body fault some = form_refused (questions.Whole known) body fault (λ e ask x. some x.0)
 
 -- ---- fronts
 

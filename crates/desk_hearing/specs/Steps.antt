@@ -45,7 +45,6 @@ IsRefusedQuery route query = AllowsQuery route query → ⊥
 
 -- a body that is no text where JSON is asked for, or one where none is
 abbrev pub IsRefusedBody : Question → List ℕ → Type 0
-IsRefusedBody (questions.Class name) body = IsUtf8 body → ⊥
-IsRefusedBody questions.Hold body = IsUtf8 body → ⊥
 IsRefusedBody (questions.Deposit query) body = ⊥
 IsRefusedBody (questions.Whole known) body = body ≡ [] → ⊥
+IsRefusedBody question body = IsUtf8 body → ⊥
