@@ -57,6 +57,7 @@ fn set_series<S: Alter>(
 }
 
 /// Sets the due days of the deposits of these rows, by one statement for each series of them.
+#[tactic(auto, using(office_contents::proofs::InTurn::in_turn, office_contents::proofs::InTurn::turn_then))]
 fn set_by_series<S: Alter>(
     tx: &mut Transaction<'_, S>,
     row: &ClosingRow,
@@ -110,6 +111,7 @@ fn set_days_of_class<S: Alter>(
 }
 
 /// Gives the class those years, and its deposits the due days that follow from them.
+#[tactic(auto, using(office_contents::proofs::InTurn::inside_then))]
 fn put_years<S: Alter>(
     alloc: Global,
     tx: &mut Transaction<'_, S>,
@@ -128,6 +130,7 @@ fn put_years<S: Alter>(
 /// are there.
 ///
 /// Fails with `Memory` or `Store`.
+#[tactic(auto, using(office_contents::proofs::InTurn::inside_after, office_contents::proofs::InTurn::inside_failed))]
 pub fn define_class<S: Alter>(
     alloc: Global,
     tx: &mut Transaction<'_, S>,

@@ -14,6 +14,7 @@ use std::alloc::Global;
 /// Defines a collection. One that is there stays as it is, and is no other change.
 ///
 /// Fails with `Memory` or `Store`.
+#[tactic(auto, using(office_contents::proofs::InTurn::inside_after, office_contents::proofs::InTurn::inside_failed))]
 pub fn define_collection<S: Alter>(
     alloc: Global,
     tx: &mut Transaction<'_, S>,

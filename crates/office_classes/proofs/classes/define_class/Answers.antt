@@ -1,4 +1,4 @@
-use Rattle.office_classes.proofs.Common.{rules, ◌≡◌, ap, sym, Some, None, ◌∷◌, [], refl, clean_first, inside_after, inside_failed, first_told, visit_on, office_still, allowed_by, refused_by}
+use Rattle.office_classes.proofs.Common.{rules, ◌≡◌, ap, sym, Some, None, ◌∷◌, [], refl, clean_first, first_told, visit_on, office_still, allowed_by, refused_by}
 use Rattle.office_core.specs.declared.request.Request.TheVariants as requests
 use Rattle.office_core.specs.declared.answer.Answer.TheVariants as answers
 use Rattle.office_classes.proofs.classes.define_class.Goals as goal
@@ -9,15 +9,6 @@ returns-in-Some-clause-serves g c clean office =
     let asked = c.in_ok-why.ensures.reads clean office in
     let denied = rw (c.as_str.ensures.text, c.in-Some.is) at asked.1 in
     refused_by (visit_on a.day a.caller.now) (requests.DefineClass a.name.now a.years) c.in-Some.why office asked.0 (λ i. first_told (denied i ∷ []))
-
-pub returns-in_err-put_years-clause-inside : goal.returns-in_err-put_years-clause-inside
-returns-in_err-put_years-clause-inside g c = inside_failed c.in_ok-why.ensures.inside c.put_years.ensures.inside _ (search rules) (search rules)
-
-pub returns-in_err-to_owned-clause-inside : goal.returns-in_err-to_owned-clause-inside
-returns-in_err-to_owned-clause-inside g c = inside_after c.in_ok-why.ensures.inside c.in_ok-put_years.ensures.inside _ (search rules)
-
-pub returns-clause-inside : goal.returns-clause-inside
-returns-clause-inside g c = inside_after c.in_ok-why.ensures.inside c.in_ok-put_years.ensures.inside _ (search rules)
 
 pub returns-clause-serves : goal.returns-clause-serves
 returns-clause-serves g c clean office =

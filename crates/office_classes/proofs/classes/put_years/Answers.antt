@@ -1,10 +1,7 @@
-use Rattle.office_classes.proofs.Common.{rules, w64, ◌≡◌, Some, ap, SFits, to_z-of_z, on_ok_weaker, state, with_class, class_closings, tables_of, inside_then, years_number, with_due_days, changed_as, changes_by, changes_then}
+use Rattle.office_classes.proofs.Common.{rules, w64, ◌≡◌, Some, ap, SFits, to_z-of_z, on_ok_weaker, state, with_class, class_closings, tables_of, years_number, with_due_days, changed_as, changes_by, changes_then}
 use Rattle.office_by_rows.specs.Changes.{with_years}
 use Rattle.office_classes.proofs.DueDaysByRows.{closings_still}
 use Rattle.office_classes.proofs.classes.put_years.Goals as goal
-
-pub returns-clause-inside : goal.returns-clause-inside
-returns-clause-inside g c = inside_then c.in_ok-put_class.ensures.inside c.set_days_of_class.ensures.inside
 
 pub returns-clause-changes : goal.returns-clause-changes
 returns-clause-changes g c clean office =

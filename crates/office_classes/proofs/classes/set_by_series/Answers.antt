@@ -1,4 +1,4 @@
-use Rattle.office_classes.proofs.Common.{◌≡◌, rules, IsTrue, Ok, List, refl, sym, ap, subst, ◌∙◌, ◌+◌, take, [], ◌∷◌, ◌++◌, on_ok_weaker, state, ClosingRow, GoesOnInTurn, tables_of, TableFault, in_turn, none_called, turn_next, turn_then, with_due_days, Changes, changed_as, changes_next, unchanged_by}
+use Rattle.office_classes.proofs.Common.{◌≡◌, rules, IsTrue, Ok, List, refl, sym, ap, subst, ◌∙◌, ◌+◌, take, [], ◌∷◌, ◌++◌, on_ok_weaker, state, ClosingRow, GoesOnInTurn, tables_of, TableFault, none_called, turn_next, with_due_days, Changes, changed_as, changes_next, unchanged_by}
 use Rattle.std.proofs.lemmas.List.{take_all, take_more}
 use Rattle.sqlite.specs.declared.transaction.Transaction.{Transaction}
 use Rattle.office_classes.proofs.DueDaysByRows.{begins, days_with_series, goes_on, with_series}
@@ -31,9 +31,6 @@ loop-next-preserved g c =
           let done : Done inv.0.before c.if-not-follows.tx = subst (Done inv.0.before) (sym w.tx-is) (inv.1, inv.2) in
           (goes_on rows _ _ _ next _ _ inv.0 (c.follows.ensures.0 is) more (ap (λ row. row.now) w.first-is) (ap (λ row. row.now) w.last-is), done.0, done.1)
     ]
-
-pub returns-clause-inside : goal.returns-clause-inside
-returns-clause-inside g c = turn_then c.loop-next.invariant.1 (in_turn c.set_series-2.ensures.inside)
 
 pub returns-clause-changes : goal.returns-clause-changes
 returns-clause-changes g c clean office =
