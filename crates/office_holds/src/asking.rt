@@ -44,6 +44,7 @@ fn names_of<'a>(target: HoldTarget<'a>) -> (Option<&'a str>, Option<&'a str>)
 /// `None` where there is none of that name.
 ///
 /// Fails with `Memory` or `Store`.
+#[tactic(auto, using(office_contents::proofs::InTurn::inside_after))]
 pub(crate) fn name_denial<S: Alter>(
     tx: &mut Transaction<'_, S>,
     day: Day,

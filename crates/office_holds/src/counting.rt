@@ -37,6 +37,7 @@ fn count_with(count: i64, by: i64, most: u32) -> Result<i64, TableFault>
 ///
 /// Fails with `Memory` or `Store`: with `Store` where there is no such deposit, or its count is or would
 /// be below 0, or above the holds that the office takes.
+#[tactic(auto, using(office_contents::proofs::InTurn::inside_failed))]
 fn count_after<S: Alter>(
     tx: &mut Transaction<'_, S>,
     number: u32,

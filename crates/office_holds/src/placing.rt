@@ -21,6 +21,7 @@ use office_tables::{HoldTarget, TableFault, last_hold, limits, put_hold};
 use sqlite::{Alter, Transaction};
 
 /// The number of the next hold, where the office takes one more.
+#[tactic(auto, using(office_contents::proofs::InTurn::inside_after, office_contents::proofs::InTurn::inside_failed))]
 fn next_hold<S: Alter>(tx: &mut Transaction<'_, S>) -> Result<Result<u32, Refusal>, TableFault>
     ensures inside { GoesOnInside S.Store tx.old.conn tx.new.conn result }
     ensures reads { Shows S.Store tx.old.conn.now tx.new.conn.now result (λ tables numbered.
@@ -86,6 +87,7 @@ fn hold_denial<S: Alter>(
 }
 
 /// The number of a hold on the target, where nothing speaks against it.
+#[tactic(auto, using(office_contents::proofs::InTurn::inside_then))]
 fn number_for_hold<S: Alter>(
     tx: &mut Transaction<'_, S>,
     day: Day,
@@ -105,6 +107,7 @@ fn number_for_hold<S: Alter>(
 }
 
 /// Holds the target: one on a collection or a class holds all its deposits, those that come later too.
+#[tactic(auto, using(office_contents::proofs::InTurn::inside_after, office_contents::proofs::InTurn::inside_failed))]
 fn hold<S: Alter>(
     tx: &mut Transaction<'_, S>,
     day: Day,

@@ -29,6 +29,7 @@ use std::alloc::Global;
 /// destroyed.
 ///
 /// Fails with `Memory` or `Store`: with `Store` where there is no such deposit.
+#[tactic(auto, using(office_contents::proofs::InTurn::inside_then))]
 fn deposit_release_denial<S: Alter>(
     tx: &mut Transaction<'_, S>,
     day: Day,
@@ -106,6 +107,7 @@ fn unless_refused(
 }
 
 /// The row of the hold of that number, or the first refusal of its release that applies.
+#[tactic(auto, using(office_contents::proofs::InTurn::inside_after))]
 fn releasable_hold<S: Alter>(
     alloc: Global,
     tx: &mut Transaction<'_, S>,
@@ -147,6 +149,7 @@ fn end<S: Alter>(
 /// Releases a hold.
 ///
 /// Fails with `Memory` or `Store`.
+#[tactic(auto, using(office_contents::proofs::InTurn::inside_after, office_contents::proofs::InTurn::inside_failed))]
 pub fn release<S: Alter>(
     alloc: Global,
     tx: &mut Transaction<'_, S>,

@@ -1,4 +1,4 @@
-use Rattle.office_holds.proofs.Lemmas.{rules, ◌≡◌, true, false, ◌∙◌, Some, clean_first, inside_after, visit_on, held_target, office_still, told_before, denial_of_name, no_name, of_name, tables_before}
+use Rattle.office_holds.proofs.Lemmas.{rules, ◌≡◌, true, false, ◌∙◌, Some, clean_first, visit_on, held_target, office_still, told_before, denial_of_name, no_name, of_name, tables_before}
 use Rattle.office_holds.proofs.asking.name_denial.Goals as goal
 
 pub returns-then-not-branch-clause-reads : goal.returns-then-not-branch-clause-reads
@@ -7,9 +7,6 @@ returns-then-not-branch-clause-reads g c clean office =
     let none : false ≡ c.in_ok-is_there.field-0 = search rules in
     let there = c.in_ok-is_there.ensures.reads clean office in
     (there.0, no_name (tables_before g.S.Store a.tx.now.conn) (visit_on a.day a.caller.now) a.action (held_target a.target) (none ∙ there.1))
-
-pub returns-clause-inside : goal.returns-clause-inside
-returns-clause-inside g c = inside_after c.in_ok-is_there.ensures.inside c.in_ok-why.ensures.inside _ (search rules)
 
 pub returns-clause-reads : goal.returns-clause-reads
 returns-clause-reads g c clean office =

@@ -1,14 +1,8 @@
-use Rattle.office_holds.proofs.Lemmas.{rules, ◌≡◌, w64, pos, sym, ◌∙◌, SFits, to_z-of_z, IfOk-weaker, due_numbered, Store, clean_first, inside_after, inside_failed, there_is, office_still, told_before, tables_before, counted_told}
+use Rattle.office_holds.proofs.Lemmas.{rules, ◌≡◌, w64, pos, sym, ◌∙◌, SFits, to_z-of_z, IfOk-weaker, due_numbered, Store, clean_first, inside_after, there_is, office_still, told_before, tables_before, counted_told}
 use Rattle.office_holds.proofs.counting.count_after.Goals as goal
 
 pub returns-clause-inside : goal.returns-clause-inside
 returns-clause-inside g c = inside_after c.in_ok-limits.ensures.inside c.in_ok-found.ensures.inside _ (search rules)
-
-pub returns-in_err-found-clause-inside : goal.returns-in_err-found-clause-inside
-returns-in_err-found-clause-inside g c = inside_failed c.in_ok-limits.ensures.inside c.due_row.ensures.inside _ (search rules) (search rules)
-
-pub returns-in_err-row-clause-inside : goal.returns-in_err-row-clause-inside
-returns-in_err-row-clause-inside g c = inside_failed c.in_ok-limits.ensures.inside c.due_row.ensures.inside _ (search rules) (search rules)
 
 pub returns-clause-reads : goal.returns-clause-reads
 returns-clause-reads g c clean office =

@@ -1,12 +1,6 @@
-use Rattle.office_holds.proofs.Lemmas.{rules, ◌≡◌, ◌∙◌, ap, subst, pos, refl, Some, IfOk, result_err, Tables, with_hold, clean_first, inside_after, inside_failed, allowed_rows, counted_over, new_hold, highest_hold, number_after, visit_on, held_target, office_still, allowed_by, changed_after, changed_as, refused_by, hold_request, hold_answered, hold_refused, hold_rows, tables_before}
+use Rattle.office_holds.proofs.Lemmas.{◌≡◌, ◌∙◌, ap, subst, pos, refl, Some, IfOk, result_err, Tables, with_hold, clean_first, allowed_rows, counted_over, new_hold, highest_hold, number_after, visit_on, held_target, office_still, allowed_by, changed_after, changed_as, refused_by, hold_request, hold_answered, hold_refused, hold_rows, tables_before}
 use Rattle.office_core.specs.declared.answer.Answer.TheVariants as answers
 use Rattle.office_holds.proofs.placing.hold.Goals as goal
-
-pub returns-in_err-place_hold-in-Ok-clause-inside : goal.returns-in_err-place_hold-in-Ok-clause-inside
-returns-in_err-place_hold-in-Ok-clause-inside g c = inside_failed c.in_ok-hold.ensures.inside c.place_hold.ensures.inside _ (search rules) (search rules)
-
-pub returns-in_ok-place_hold-in-Ok-clause-inside : goal.returns-in_ok-place_hold-in-Ok-clause-inside
-returns-in_ok-place_hold-in-Ok-clause-inside g c = inside_after c.in_ok-hold.ensures.inside c.in_ok-place_hold-in-Ok.ensures.inside _ (search rules)
 
 pub returns-in_ok-place_hold-in-Ok-clause-serves : goal.returns-in_ok-place_hold-in-Ok-clause-serves
 returns-in_ok-place_hold-in-Ok-clause-serves g c clean office =

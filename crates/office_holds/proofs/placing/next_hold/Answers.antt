@@ -1,11 +1,5 @@
-use Rattle.office_holds.proofs.Lemmas.{rules, ◌≡◌, pos, Some, option_map, sym, ap, ◌∙◌, result_err, IfOk-weaker, clean_first, inside_after, inside_failed, highest_hold, number_after, office_still, told_before, tables_before, full_told}
+use Rattle.office_holds.proofs.Lemmas.{◌≡◌, pos, Some, option_map, sym, ap, ◌∙◌, result_err, IfOk-weaker, clean_first, highest_hold, number_after, office_still, told_before, tables_before, full_told}
 use Rattle.office_holds.proofs.placing.next_hold.Goals as goal
-
-pub returns-in_err-last-clause-inside : goal.returns-in_err-last-clause-inside
-returns-in_err-last-clause-inside g c = inside_failed c.in_ok-limits.ensures.inside c.last_hold.ensures.inside _ (search rules) (search rules)
-
-pub returns-clause-inside : goal.returns-clause-inside
-returns-clause-inside g c = inside_after c.in_ok-limits.ensures.inside c.in_ok-last.ensures.inside _ (search rules)
 
 pub returns-clause-reads : goal.returns-clause-reads
 returns-clause-reads g c clean office =

@@ -1,4 +1,4 @@
-use Rattle.office_holds.proofs.Lemmas.{rules, ◌≡◌, [], ◌∷◌, ◌∙◌, Some, None, ap, IfOk, result_err, IfOk-weaker, clean_first, inside_then, full_of_holds, highest_hold, hold_denials, number_after, visit_on, held_target, one_first, office_still, told_before, full_first, tables_before}
+use Rattle.office_holds.proofs.Lemmas.{rules, ◌≡◌, [], ◌∷◌, ◌∙◌, Some, None, ap, IfOk, result_err, IfOk-weaker, clean_first, full_of_holds, highest_hold, hold_denials, number_after, visit_on, held_target, one_first, office_still, told_before, full_first, tables_before}
 use Rattle.office_holds.proofs.placing.number_for_hold.Goals as goal
 
 pub returns-in-Some-clause-reads : goal.returns-in-Some-clause-reads
@@ -7,9 +7,6 @@ returns-in-Some-clause-reads g c clean office =
     let t = tables_before g.S.Store a.tx.now.conn in
     let asked = c.in_ok-why.ensures.reads clean office in
     (asked.0, (one_first (hold_denials t (visit_on a.day a.caller.now) (held_target a.target)) (full_of_holds t ∷ []) c.in-Some.why (asked.1 ∙ ap Some c.in-Some.is), tt))
-
-pub returns-clause-inside : goal.returns-clause-inside
-returns-clause-inside g c = inside_then c.in_ok-why.ensures.inside c.next_hold.ensures.inside
 
 pub returns-clause-reads : goal.returns-clause-reads
 returns-clause-reads g c clean office =

@@ -1,9 +1,6 @@
-use Rattle.office_holds.proofs.Lemmas.{rules, ◌≡◌, ◌∙◌, Some, ap, sym, IfOk-weaker, Store, clean_first, inside_then, denial_at, release_denial_at, visit_on, office_still, there_is, told_before, tables_before}
+use Rattle.office_holds.proofs.Lemmas.{rules, ◌≡◌, ◌∙◌, Some, ap, sym, IfOk-weaker, Store, clean_first, denial_at, release_denial_at, visit_on, office_still, there_is, told_before, tables_before}
 use Rattle.office_core.specs.declared.action.Action.TheVariants as acts
 use Rattle.office_holds.proofs.releasing.deposit_release_denial.Goals as goal
-
-pub returns-clause-inside : goal.returns-clause-inside
-returns-clause-inside g c = inside_then c.in_ok-found.ensures.inside c.denial.ensures.inside
 
 pub returns-clause-reads : goal.returns-clause-reads
 returns-clause-reads g c clean office =

@@ -1,4 +1,4 @@
-use Rattle.office_holds.proofs.Lemmas.{rules, ◌≡◌, sym, ◌∙◌, Some, None, ap, result_err, IfOk-weaker, clean_first, inside_after, release_denial_on, visit_on, held_target, office_still, told_before, no_hold, release_refused, tables_before}
+use Rattle.office_holds.proofs.Lemmas.{rules, ◌≡◌, sym, ◌∙◌, Some, None, ap, result_err, IfOk-weaker, clean_first, release_denial_on, visit_on, held_target, office_still, told_before, no_hold, release_refused, tables_before}
 use Rattle.office_holds.proofs.releasing.releasable_hold.Goals as goal
 
 pub returns-in_default-clause-reads : goal.returns-in_default-clause-reads
@@ -22,6 +22,3 @@ returns-clause-reads g c clean office =
     let refused = release_refused (tables_before g.S.Store a.tx.now.conn) visit a.number c.in-Some.hold target there c.in_ok-target.ensures.reads c.in_ok-denied.denied (result_err found) denial first.0 in
     (denied.0 ∙ same, (refused, IfOk-weaker found _ _ (λ row is. there ∙ ap Some (sym is)) first.1)))
     c.unless_refused.ensures.reads
-
-pub returns-clause-inside : goal.returns-clause-inside
-returns-clause-inside g c = inside_after c.in_ok-hold.ensures.inside c.in_ok-denied.ensures.inside _ c.unless_refused.ensures.failure

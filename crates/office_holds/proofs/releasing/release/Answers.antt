@@ -1,4 +1,4 @@
-use Rattle.office_holds.proofs.Lemmas.{rules, ◌≡◌, negsuc, refl, subst, ◌∙◌, ap, pos, Some, IfOk, result_err, epoch_day, Tables, hold_numbered, with_released, clean_first, inside_after, inside_failed, allowed_rows, counted_over, visit_on, held_target, office_still, allowed_by, changed_after, changed_as, refused_by, released_rows, tables_before}
+use Rattle.office_holds.proofs.Lemmas.{◌≡◌, negsuc, refl, subst, ◌∙◌, ap, pos, Some, IfOk, result_err, epoch_day, Tables, hold_numbered, with_released, clean_first, allowed_rows, counted_over, visit_on, held_target, office_still, allowed_by, changed_after, changed_as, refused_by, released_rows, tables_before}
 use Rattle.office_core.specs.declared.answer.Answer.TheVariants as answers
 use Rattle.office_core.specs.declared.request.Request.TheVariants as requests
 use Rattle.office_holds.proofs.releasing.release.Goals as goal
@@ -8,12 +8,6 @@ returns-in-Err-clause-serves g c clean office =
     let a = c.args in
     let asked = c.in_ok-row.ensures.reads clean office in
     refused_by (visit_on a.day a.caller.now) (requests.Release a.hold) c.in-Err.why office asked.0 (asked.1.0 ∙ ap (λ r. Some (result_err r)) c.in-Err.is)
-
-pub returns-in_err-end-in-Ok-clause-inside : goal.returns-in_err-end-in-Ok-clause-inside
-returns-in_err-end-in-Ok-clause-inside g c = inside_failed c.in_ok-row.ensures.inside c.end.ensures.inside _ (search rules) (search rules)
-
-pub returns-in_ok-end-in-Ok-clause-inside : goal.returns-in_ok-end-in-Ok-clause-inside
-returns-in_ok-end-in-Ok-clause-inside g c = inside_after c.in_ok-row.ensures.inside c.in_ok-end-in-Ok.ensures.inside _ (search rules)
 
 pub returns-in_ok-end-in-Ok-clause-serves : goal.returns-in_ok-end-in-Ok-clause-serves
 returns-in_ok-end-in-Ok-clause-serves g c clean office =
