@@ -116,6 +116,7 @@ fn years_before_the_bag<S: Alter>(
 }
 
 /// The number of the next deposit, where the office takes one more.
+#[tactic(auto, using(office_contents::proofs::InTurn::inside_after, office_contents::proofs::InTurn::inside_failed))]
 fn next_number<S: Alter>(tx: &mut Transaction<'_, S>) -> Result<Result<u32, Refusal>, TableFault>
     ensures inside { GoesOnInside S.Store tx.old.conn tx.new.conn result }
     ensures reads { Shows S.Store tx.old.conn.now tx.new.conn.now result (λ tables next.
@@ -166,6 +167,7 @@ fn judged_bag<'a>(
 
 /// The bag of the text with the number of the next deposit, or the first refusal of the bag or of the
 /// office that applies: a bad bag, or a full office.
+#[tactic(auto, using(office_contents::proofs::InTurn::inside_as))]
 fn numbered_bag<'a, S: Alter>(
     alloc: Global,
     tx: &mut Transaction<'_, S>,

@@ -17,6 +17,7 @@ use sqlite::{Alter, Transaction};
 use std::alloc::Global;
 
 /// The first refusal that applies to the disposal of the deposit of that number, if one does.
+#[tactic(auto, using(office_contents::proofs::InTurn::inside_after, office_contents::proofs::InTurn::inside_failed, office_contents::proofs::InTurn::inside_then))]
 fn disposal_refusal<S: Alter>(
     alloc: Global,
     tx: &mut Transaction<'_, S>,
@@ -51,6 +52,7 @@ fn destroy<S: Alter>(tx: &mut Transaction<'_, S>, day: Day, number: u32) -> Resu
 ///
 /// Refused, in this order: no such deposit, the caller may not, destroyed already, the least live
 /// hold that covers it, not due yet. Fails with `Memory` or `Store`.
+#[tactic(auto, using(office_contents::proofs::InTurn::inside_after, office_contents::proofs::InTurn::inside_failed))]
 pub fn dispose<S: Alter>(
     alloc: Global,
     tx: &mut Transaction<'_, S>,

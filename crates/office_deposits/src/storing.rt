@@ -1,9 +1,11 @@
 //! A bag that is stored: its deposit's row, its due day and its count of holds, and its files.
 
-ghost use Rattle.std.specs.Prelude.{◌≡◌, IfErr, OkIff, ◌<◌, ◌^◌, Some, pos};
+ghost use Rattle.std.specs.Prelude.{◌≡◌, IfErr, IfOk, List, OkIff, ◌<◌, ◌^◌, Some, pos};
 ghost use Rattle.sha2.specs.Sha256.{sha256};
+ghost use Rattle.bag_text.specs.TransferForm.{File};
 ghost use Rattle.bag_text.specs.TransferReading.{file_of, files_of};
 ghost use Rattle.bag_check.specs.Digests.{digests_of};
+ghost use Rattle.bag_check.specs.Validity.{payload_bytes, payload_files};
 ghost use Rattle.office_rows.specs.Rows.{with_file, with_deposit_and_due};
 ghost use Rattle.office_contents.specs.Calls.{GoesOnInTurn, GoesOnInside};
 ghost use Rattle.office_tables.specs.Deposits.{added_row};
@@ -15,7 +17,7 @@ ghost use Rattle.office_deposits.specs.Details.{row_of};
 ghost use Rattle.office_deposits.specs.Stored.{stored_with_due};
 
 use crate::details::DepositDetails;
-use bag_check::count_payload;
+use bag_check::{PayloadCounts, count_payload};
 use bag_text::BagSet;
 use office_access::live_count;
 use office_core::Due;
@@ -44,6 +46,7 @@ fn add_file<S: Alter>(
 }
 
 /// Adds the files of a bag, whose contents have these SHA-256, in turn.
+#[tactic(auto, using(office_contents::proofs::InTurn::in_turn, office_contents::proofs::InTurn::turn_failed))]
 fn add_files<S: Alter>(
     tx: &mut Transaction<'_, S>,
     number: u32,
@@ -73,6 +76,31 @@ fn row_count(count: usize) -> Result<i64, TableFault>
     }
 }
 
+/// The deposit of that number that is to be added, with so large a payload.
+///
+/// Fails with `Store` where a row has no number for a count.
+pub(crate) fn new_deposit<'a>(
+    details: &DepositDetails<'a>,
+    number: u32,
+    payload: PayloadCounts,
+) -> Result<NewDeposit<'a>, TableFault>
+    ensures row { IfOk result (λ new.
+        (bag : List File) → payload.files ≡ payload_files bag → payload.bytes ≡ payload_bytes bag
+        → added_row new ≡ row_of details.now number bag) }
+    ensures store { IfErr result (λ fault. fault ≡ TableFault.Store) }
+{
+    Ok(NewDeposit {
+        number,
+        accession: details.description.accession.as_str(),
+        collection: details.description.collection.as_str(),
+        class: details.description.class.as_str(),
+        closed: details.description.closed.number() as i64,
+        deposited: details.day.number() as i64,
+        files: row_count(payload.files)?,
+        bytes: row_count(payload.bytes)?,
+    })
+}
+
 /// Puts the row of a deposit that falls due so and is covered by that many live holds.
 fn put_row<S: Alter>(
     tx: &mut Transaction<'_, S>,
@@ -91,6 +119,7 @@ fn put_row<S: Alter>(
 /// and falls due so.
 ///
 /// Fails with `Memory` or `Store`.
+#[tactic(auto, using(office_contents::proofs::InTurn::inside_as))]
 pub(crate) fn store_deposit<S: Alter>(
     alloc: Global,
     tx: &mut Transaction<'_, S>,
@@ -109,17 +138,7 @@ pub(crate) fn store_deposit<S: Alter>(
     let collection = details.description.collection.as_str();
     let class = details.description.class.as_str();
     let holds = live_count(alloc, tx, number, collection, class)?;
-    let payload = count_payload(bag);
-    let new = NewDeposit {
-        number,
-        accession: details.description.accession.as_str(),
-        collection,
-        class,
-        closed: details.description.closed.number() as i64,
-        deposited: details.day.number() as i64,
-        files: row_count(payload.files)?,
-        bytes: row_count(payload.bytes)?,
-    };
+    let new = new_deposit(details, number, count_payload(bag))?;
     put_row(tx, new, due, holds)?;
     add_files(tx, number, bag.files(), digests)
 }

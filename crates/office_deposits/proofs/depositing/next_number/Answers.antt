@@ -1,11 +1,5 @@
-use Rattle.office_deposits.proofs.Common.{◌≡◌, pos, option_map, sym, ap, ◌∙◌, rules, office_still, told_before, DepositRow, last_number, clean_first, inside_after, inside_failed, IfOk-weaker, ◌>>=◌, full_after, number_after}
+use Rattle.office_deposits.proofs.Common.{◌≡◌, pos, option_map, sym, ap, ◌∙◌, office_still, told_before, DepositRow, last_number, clean_first, IfOk-weaker, ◌>>=◌, full_after, number_after}
 use Rattle.office_deposits.proofs.depositing.next_number.Goals as goal
-
-pub returns-in_err-last-clause-inside : goal.returns-in_err-last-clause-inside
-returns-in_err-last-clause-inside g c = inside_failed c.in_ok-limits.ensures.inside c.last_deposit.ensures.inside _ (search rules) (search rules)
-
-pub returns-clause-inside : goal.returns-clause-inside
-returns-clause-inside g c = inside_after c.in_ok-limits.ensures.inside c.in_ok-last.ensures.inside _ (search rules)
 
 pub returns-clause-reads : goal.returns-clause-reads
 returns-clause-reads g c clean office =

@@ -1,9 +1,5 @@
-use Rattle.office_deposits.proofs.Lemmas.{IfErr-weaker, IfOk-weaker, ◌≡◌, [], ◌∷◌, Some, IfOk, sym, ap, subst, ◌∙◌, result_err, state, bad_bag, tables_of, inside_as, first_told, highest_deposit, number_after, all_told_first, both_of_ok}
-use Rattle.office_contents.specs.Faults.{IsFailure}
+use Rattle.office_deposits.proofs.Lemmas.{IfOk-weaker, ◌≡◌, [], ◌∷◌, Some, IfOk, sym, ap, subst, ◌∙◌, result_err, state, bad_bag, tables_of, first_told, highest_deposit, number_after, all_told_first, both_of_ok}
 use Rattle.office_deposits.proofs.depositing.numbered_bag.Goals as goal
-
-pub returns-clause-inside : goal.returns-clause-inside
-returns-clause-inside g c = inside_as c.in_ok-number.ensures.inside c.judged_bag.result (IfErr-weaker c.judged_bag.result _ IsFailure (λ fault is. subst IsFailure (sym is) tt) c.judged_bag.ensures.memory)
 
 pub returns-clause-reads : goal.returns-clause-reads
 returns-clause-reads g c clean office =

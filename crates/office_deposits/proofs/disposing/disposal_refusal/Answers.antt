@@ -1,15 +1,6 @@
-use Rattle.office_deposits.proofs.Lemmas.{rules, ◌≡◌, pos, ap, sym, ◌∙◌, [], ◌∷◌, Some, None, state, refusal_of, deposit_numbered, tables_of, visit_on, role_name, office_still, told_before, clean_first, inside_after, inside_failed, inside_then, ◌>>=◌, role_in, disposal_facts, disposal_refusal, first_told, of_deposit, one_told, row_number}
+use Rattle.office_deposits.proofs.Lemmas.{rules, ◌≡◌, pos, ap, sym, ◌∙◌, [], ◌∷◌, Some, None, state, refusal_of, deposit_numbered, tables_of, visit_on, role_name, office_still, told_before, clean_first, ◌>>=◌, role_in, disposal_facts, disposal_refusal, first_told, of_deposit, one_told, row_number}
 use Rattle.office_core.specs.Verdicts.{verdict_of}
 use Rattle.office_deposits.proofs.disposing.disposal_refusal.Goals as goal
-
-pub returns-in_err-asker-clause-inside : goal.returns-in_err-asker-clause-inside
-returns-in_err-asker-clause-inside g c = inside_failed c.in_ok-deposit.ensures.inside c.read.ensures.inside _ (search rules) (search rules)
-
-pub returns-in_err-facts-clause-inside : goal.returns-in_err-facts-clause-inside
-returns-in_err-facts-clause-inside g c = inside_failed (inside_then c.in_ok-deposit.ensures.inside c.in_ok-asker.ensures.inside) c.disposal_facts.ensures.inside _ (search rules) (search rules)
-
-pub returns-clause-inside : goal.returns-clause-inside
-returns-clause-inside g c = inside_after (inside_then c.in_ok-deposit.ensures.inside c.in_ok-asker.ensures.inside) c.in_ok-facts.ensures.inside _ (search rules)
 
 pub returns-in_default-clause-reads : goal.returns-in_default-clause-reads
 returns-in_default-clause-reads g c clean office =

@@ -1,13 +1,7 @@
-use Rattle.office_deposits.proofs.Common.{rules, ◌≡◌, refl, ap, ◌∙◌, Some, None, visit_on, clean_first, inside_after, inside_failed, office_still, allowed_by, refused_by}
+use Rattle.office_deposits.proofs.Common.{rules, ◌≡◌, refl, ap, ◌∙◌, Some, None, visit_on, clean_first, office_still, allowed_by, refused_by}
 use Rattle.office_core.specs.declared.answer.Answer.TheVariants as answers
 use Rattle.office_core.specs.declared.request.Request.TheVariants as requests
 use Rattle.office_deposits.proofs.disposing.dispose.Goals as goal
-
-pub returns-in_err-destroy-clause-inside : goal.returns-in_err-destroy-clause-inside
-returns-in_err-destroy-clause-inside g c = inside_failed c.in_ok-why.ensures.inside c.destroy.ensures.inside _ (search rules) (search rules)
-
-pub returns-clause-inside : goal.returns-clause-inside
-returns-clause-inside g c = inside_after c.in_ok-why.ensures.inside c.in_ok-destroy.ensures.inside _ (search rules)
 
 pub returns-in-Some-clause-serves : goal.returns-in-Some-clause-serves
 returns-in-Some-clause-serves g c clean office =

@@ -1,4 +1,4 @@
-use Rattle.office_deposits.proofs.Lemmas.{rules, pos, [], refl, in_turn, none_called, turn_as, turn_failed, turn_then, all_added, digest_at, next_file}
+use Rattle.office_deposits.proofs.Lemmas.{pos, [], refl, in_turn, none_called, turn_as, turn_then, all_added, digest_at, next_file}
 use Rattle.office_deposits.proofs.storing.add_files.Goals as goal
 
 pub add_file-requires : goal.add_file-requires
@@ -18,9 +18,6 @@ loop-index-init g c = record {
   inside = none_called _ tt;
   adds = λ clean office. record { office = office; rows = refl; contents = refl; once = λ was. was };
 }
-
-pub returns-in_err-add_file-clause-inside : goal.returns-in_err-add_file-clause-inside
-returns-in_err-add_file-clause-inside g c = turn_failed c.loop-index.invariant.inside (in_turn c.add_file.ensures.inside) _ (search rules) (search rules)
 
 pub returns-clause-changes : goal.returns-clause-changes
 returns-clause-changes g c =
