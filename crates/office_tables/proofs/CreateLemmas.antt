@@ -16,16 +16,14 @@ starts_office old new version deposits holds count blank h =
     let alone : edited db edit ≡ source ∷ [] = inserted db office_table source columns (pos 1) cast_is ∙ ap (put_row source) (of_office e) in
     let row : OfficeRow = record { id = pos 1; version = version; max_deposits = deposits; max_holds = holds } in
     let made : Becomes new.now (record (tables_of old.now) { office = row ∷ [] }) = becomes_shaped old new edit count edit.news (blank_shaped office_schema old.now blank) (of_emptied (λ tree. db tree ≡ []) e) refl done _ (ap (λ rows. record (tables_of old.now) { office = rows }) (ap (map office_in) alone)) in
-    let rest : record (tables_of old.now) { office = row ∷ [] } ≡ empty_office version deposits holds =
-    rw (of_callers e, of_classes e, of_collections e, of_deposits e, of_files e, of_holds e, of_rules e) refl in
+    let rest : record (tables_of old.now) { office = row ∷ [] } ≡ empty_office version deposits holds = rw (of_callers e, of_classes e, of_collections e, of_deposits e, of_files e, of_holds e, of_rules e) refl in
     record { office = made.office; are = made.are ∙ rest }
 
 -- where no table has a row, contents are kept once
 blank_once : (db : Database) → IsBlank office_schema db → StoresOnce db
 unfolding IsDistinct
 blank_once db blank =
-    let e = blank.empty in
-    subst₂ AreStoredOnce (sym (ap (map (λ (row : Row). int_at row 3)) (of_files e))) (sym (ap (map content_in) (of_contents e))) (record { once = tt; marked = tt; used = tt })
+    subst₂ AreStoredOnce (sym (ap (map (λ (row : Row). int_at row 3)) (of_files blank.empty))) (sym (ap (map content_in) (of_contents blank.empty))) (record { once = tt; marked = tt; used = tt })
 
 pub starts_once : (old new : State) (version deposits holds : ℤ) (count : ℕ) → IsBlank office_schema old.now → Executes start_text (Int version ∷ Int deposits ∷ Int holds ∷ []) old new (Ok count) → StoresOnce new.now
 starts_once old new version deposits holds count blank h =

@@ -6,8 +6,6 @@ use Rattle.sqlite.specs.Source.TheVariants.{Query}
 abbrev fifth : Schema
 fifth = schema_at Fifth
 
--- ---- the two statements
-
 abbrev pub copy_rules_text : List ℕ
 copy_rules_text = codes "INSERT INTO rule_5 (place, effect, role, action, collection, class, first, last) SELECT place, effect, role, action, collection, class, -25567, 2859848 FROM rule ORDER BY place"
 
@@ -45,8 +43,6 @@ copies_rules = takes_over fifth (idle_at Fifth) rule_table 2 refl (λ db whole. 
 
 pub empties_rules : (old new : State) (count : ℕ) → IsWhole fifth old.now → Executes empty_rules_text [] old new (Ok count) → Sets fifth old_rule_tree [] old.now new.now
 empties_rules = empties fifth (idle_at Fifth) rule_table 2 refl (λ db whole. of_old_rules whole.shaped) empty_rules_text empty_rules_means
-
--- ---- all of it
 
 -- the rules are copied into the table that was made, and their old table is emptied; each other table has its place here
 module _ (d0 d1 : Database) (grown : Grows (schema_at Fourth) fifth d0 d1) where

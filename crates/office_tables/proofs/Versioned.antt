@@ -45,8 +45,7 @@ sets_version old new version rows count was h =
     let e = changed.given_rows in
     let typed : map office_in (new.now.trees office_tree) ≡ map (in_version version) (map office_in (db office_tree)) =
     ap (map office_in) (of_office e) ∙ decoded office_in (has_number (pos 1)) (set_to version) is_office_row (λ (o : OfficeRow). record o { version = version }) (λ r. refl) (λ r. refl) (db office_tree) in
-    let same : rows_at Newest new.now ≡ all_in_version version (rows_at Newest old.now) =
-    rw (typed, of_callers e, of_classes e, of_collections e, of_deposits e, of_files e, of_contents e, of_holds e, of_rules e) refl in
+    let same : rows_at Newest new.now ≡ all_in_version version (rows_at Newest old.now) = rw (typed, of_callers e, of_classes e, of_collections e, of_deposits e, of_files e, of_contents e, of_holds e, of_rules e) refl in
     record {
       office = record { whole = changed.whole; emptied = still_empty new.now (record old.now { trees = with_rows office_tree rows_set db }) e was.office.emptied };
       are = same ∙ ap (all_in_version version) was.are;

@@ -20,6 +20,5 @@ returns-in_ok-note_version-in-3-clause-renewed g c clean known rows is =
 pub returns-in_ok-note_version-in-4-clause-renewed : goal.returns-in_ok-note_version-in-4-clause-renewed
 returns-in_ok-note_version-in-4-clause-renewed g c clean known rows is =
     let number : c.args.version ≡ version_number Fourth = search rules in
-    let moved = clean_first c.in_ok-note_version-in-4.ensures.inside.stays clean in
     by_number (λ v. BecomesAt v (state g.S.Store c.args.tx.now.conn.now).now rows → BecomesAt Newest (state g.S.Store c.note_version-in-4.new.tx.conn.now).now (renewed v rows)) Fourth known (sym number ∙ is)
-    (λ was. c.in_ok-note_version-in-4.ensures.noted clean rows (c.in_ok-move_rules-in-4.ensures.moved moved rows was))
+    (λ was. c.in_ok-note_version-in-4.ensures.noted clean rows (c.in_ok-move_rules-in-4.ensures.moved (clean_first c.in_ok-note_version-in-4.ensures.inside.stays clean) rows was))
