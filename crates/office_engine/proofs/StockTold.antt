@@ -8,7 +8,6 @@ use Rattle.std.proofs.lemmas.List.Sums.{sum-map}
 use Rattle.bag_text.proofs.ElementLemmas as texts
 use Rattle.office_history.specs.Lists.{in_first_places}
 use Rattle.office_history.proofs.MemberLemmas.{first_places_once, first_places_have, has_in_places}
-use Rattle.office_queries.proofs.Totals.{counts_told}
 use Rattle.office_engine.proofs.SameOnce.{same_once}
 
 to_texts : {X : Type 0} (xs : List X) (x : X) → Has xs x → texts.Has xs x
@@ -44,6 +43,11 @@ module _ {A F : Type 0} where
       each : (xs : List A) → map of (map (row n) xs) ≡ map own xs
       each [] = refl
       each (x ∷ xs) = rw (same n x) (ap (λ more. own x ∷ more) (each xs))
+
+-- counts are told
+counts_told : (parts : List ℕ) → all_told count_of (map pos parts) ≡ Some parts
+counts_told [] = refl
+counts_told (part ∷ parts) = ap (λ o. o >>= λ others. Some (part ∷ others)) (counts_told parts)
 
 -- ---- what a pictured database holds
 

@@ -13,7 +13,7 @@ pub use Rattle.office_core.specs.declared.refusal.Refusal.{Refusal}
 pub use Rattle.office_history.specs.Pictures.{held_deposit}
 pub use Rattle.office_holds.specs.Targets.{denial_of_name, hold_request, is_there_in, name_denial, subject_of}
 pub use Rattle.office_rows.specs.Rows.{due_numbered, DueRow, has_collection, hold_numbered, HoldRow, Limits, limits_of, Tables, with_hold, with_holds, with_more_holds, with_more_holds_class, with_released}
-pub use Rattle.office_contents.proofs.InTurn.{clean_first, inside_after, inside_failed, inside_then}
+pub use Rattle.office_contents.proofs.InTurn.{clean_first, inside_after, inside_then}
 pub use Rattle.office_contents.specs.declared.fault.TableFault.{TableFault}
 pub use Rattle.office_contents.specs.declared.fault.TableFault.TheVariants.{Memory, Store}
 pub use Rattle.std.proofs.Common.{◌&&◌, ◌+ℤ◌, ◌==◌, [], ap, Bool, Err, false, IfErr, IfOk, if◌then◌else◌, List, negsuc, None, not, Ok, Option, option_map, pos, refl, Result, rules, SFits, Some, subst, sym, true, unwrap_or, w64, ℕ, ℤ, ◌↔◌, ◌∙◌, ◌∷◌, ◌≡◌}

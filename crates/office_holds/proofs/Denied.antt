@@ -68,14 +68,8 @@ module _ (t : Tables) (visit : Visit) where
 
   pub hold_rows : (target : Target) (matter : List ℕ) (k : ℕ) → number_after (highest_hold t) ≡ Some k
       → counted_over target (pos 1) (with_hold (new_hold k target matter visit.day) t) ≡ allowed_rows t visit (hold_request target matter)
-  hold_rows target matter k is = next ∙ by target
-    where
-      next : counted_over target (pos 1) (with_hold (new_hold k target matter visit.day) t) ≡ (number_after (highest_hold t) >>= λ k. counted_over target (pos 1) (with_hold (new_hold k target matter visit.day) t))
-      next = ap (λ o. o >>= λ k. counted_over target (pos 1) (with_hold (new_hold k target matter visit.day) t)) (sym is)
-
-      by : (on : Target) → (number_after (highest_hold t) >>= λ k. counted_over on (pos 1) (with_hold (new_hold k on matter visit.day) t)) ≡ allowed_rows t visit (hold_request on matter)
-      by (OnDeposit n) = refl
-      by _ = refl
+  hold_rows (OnDeposit n) matter k is = ap (λ o. o >>= λ k. counted_over (OnDeposit n) (pos 1) (with_hold (new_hold k (OnDeposit n) matter visit.day) t)) (sym is)
+  hold_rows target matter k is = ap (λ o. o >>= λ k. counted_over target (pos 1) (with_hold (new_hold k target matter visit.day) t)) (sym is)
 
   -- ---- a release
 

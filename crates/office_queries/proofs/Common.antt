@@ -39,7 +39,7 @@ pub use Rattle.sqlite.specs.Effect.{Database}
 pub use Rattle.sqlite.specs.Held.{Held, state}
 pub use Rattle.sqlite.specs.State.{HasCleanDisk}
 pub use Rattle.sqlite.specs.Store.{Ghosts}
-pub use Rattle.std.proofs.Common.{◌&&◌, ◌*◌, ◌+◌, ◌++◌, ◌<◌, [], ap, append-nil, ap₂, arith, Bool, Bor, bytes_eq, cond, Err, false, get_or, IfErr, IfOk, IfSome, if◌then◌else◌, is_none, is_some, le_trans, length, List, map, MutBor, nat_le, negsuc, None, Ok, ok_or, Option, option_copied, option_map, pos, refl, Result, rules, SFits, Some, String, string_bytes, string_eq, subst, sum, sym, take, true, w32, w64, ℕ, ℤ, ◌↔◌, ◌∙◌, ◌∷◌, ◌≡◌, ◌≤◌}
+pub use Rattle.std.proofs.Common.{◌&&◌, ◌*◌, ◌+◌, ◌++◌, ◌<◌, [], ap, append-nil, ap₂, arith, Bool, Bor, bytes_eq, cond, drop, Err, false, get_or, IfErr, IfOk, IfSome, if◌then◌else◌, is_none, is_some, le_trans, length, List, map, MutBor, nat_le, negsuc, None, Ok, ok_or, Option, option_copied, option_map, pos, refl, Result, rules, SFits, Some, String, string_bytes, string_eq, subst, sum, sym, take, true, w32, w64, ℕ, ℤ, ◌↔◌, ◌∙◌, ◌∷◌, ◌≡◌, ◌≤◌}
 pub use Rattle.std.proofs.lemmas.Bool.{and_parts, false_from_ne_true}
 pub use Rattle.std.proofs.lemmas.Int.{to_z-of_z}
 pub use Rattle.std.proofs.lemmas.List.{get_or-map, length-map, map-append, map_more, take-map, take_all, take_more}

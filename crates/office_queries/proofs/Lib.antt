@@ -1,4 +1,5 @@
 pub mod Common
+pub mod Calls
 pub mod AuditTold
 pub mod PathsTold
 pub mod AllowedTold

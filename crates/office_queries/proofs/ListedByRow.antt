@@ -1,5 +1,5 @@
 -- Whether a deposit is listed, and what is told of it, by its row.
-use Rattle.office_queries.proofs.Common.{◌≡◌, ℕ, ℤ, Bool, true, false, List, Option, Some, None, is_none, is_some, option_map, sym, ap, ◌∙◌, if◌then◌else◌, same_Some, Date, ◌>>=◌, Action, DepositRecord, Refusal, Due, DepositRow, DueRow, Tables, DisposableRow, Wanted, is_allowed_for, is_shown, is_shown_unless, is_wanted, listed_record, disposable_told, record_by, told_if, denial_for, count_of, day_numbered, due_of_number, if_any, option_map_some}
+use Rattle.office_queries.proofs.Common.{◌≡◌, ℕ, ℤ, Bool, true, false, List, Option, Some, None, is_none, is_some, refl, sym, ap, ◌∙◌, if◌then◌else◌, same_Some, Date, ◌>>=◌, Action, DepositRecord, Refusal, Due, DepositRow, DueRow, Tables, DisposableRow, Wanted, is_allowed_for, is_shown, is_shown_unless, is_wanted, listed_record, disposable_told, record_by, told_if, denial_for, count_of, day_numbered, due_of_number, if_any, option_map_some}
 use Rattle.office_core.specs.declared.action.Action.TheVariants as acts
 
 module _ (t : Tables) (role : List ℕ) (day : Date) where
@@ -31,21 +31,16 @@ module _ (t : Tables) (role : List ℕ) (day : Date) where
         by (Some number) told = option_map_some Some (day_numbered number) gone told (λ date _ same. absurd cc)
 
   module _ (wanted : Wanted) (both : DepositRow × DueRow) where
-    pub record_listed : (told : DepositRecord) → is_shown t role day wanted both.0 ≡ Some true → record_by both.0 both.1 ≡ Some told → listed_record t role day wanted both ≡ Some (Some told)
-    record_listed told shown is = ap (λ o. o >>= λ shown. told_if shown (record_by both.0 both.1)) shown ∙ ap (option_map Some) is
-
-    pub none_listed : is_shown t role day wanted both.0 ≡ Some false → listed_record t role day wanted both ≡ Some None
-    none_listed shown = ap (λ o. o >>= λ shown. told_if shown (record_by both.0 both.1)) shown
+    pub listed_if : (shown : Bool) (told : Option DepositRecord) → is_shown t role day wanted both.0 ≡ Some shown → told_if shown (record_by both.0 both.1) ≡ Some told → listed_record t role day wanted both ≡ Some told
+    listed_if shown told is of_row = ap (λ o. o >>= λ shown. told_if shown (record_by both.0 both.1)) is ∙ of_row
 
   -- ---- due lists
 
   module _ (place : DisposableRow) (due : Due) (is_due : due_of_number place.due ≡ Some due) where
-    told_by : (allowed : Bool) → is_allowed_for t role day acts.Dispose place.collection place.class ≡ Some allowed → disposable_told t role day place ≡ told_if allowed (count_of place.number)
-    told_by allowed is =
-        ap (λ o. o >>= λ due. is_allowed_for t role day acts.Dispose place.collection place.class >>= λ allowed. told_if allowed (count_of place.number)) is_due
-        ∙ ap (λ o. o >>= λ allowed. told_if allowed (count_of place.number)) is
-
     -- its number, where that is allowed
     pub number_if_told : (number : ℕ) (allowed : Bool) → is_allowed_for t role day acts.Dispose place.collection place.class ≡ Some allowed → count_of place.number ≡ Some number → disposable_told t role day place ≡ Some (if allowed then Some number else None)
-    number_if_told number true allowed is = told_by true allowed ∙ ap (option_map Some) is
-    number_if_told number false allowed is = told_by false allowed
+    number_if_told number allowed is counted = (λ i. is_due i >>= λ due. is i >>= λ allowed. told_if allowed (counted i)) ∙ by allowed
+      where
+        by : (b : Bool) → told_if b (Some number) ≡ Some (if b then Some number else None)
+        by true = refl
+        by false = refl

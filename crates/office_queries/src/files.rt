@@ -43,6 +43,7 @@ fn file_answer(content: Option<Vec<u8>>) -> Answer
 /// is none.
 ///
 /// Fails with `Memory` or `Store`.
+#[tactic(auto, using(crate::proofs::Calls::calls_in_turn))]
 fn stored_file<S: Alter>(
     tx: &mut Transaction<'_, S>,
     number: u32,
@@ -65,6 +66,7 @@ fn stored_file<S: Alter>(
 /// path is any bytes: one that no bag may have is that of no file.
 ///
 /// Fails with `Memory` or `Store`, as where it is not.
+#[tactic(auto, using(office_contents::proofs::InTurn::then_in_turn))]
 pub fn download_file<S: Alter>(
     tx: &mut Transaction<'_, S>,
     day: Day,

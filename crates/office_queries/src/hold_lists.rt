@@ -18,6 +18,7 @@ use sqlite::{Alter, Transaction};
 use std::alloc::Global;
 
 /// What is told of the holds of these numbers.
+#[tactic(auto, using(crate::proofs::Calls::calls_in_turn))]
 fn told_each<S: Alter>(
     alloc: Global,
     tx: &mut Transaction<'_, S>,
@@ -36,6 +37,7 @@ fn told_each<S: Alter>(
 
 /// What is told of the live holds that cover the deposit of that number, which is of that collection
 /// and that class.
+#[tactic(auto, using(office_contents::proofs::InTurn::then_in_turn))]
 fn told_holds<S: Alter>(
     alloc: Global,
     tx: &mut Transaction<'_, S>,

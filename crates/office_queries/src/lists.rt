@@ -116,6 +116,7 @@ fn shown_among<S: Alter>(
 /// and that class, where one is named.
 ///
 /// Fails with `Memory` or `Store`.
+#[tactic(auto, using(crate::proofs::Calls::calls))]
 pub fn list<S: Alter>(
     alloc: Global,
     tx: &mut Transaction<'_, S>,

@@ -1,9 +1,6 @@
-use Rattle.office_queries.proofs.Lemmas.{Ok, take, GoesOnInTurn, disposable_told, role_name, AreTold}
+use Rattle.office_queries.proofs.Lemmas.{take, disposable_told, role_name, AreTold}
 use Rattle.office_core.specs.declared.action.Action.TheVariants as acts
 use Rattle.office_queries.proofs.due_lists.allowed_among.Given as goal
 
 abbrev pub invariant-loop-place : goal.invariant-loop-place
-invariant-loop-place g l = record {
-  inside : GoesOnInTurn {T = Unit {0}} g.S.Store l.fn.tx.conn l.tx.conn (Ok tt);
-  reads : AreTold acts.Dispose disposable_told g.S.Store l.fn.tx.conn.now l.tx.conn.now (role_name l.asker) l.asker.day l.allowances (take l.place-index l.places) l.numbers.items;
-}
+invariant-loop-place g l = AreTold acts.Dispose disposable_told g.S.Store l.fn.tx.conn l.tx.conn (role_name l.asker) l.asker.day l.allowances (take l.place-index l.places) l.numbers.items

@@ -1,9 +1,6 @@
-use Rattle.office_queries.proofs.Lemmas.{refl, then_in_turn, visit_on, answered_after, refused_after}
+use Rattle.office_queries.proofs.Lemmas.{refl, visit_on, answered_after, refused_after}
 use Rattle.office_core.specs.declared.request.Request.TheVariants as requests
 use Rattle.office_queries.proofs.files.download_file.Goals as goal
-
-pub returns-in-Ok-clause-inside : goal.returns-in-Ok-clause-inside
-returns-in-Ok-clause-inside g c = then_in_turn c.in_ok-kept_deposit.ensures.inside c.stored_file.ensures.inside
 
 pub returns-in-Ok-clause-serves : goal.returns-in-Ok-clause-serves
 returns-in-Ok-clause-serves g c =

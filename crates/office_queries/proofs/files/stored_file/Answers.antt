@@ -1,4 +1,4 @@
-use Rattle.office_queries.proofs.Common.{rules, ap, refl, ◌∙◌, ◌≡◌, ℕ, pos, Bool, List, Option, None, Some, true, subst, sym, option_copied, option_map, if◌then◌else◌, IfSome, Ok, Bor, state, Request, FileRow, Tables, file_at, in_turn, inside_as, none_called, turn_failed, file_answer, content_stored, Contents, Rows, contents_after, is_intact_at, rows_of, downloads_intact}
+use Rattle.office_queries.proofs.Common.{ap, refl, ◌∙◌, ◌≡◌, ℕ, pos, Bool, List, Option, None, Some, true, subst, sym, option_copied, option_map, if◌then◌else◌, IfSome, Bor, state, Request, FileRow, Tables, file_at, file_answer, content_stored, Contents, Rows, contents_after, is_intact_at, rows_of, downloads_intact}
 use Rattle.bag_text.specs.Paths.{is_good}
 use Rattle.office_core.specs.declared.request.Request.TheVariants as requests
 use Rattle.office_queries.proofs.PathsTold.{spelled, unspelled}
@@ -13,15 +13,6 @@ leaves t request (Some content) k = refl
 served : {X : Type 0} (r : Rows) (n : ℕ) (path : Bor (List ℕ)) (bytes : X → List ℕ) (content : Option X) → IfSome content (λ _. is_intact_at n path.now r ≡ true) → downloads_intact r (requests.DownloadFile n path) (file_answer (option_map bytes content)) ≡ true
 served r n path bytes None intact = refl
 served r n path bytes (Some content) intact = intact
-
-pub returns-in_ok-content-in-Some-clause-inside : goal.returns-in_ok-content-in-Some-clause-inside
-returns-in_ok-content-in-Some-clause-inside g c = in_turn (inside_as c.in_ok-content-in-Some.ensures.inside _ tt)
-
-pub returns-in_err-content-in-Some-clause-inside : goal.returns-in_err-content-in-Some-clause-inside
-returns-in_err-content-in-Some-clause-inside g c = turn_failed (none_called {B = Unit {0}} (Ok tt) tt) (in_turn c.intact_file_of.ensures.inside) _ (search rules) (search rules)
-
-pub returns-in-None-clause-inside : goal.returns-in-None-clause-inside
-returns-in-None-clause-inside g c = none_called _ tt
 
 pub returns-in_ok-content-in-Some-clause-reads : goal.returns-in_ok-content-in-Some-clause-reads
 returns-in_ok-content-in-Some-clause-reads g c clean office =

@@ -1,4 +1,4 @@
-use Rattle.office_queries.proofs.Lemmas.{rules, ◌≡◌, ◌∙◌, ℕ, ◌+◌, ◌<◌, refl, sym, ap, subst, List, [], ◌∷◌, ◌++◌, Some, pos, map, take, length, get_or, arith, take_all, HasCleanDisk, state, Tables, tables_of, clean_first, in_turn, none_called, turn_as, turn_failed, turn_then, told_hold, all_told, office_still, all_next}
+use Rattle.office_queries.proofs.Lemmas.{◌≡◌, ◌∙◌, ℕ, ◌+◌, ◌<◌, refl, sym, ap, subst, List, [], ◌∷◌, ◌++◌, Some, pos, map, take, length, get_or, arith, take_all, HasCleanDisk, state, Tables, tables_of, clean_first, in_turn, none_called, turn_as, turn_then, told_hold, all_told, office_still, all_next}
 use Rattle.office_core.specs.declared.answer.LiveHold.{LiveHold}
 use Rattle.office_queries.proofs.hold_lists.told_each.Goals as goal
 
@@ -29,12 +29,6 @@ loop-number-init g c = record {
   inside = none_called _ tt;
   reads = λ clean office. (refl, ap Some (sym c.new-told.ensures.items));
 }
-
-pub returns-in_err-told_hold-clause-inside : goal.returns-in_err-told_hold-clause-inside
-returns-in_err-told_hold-clause-inside g c = turn_failed c.loop-number.invariant.inside (in_turn c.told_hold.ensures.inside) _ (search rules) (search rules)
-
-pub returns-in_err-push-clause-inside : goal.returns-in_err-push-clause-inside
-returns-in_err-push-clause-inside g c = turn_as (turn_then c.loop-number.invariant.inside (in_turn c.in_ok-told_hold.ensures.inside)) _ (search rules)
 
 pub returns-clause-reads : goal.returns-clause-reads
 returns-clause-reads g c clean office =

@@ -1,9 +1,6 @@
-use Rattle.office_queries.proofs.Common.{ap, ◌∙◌, map, pos, ◌≡◌, Some, None, if◌then◌else◌, sym, IfOk-weaker, state, tables_of, office_still, told_before, clean_first, then_in_turn, told_hold, all_told}
+use Rattle.office_queries.proofs.Common.{ap, ◌∙◌, map, pos, ◌≡◌, Some, None, if◌then◌else◌, sym, IfOk-weaker, state, tables_of, office_still, told_before, clean_first, told_hold, all_told}
 use Rattle.office_rows.specs.Rows as rows
 use Rattle.office_queries.proofs.hold_lists.told_holds.Goals as goal
-
-pub returns-clause-inside : goal.returns-clause-inside
-returns-clause-inside g c = then_in_turn c.in_ok-numbers.ensures.inside c.told_each.ensures.inside
 
 pub returns-clause-reads : goal.returns-clause-reads
 returns-clause-reads g c clean office =

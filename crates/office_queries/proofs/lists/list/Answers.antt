@@ -1,16 +1,7 @@
-use Rattle.office_queries.proofs.Common.{rules, option_map, ◌≡◌, refl, ap, ◌∙◌, option_copied, Some, sym, state, beside, tables_of, visit_on, role_name, office_still, told_before, wanted_of, clean_first, failed_in_turn, inside_as, inside_failed, inside_then, then_in_turn, ◌>>=◌, listed_record, listed_records, things_told, read_by}
+use Rattle.office_queries.proofs.Common.{rules, option_map, ◌≡◌, refl, ap, ◌∙◌, option_copied, Some, sym, state, beside, tables_of, visit_on, role_name, office_still, told_before, wanted_of, clean_first, ◌>>=◌, listed_record, listed_records, things_told, read_by}
 use Rattle.office_core.specs.declared.answer.Answer.TheVariants as answers
 use Rattle.office_core.specs.declared.request.Request.TheVariants as requests
 use Rattle.office_queries.proofs.lists.list.Goals as goal
-
-pub returns-in_err-rows-clause-inside : goal.returns-in_err-rows-clause-inside
-returns-in_err-rows-clause-inside g c = inside_failed c.in_ok-asker.ensures.inside c.deposits_and_dues.ensures.inside _ (search rules) (search rules)
-
-pub returns-in_err-told-clause-inside : goal.returns-in_err-told-clause-inside
-returns-in_err-told-clause-inside g c = failed_in_turn (inside_then c.in_ok-asker.ensures.inside c.in_ok-rows.ensures.inside) c.shown_among.ensures.inside _ (search rules) (search rules)
-
-pub returns-clause-inside : goal.returns-clause-inside
-returns-clause-inside g c = inside_as (then_in_turn (inside_then c.in_ok-asker.ensures.inside c.in_ok-rows.ensures.inside) c.in_ok-told.ensures.inside) _ (search rules)
 
 pub returns-clause-serves : goal.returns-clause-serves
 returns-clause-serves g c clean office =

@@ -1,29 +1,20 @@
-use Rattle.office_queries.proofs.Lemmas.{arith, rules, ◌≡◌, ◌++◌, [], length, get_or, ap, sym, ◌∙◌, append-nil, Some, cons_option, state, tables_of, in_turn, turn_as, turn_failed, turn_then, listed_record, role_name, wanted_of, things_all, told_next}
+use Rattle.office_queries.proofs.Lemmas.{arith, rules, ◌≡◌, ◌++◌, [], length, get_or, ap, sym, ◌∙◌, append-nil, cons_option, turn_as, turn_failed, turn_then, listed_record, role_name, wanted_of, none_told, told_next, told_of_all}
 use Rattle.office_core.specs.declared.action.Action.TheVariants as acts
 use Rattle.office_queries.proofs.lists.shown_among.Goals.{in-Some+in_ok-push, in_default}
 use Rattle.office_queries.proofs.lists.shown_among.Goals as goal
 
+pub loop-row-init : goal.loop-row-init
+loop-row-init g c = none_told acts.List (λ t role day. listed_record t role day (wanted_of c.args.collection c.args.class)) (role_name c.args.asker.now) c.args.asker.now.day c.in_ok-allowances.ensures.inside c.in_ok-allowances.ensures.reads c.new-told.result.items c.new-told.ensures.items
+
 pub loop-row-preserved : goal.loop-row-preserved
 loop-row-preserved g c =
     let a = c.args in
-    let inv = c.loop-row.invariant in
     let item : c.row-item.result ≡ get_or a.rows.now c.loop-row.row-index c.row-item.result = search rules in
     let told = c.loop-row.told.items in
-    record {
-      inside = turn_as (turn_then inv.inside c.in_ok-record.ensures.inside) _ tt;
-      reads = told_next acts.List (λ t role day. listed_record t role day (wanted_of a.collection a.class)) (role_name a.asker.now) a.asker.now.day c.loop-row.allowances c.shown_record.new.allowances a.rows.now c.loop-row.row-index c.row-item.result c.loop-row-test.true item told _ (elim c.match-branch-3.branch [
-        | in-Some+in_ok-push w ↦ ap (λ v. v.items) w.told-is ∙ w.in_ok-push.ensures.items ∙ ap (λ o. told ++ cons_option o []) (sym w.in-Some.is)
-        | in_default w ↦ ap (λ v. v.items) w.told-is ∙ sym (append-nil told) ∙ ap (λ o. told ++ cons_option o []) (sym w.in_default.is)
-      ]) inv.inside inv.reads c.in_ok-record.ensures.inside c.in_ok-record.ensures.reads;
-    }
-
-pub loop-row-init : goal.loop-row-init
-loop-row-init g c = record {
-  inside = turn_as (in_turn c.in_ok-allowances.ensures.inside) _ tt;
-  reads = λ clean office.
-      let read = c.in_ok-allowances.ensures.reads clean office in
-      (read.0, read.1, ap Some (sym c.new-told.ensures.items));
-}
+    told_next acts.List (λ t role day. listed_record t role day (wanted_of a.collection a.class)) (role_name a.asker.now) a.asker.now.day c.shown_record.new.allowances a.rows.now c.loop-row.row-index c.row-item.result c.loop-row-test.true item told _ (elim c.match-branch-3.branch [
+      | in-Some+in_ok-push w ↦ ap (λ v. v.items) w.told-is ∙ w.in_ok-push.ensures.items ∙ ap (λ o. told ++ cons_option o []) (sym w.in-Some.is)
+      | in_default w ↦ ap (λ v. v.items) w.told-is ∙ sym (append-nil told) ∙ ap (λ o. told ++ cons_option o []) (sym w.in_default.is)
+    ]) c.loop-row.invariant c.in_ok-record.ensures.inside c.in_ok-record.ensures.reads
 
 pub returns-in_err-record-clause-inside : goal.returns-in_err-record-clause-inside
 returns-in_err-record-clause-inside g c = turn_failed c.loop-row.invariant.inside c.shown_record.ensures.inside _ (search rules) (search rules)
@@ -32,9 +23,7 @@ pub returns-in_err-push-clause-inside : goal.returns-in_err-push-clause-inside
 returns-in_err-push-clause-inside g c = turn_as (turn_then c.loop-row.invariant.inside c.in_ok-record.ensures.inside) _ (search rules)
 
 pub returns-clause-reads : goal.returns-clause-reads
-returns-clause-reads g c clean office =
+returns-clause-reads g c =
     let a = c.args in
-    let read = c.loop-row.invariant.reads clean office in
-    let t = tables_of (state g.S.Store a.tx.now.conn.now).now in
     let finished : c.loop-row.row-index ≡ length a.rows.now = omega (arith, c.loop-row-test.false, c.loop-row.auto.row-index-end) in
-    (read.0, things_all (listed_record t (role_name a.asker.now) a.asker.now.day (wanted_of a.collection a.class)) a.rows.now c.loop-row.row-index finished c.loop-row.told.items read.2)
+    told_of_all acts.List (λ t role day. listed_record t role day (wanted_of a.collection a.class)) (role_name a.asker.now) a.asker.now.day a.rows.now c.loop-row.row-index finished c.loop-row.told.items c.loop-row.invariant

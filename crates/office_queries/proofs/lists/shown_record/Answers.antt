@@ -1,4 +1,4 @@
-use Rattle.office_queries.proofs.Common.{rules, ◌≡◌, true, false, Some, ap, sym, ◌∙◌, state, tables_of, wanted_of, is_shown, record_by}
+use Rattle.office_queries.proofs.Common.{None, refl, option_map, rules, ◌≡◌, true, false, Some, ap, sym, ◌∙◌, state, tables_of, wanted_of, is_shown, record_by}
 use Rattle.office_queries.proofs.ListedByRow as listed
 use Rattle.office_queries.proofs.lists.shown_record.Goals as goal
 
@@ -15,7 +15,7 @@ returns-in_ok-record_in-clause-reads g c clean office =
       found.0,
       λ role day these.
           let said = found.1 role day these in
-          (said.0, listed.record_listed t role day wanted both c.in_ok-record_in.field-0 (ap (is_shown t role day wanted) (sym same) ∙ said.1 ∙ ap Some shown) told),
+          (said.0, listed.listed_if t role day wanted both true (Some c.in_ok-record_in.field-0) (ap (is_shown t role day wanted) (sym same) ∙ said.1 ∙ ap Some shown) (ap (option_map Some) told)),
     )
 
 pub returns-else-branch-clause-reads : goal.returns-else-branch-clause-reads
@@ -30,5 +30,5 @@ returns-else-branch-clause-reads g c clean office =
       found.0,
       λ role day these.
           let said = found.1 role day these in
-          (said.0, listed.none_listed t role day wanted both (ap (is_shown t role day wanted) (sym same) ∙ said.1 ∙ ap Some hidden)),
+          (said.0, listed.listed_if t role day wanted both false None (ap (is_shown t role day wanted) (sym same) ∙ said.1 ∙ ap Some hidden) refl),
     )

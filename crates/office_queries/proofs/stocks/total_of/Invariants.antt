@@ -1,5 +1,6 @@
-use Rattle.office_queries.proofs.Common.{◌≡◌, ◌<◌, ℕ, List, map, pos, sum, take}
+use Rattle.office_queries.proofs.Common.{◌≡◌, ◌<◌, drop, map, total_by}
+use Rattle.office_queries.proofs.Totals.{total_after}
 use Rattle.office_queries.proofs.stocks.total_of.Given as goal
 
 abbrev pub invariant-loop-size : goal.invariant-loop-size
-invariant-loop-size l = (parts : List ℕ) × (map (λ s. s.size) (take l.size-index l.sizes) ≡ map pos parts) × (l.bytes ≡ sum parts) × (l.bytes < 18446744073709551616)
+invariant-loop-size l = (total_by (map (λ s. s.size) l.sizes) ≡ total_after l.bytes (map (λ s. s.size) (drop l.size-index l.sizes))) × (l.bytes < 18446744073709551616)
