@@ -6,7 +6,7 @@ use Rattle.desk_hearing.specs.Hearing.{Hears}
 use Rattle.desk_answers.specs.Answers.{answer_text}
 use Rattle.desk_serving.specs.declared.serving.DeskFault.{DeskFault}
 use Rattle.desk_serving.specs.declared.serving.DeskFault.TheVariants.{Read, Write, Memory}
-use Rattle.office_commands.specs.declared.fault.StoreFault.TheVariants.{Device}
+use Rattle.office_stores.specs.declared.fault.StoreFault.TheVariants.{Device}
 use Rattle.office_commands.proofs.PrintingLemmas.{appends_nothing}
 
 -- the bytes that the input gives, and no fewer than it had, are answered with this text

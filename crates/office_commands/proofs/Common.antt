@@ -6,14 +6,16 @@ pub use Rattle.http_desk.specs.Replaying.{AnswersEach, HasAnswered, HasDone, Mom
 pub use Rattle.jiff.specs.Types.{Date}
 pub use Rattle.office_access.specs.Pictures.{Pictures, PicturesAt}
 pub use Rattle.office_commands.specs.Deeds.{answers, AreDone, by_desk, by_office, Deed, deeds_of_connections, deeds_of_records, fails, installs, IsAnsweredFrom, IsDone, LeadOn, Leads, records_of_connections, texts_of_connections}
-pub use Rattle.office_commands.specs.Stores.{GoesOnFrom, InFile, InMemory, IsOfficeOver, IsOpenedFrom, LeadsInto, made_office, RunsAndCloses, RunsInFile, RunsInMemory, RunsOver, SomeOffice}
+pub use Rattle.office_commands.specs.Stores.{InFile, InMemory, IsUnfound, IsUnopened, LeadsInto, RunsInFile, RunsInMemory, RunsOn}
 pub use Rattle.office_commands.specs.Tasks.{all_input, AreAnsweredBy, ComesOfAsk, ComesOfReplay, DoesTask, install_of, IsLogOf, IsPortFor, IsServedItsOwn, Listens, makes_office, ReplaysAfter, ReplaysInPart, Task}
-pub use Rattle.office_commands.specs.Texts.{desk_failure, IsUnclosable, IsUnheard, IsUninstalled, IsUnsaid, replay_failure}
+pub use Rattle.office_commands.specs.Texts.{desk_failure, replay_failure}
+pub use Rattle.office_stores.specs.Stores.{IsClosedAfter, IsOpenedFrom, IsUnhad, made_office}
+pub use Rattle.office_stores.specs.Texts.{IsUnclosable, IsUnheard, IsUninstalled, IsUnsaid}
 pub use Rattle.office_commands.specs.Traffic.{logged_traffic, LoggedTraffic, Said, said_in, Traffic, Upshot}
-pub use Rattle.office_commands.specs.declared.done.Done.{Done}
-pub use Rattle.office_commands.specs.declared.fault.Cause.TheVariants.{Output}
-pub use Rattle.office_commands.specs.declared.fault.CommandFault.{CommandFault}
-pub use Rattle.office_commands.specs.declared.fault.CommandFault.TheVariants.{Failed}
+pub use Rattle.office_stores.specs.declared.done.Done.{Done}
+pub use Rattle.office_stores.specs.declared.fault.Cause.TheVariants.{Output}
+pub use Rattle.office_stores.specs.declared.fault.CommandFault.{CommandFault}
+pub use Rattle.office_stores.specs.declared.fault.CommandFault.TheVariants.{Failed}
 pub use Rattle.office_commands.specs.declared.work.Work.TheVariants.{Ask, Policy, Replay, Serve}
 pub use Rattle.office_core.specs.declared.answer.Answer.{Answer}
 pub use Rattle.office_engine.specs.Storing.{after_policy, IsStoredBy, IsLeftAt, IsLeftOf, IsLegalAndStored, HasSameTables}

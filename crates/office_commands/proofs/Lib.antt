@@ -1,7 +1,6 @@
 pub mod Common
 pub mod AskingLemmas
 pub mod DeedLemmas
-pub mod FileLemmas
 pub mod ListeningLemmas
 pub mod PrintingLemmas
 pub mod ReplayingLemmas

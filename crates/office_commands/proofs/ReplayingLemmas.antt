@@ -5,9 +5,9 @@ use Rattle.http_desk.specs.RecordLists.{answer_texts}
 use Rattle.http_desk.specs.declared.replaying.ReplayFault.{ReplayFault}
 use Rattle.http_desk.specs.declared.replaying.ReplayStop.{ReplayStop}
 use Rattle.http_desk.specs.declared.replaying.ReplayStop.TheVariants as stops
-use Rattle.office_commands.specs.declared.fault.Cause.{Cause}
-use Rattle.office_commands.specs.declared.fault.StoreFault.{StoreFault}
-use Rattle.office_commands.specs.declared.fault.StoreFault.TheVariants.{Device, Memory}
+use Rattle.office_stores.specs.declared.fault.Cause.{Cause}
+use Rattle.office_stores.specs.declared.fault.StoreFault.{StoreFault}
+use Rattle.office_stores.specs.declared.fault.StoreFault.TheVariants.{Device, Memory}
 use Rattle.office_commands.proofs.DeedLemmas.{as_many, records_are_done}
 
 -- the records are read, and their answers are so many deeds

@@ -8,7 +8,8 @@ use Rattle.streams.specs.Writing.{IsCutShort}
 use Rattle.commands.specs.declared.ending.Ending.TheVariants.{Refused}
 use Rattle.commands.specs.PolicyFiles.{IsAllOf, IsRead}
 use Rattle.office_commands.specs.Policies.{installed_text}
-use Rattle.office_commands.specs.Works.{ComesOfWork, ComesOfBytes, ComesOfFile, IsQuiet, SaysInstalled, SaysRefused, read_policy, refused_policy}
+use Rattle.office_commands.specs.Works.{ComesOfWork, ComesOfBytes, ComesOfFile, SaysInstalled, SaysRefused, read_policy, refused_policy}
+use Rattle.office_stores.specs.Texts.{IsQuiet}
 use Rattle.commands.specs.declared.policy_file.RefusedPolicy.{RefusedPolicy}
 use Rattle.commands.specs.declared.trouble.Trouble.{Trouble}
 use Rattle.office_commands.specs.declared.work.Work.{Work}

@@ -1,10 +1,10 @@
 -- What comes of a policy's file.
 use Rattle.std.specs.Prelude.{◌++◌, ◌∷◌, [], ℕ, List, Some, ⊤, codes, decimal, length}
 use Rattle.office_core.specs.Policies.{PolicyValue}
-use Rattle.office_commands.specs.declared.fault.Cause.TheVariants.{Policy}
-use Rattle.office_commands.specs.declared.fault.CommandFault.{CommandFault}
-use Rattle.office_commands.specs.declared.fault.CommandFault.TheVariants.{Failed}
-use Rattle.office_commands.specs.declared.fault.StoreFault.TheVariants.{Device, Memory}
+use Rattle.office_stores.specs.declared.fault.Cause.TheVariants.{Policy}
+use Rattle.office_stores.specs.declared.fault.CommandFault.{CommandFault}
+use Rattle.office_stores.specs.declared.fault.CommandFault.TheVariants.{Failed}
+use Rattle.office_stores.specs.declared.fault.StoreFault.TheVariants.{Device, Memory}
 
 -- the file could not be read, or there was no memory
 abbrev pub IsUnread : CommandFault → Type 0

@@ -1,53 +1,25 @@
--- An office that is made in memory, or opened in a file and closed again, and what is done with it.
-use Rattle.std.specs.Prelude.{◌≡◌, ◌≢◌, ◌⊎◌, ℕ, List, Bool, IsTrue, Result, IsErrAnd, false, true, codes}
+-- What is done with an office that is made in memory, or opened in a file and closed again.
+use Rattle.std.specs.Prelude.{◌≡◌, ◌≢◌, ◌⊎◌, ℕ, List, Bool, Result, IsErrAnd, false, true, codes}
 use Rattle.sqlite_disk.specs.declared.Disk as disk
 use Rattle.sqlite_disk.specs.declared.Files.{Files}
 use Rattle.sqlite_wal.specs.Reads.{AreClean}
 use Rattle.sqlite.specs.Recovery.{Image}
 use Rattle.sqlite.specs.Closing.{IsCopied}
-use Rattle.sqlite.specs.Effect.{Database}
-use Rattle.sqlite.specs.Files.{AreFoundIn, HoldsDatabase, file_state, over_files}
+use Rattle.sqlite.specs.Files.{over_files}
 use Rattle.sqlite.specs.Held.{Held, state}
-use Rattle.sqlite.specs.State.{State, HasCleanDisk}
 use Rattle.sqlite.specs.Steps.{over_memory}
-use Rattle.sqlite.specs.Store.{Ghosts}
-use Rattle.sqlite.specs.Tree.{Trees}
 use Rattle.sqlite.specs.declared.FileStore.{FileStore}
 use Rattle.sqlite.specs.declared.MemStore.{MemStore}
-use Rattle.office_rows.specs.Rows.{max_limit}
-use Rattle.office_tables.specs.Opening.{has_office}
-use Rattle.office_contents.specs.Schema.{no_schema}
 use Rattle.office_history.specs.Histories.{History}
-use Rattle.office_history.specs.Runs.{IsLegal, new_history}
+use Rattle.office_history.specs.Runs.{IsLegal}
 use Rattle.office_tables.specs.Found.{HoldsWhere}
-use Rattle.office_contents.specs.declared.version.TableVersion.{TableVersion}
-use Rattle.office_engine.specs.Storing.{IsStoredBy, IsLeftAt, IsLeftOf}
+use Rattle.office_engine.specs.Storing.{IsStoredBy, IsLeftOf}
 use Rattle.office_commands.specs.Deeds.{AreDone, Deed, LeadOn}
 use Rattle.office_commands.specs.Tasks.{ComesOfTask, Task, makes_office}
-use Rattle.office_commands.specs.Texts.{IsUnclosable, IsUnopenable, found_nothing, is_sought}
 use Rattle.office_commands.specs.Traffic.{Upshot}
-use Rattle.office_commands.specs.declared.fault.CommandFault.{CommandFault}
-
--- the history of an office that was just made
-abbrev pub made_office : History
-made_office = new_history max_limit max_limit
-
--- whichever history was left so, by tables of any known version, is kept
-abbrev pub GoesOnFrom : (TableVersion → History → Type 0) → State → Type 0
-GoesOnFrom Left s = (version : TableVersion) (h : History) → Left version h → IsStoredBy h s
-
--- An office is had over a connection: it is made there, where `is_new`, and then the database was empty; or it was there. On an honest disk it keeps then
--- the new history, or whichever was left there.
-pub record IsOfficeOver {S : Type 0} (g : Ghosts S) (conn : Held S) (is_new : Bool) (office : Held S) : Type 0 where
-  pub clean : HasCleanDisk (state g office) → HasCleanDisk (state g conn)
-  pub empty : is_new ≡ true → (state g conn).now.schema ≢ no_schema → ⊥
-  pub made : is_new ≡ true → HasCleanDisk (state g office) → IsStoredBy made_office (state g office)
-  pub was_there : is_new ≡ false → HasCleanDisk (state g office) → IsTrue (has_office (state g conn).now.schema)
-  pub goes_on : is_new ≡ false → HasCleanDisk (state g office) → GoesOnFrom (λ version h. IsLeftAt version h (state g conn).now.trees) (state g office)
-
--- there is such an office, of which this is so
-abbrev pub SomeOffice : {S : Type 0} → (Held S → Type 0) → (Held S → Type 0) → Type 0
-SomeOffice {S} Is Then = (office : Held S) × Is office × Then office
+use Rattle.office_stores.specs.Stores.{IsOpenedFrom, made_office}
+use Rattle.office_stores.specs.Texts.{IsUnclosable, IsUnopenable, found_nothing, is_sought}
+use Rattle.office_stores.specs.declared.fault.CommandFault.{CommandFault}
 
 -- ---- in memory
 
@@ -59,18 +31,6 @@ pub record InMemory (deeds : List Deed) : Type 0 where
   pub done : AreDone over_memory deeds old new
 
 -- ---- in a file
-
--- files that hold this show this database
-pub record Show (image : Image) (shown : Database) : Type 0 where
-  pub holds : (db : Trees) → HoldsDatabase image db → shown.trees ≡ db
-  pub reads : AreFoundIn image shown.trees
-
--- An office was opened from files that held this at first. On an honest disk it keeps the history that they held; and they showed a database with the table
--- of an office, or it is one that was just made, where it might be.
-pub record IsOpenedFrom {D : Type 0} (g : disk.Ghosts D) (first : Image) (makes : Bool) (office : Held (FileStore D g)) : Type 0 where
-  pub found : HasCleanDisk (file_state office) → GoesOnFrom (λ version h. HoldsWhere (IsLeftAt version h) first) (file_state office)
-  pub origin : HasCleanDisk (file_state office)
-      → ((shown : Database) × Show first shown × IsTrue (has_office shown.schema)) ⊎ ((makes ≡ true) × IsStoredBy made_office (file_state office))
 
 -- the deeds are done with an open office, and it is closed into these files: on an honest disk all of it is copied
 pub record AreDoneAndClosed {D : Type 0} (g : disk.Ghosts D) (deeds : List Deed) (old : Held (FileStore D g)) (files : Files D) : Type 0 where
@@ -123,10 +83,6 @@ RunsInMemory task upshot = IsUnopened upshot ⊎ ((deeds : List Deed) × ComesOf
 abbrev pub RunsAndCloses : {D T : Type 0} → (g : disk.Ghosts D) → Held (FileStore D g) → Task → Upshot T → Type 0
 RunsAndCloses {D} g old task upshot =
     ((deeds : List Deed) × (files : Files D) × ComesOfTask task upshot deeds × AreDoneAndClosed g deeds old files) ⊎ IsUnclosed g old task upshot
-
--- the task is done with the office of a connection, which is closed; or the office can't be had
-abbrev pub RunsOver : {D T : Type 0} → (g : disk.Ghosts D) → Held (FileStore D g) → Bool → Task → Upshot T → Type 0
-RunsOver g conn is_new task upshot = IsUnopened upshot ⊎ SomeOffice (IsOfficeOver over_files conn is_new) (λ office. RunsAndCloses g office task upshot)
 
 -- the task is done with the office in a file
 abbrev pub RunsInFile : {D T : Type 0} → disk.Ghosts D → Image → Task → Upshot T → Type 0

@@ -21,13 +21,13 @@ use Rattle.http_desk.specs.RecordLists.{AreRecords, answer_texts, max_records, r
 use Rattle.http_desk.specs.Replaying.{IsBegun, IsNoRecord}
 use Rattle.streams.specs.Writing.{IsCutShort}
 use Rattle.office_commands.specs.Deeds.{AreDone, Deed, answers, deeds_of_connections, deeds_of_records, fails, installs}
-use Rattle.office_commands.specs.Texts.{IsUnaccepted, IsUnheard, IsUninstalled, IsUnsaid}
+use Rattle.office_stores.specs.Texts.{IsUnaccepted, IsUnheard, IsUninstalled, IsUnsaid}
 use Rattle.office_commands.specs.Traffic.{Begins, InputGives, IsUnlogged, Said, Traffic, Upshot, WritesText, said_in}
-use Rattle.office_commands.specs.declared.fault.Cause.TheVariants.{Input, Output}
-use Rattle.office_commands.specs.declared.fault.CommandFault.{CommandFault}
-use Rattle.office_commands.specs.declared.fault.CommandFault.TheVariants as faults
-use Rattle.office_commands.specs.declared.fault.CommandFault.TheVariants.{BadRecord, Failed}
-use Rattle.office_commands.specs.declared.fault.StoreFault.TheVariants.{Device, Memory}
+use Rattle.office_stores.specs.declared.fault.Cause.TheVariants.{Input, Output}
+use Rattle.office_stores.specs.declared.fault.CommandFault.{CommandFault}
+use Rattle.office_stores.specs.declared.fault.CommandFault.TheVariants as faults
+use Rattle.office_stores.specs.declared.fault.CommandFault.TheVariants.{BadRecord, Failed}
+use Rattle.office_stores.specs.declared.fault.StoreFault.TheVariants.{Device, Memory}
 use Rattle.office_commands.specs.declared.work.Work.{Work}
 use Rattle.office_commands.specs.declared.work.Work.TheVariants.{Ask, Policy, Replay, Serve}
 

@@ -7,7 +7,7 @@ use Rattle.desk_devices.specs.Devices.{device_of}
 use Rattle.desk_devices.specs.declared.counted.Counted.{Counted}
 use Rattle.desk_log.specs.Logging.{Log, log_of}
 use Rattle.streams.specs.Writing.{IsCutShort}
-use Rattle.office_commands.specs.declared.fault.CommandFault.{CommandFault}
+use Rattle.office_stores.specs.declared.fault.CommandFault.{CommandFault}
 
 pub record Traffic : Type 0 where
   -- what the input still has

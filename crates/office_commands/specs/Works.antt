@@ -6,22 +6,18 @@ use Rattle.std.specs.declared.io.Read.{Ghosts as Reads}
 use Rattle.sqlite_disk.specs.declared.Disk.{Ghosts}
 use Rattle.office_core.specs.Policies.{PolicyValue}
 use Rattle.commands.specs.Explaining.{SpellsPolicyBytes, bad_policy_text}
-use Rattle.commands.specs.declared.ending.Ending.TheVariants.{Accepted, Refused}
+use Rattle.commands.specs.declared.ending.Ending.TheVariants.{Refused}
 use Rattle.commands.specs.PolicyFiles.{IsPolicyRefused as IsRefusedFor}
 use Rattle.office_commands.specs.Policies.{IsUnread, installed_text}
 use Rattle.office_commands.specs.Stores.{NamedStore, RunsOn}
-use Rattle.office_commands.specs.Texts.{IsUnsaid}
+use Rattle.office_stores.specs.Texts.{IsQuiet, IsUnsaid}
 use Rattle.office_commands.specs.Traffic.{Begins, IsUnlogged, LoggedTraffic, Traffic, Upshot, WritesText}
-use Rattle.office_commands.specs.declared.done.Done.{Done}
-use Rattle.office_commands.specs.declared.fault.CommandFault.{CommandFault}
-use Rattle.office_commands.specs.declared.fault.CommandFault.TheVariants as faults
+use Rattle.office_stores.specs.declared.done.Done.{Done}
+use Rattle.office_stores.specs.declared.fault.CommandFault.{CommandFault}
+use Rattle.office_stores.specs.declared.fault.CommandFault.TheVariants as faults
 use Rattle.commands.specs.declared.policy_file.RefusedPolicy.{RefusedPolicy}
 use Rattle.office_commands.specs.declared.work.Work.{Work}
 use Rattle.office_commands.specs.declared.work.Work.TheVariants.{Ask, Policy, Replay, Serve}
-
--- the command ends well, and standard error is told nothing
-abbrev pub IsQuiet : Done → Type 0
-IsQuiet done = (done.reason ≡ None) × (done.ending ≡ Accepted)
 
 -- ---- a policy's file comes first
 
@@ -68,12 +64,16 @@ SaysInstalled policy (Err fault) (Ok _) was now = ⊥
 abbrev pub IsRefusedBefore : Type 0 → RefusedPolicy → Upshot Done → Type 0
 IsRefusedBefore alone refused upshot = (upshot.result ≡ Err (faults.Policy refused)) × IsUntouched alone upshot.was upshot.now
 
+-- the policy is installed, and then that is printed
+abbrev pub InstallsAndSays : {D : Type 0} → Ghosts D → NamedStore → Type 0 → Upshot Done → Bor PolicyValue → Type 0
+InstallsAndSays g store alone upshot policy =
+    (ran : Result Done CommandFault) × (mid : LoggedTraffic) × RunsOn g store alone (Policy policy) (record { result = ran; was = upshot.was; now = mid })
+    × SaysInstalled policy.now ran upshot.result mid.streams upshot.now.streams × (upshot.now.log ≡ mid.log)
+
 -- what comes of an install where these are the bytes of the policy's file
 abbrev pub InstallsOf : {D : Type 0} → Ghosts D → NamedStore → Type 0 → Upshot Done → List ℕ → Type 0
 InstallsOf g store alone upshot =
-    ComesOfBytes (λ refused. alone × SaysRefused refused upshot.result upshot.was.streams upshot.now.streams × IsUnlogged upshot)
-    (λ policy. (ran : Result Done CommandFault) × (mid : LoggedTraffic) × RunsOn g store alone (Policy policy) (record { result = ran; was = upshot.was; now = mid })
-    × SaysInstalled policy.now ran upshot.result mid.streams upshot.now.streams × (upshot.now.log ≡ mid.log))
+    ComesOfBytes (λ refused. alone × SaysRefused refused upshot.result upshot.was.streams upshot.now.streams × IsUnlogged upshot) (λ policy. InstallsAndSays g store alone upshot policy)
 
 -- and of a replay under that policy
 abbrev pub ReplaysOf : {D : Type 0} → Ghosts D → NamedStore → Type 0 → Upshot Done → List ℕ → Type 0

@@ -18,7 +18,8 @@ ghost use Rattle.desk_listening.specs.Listening.{Connection};
 ghost use Rattle.desk_serving.specs.Serving.{DeskRequest};
 ghost use Rattle.http_desk.specs.ReplayRuns.{IsRunOf};
 ghost use Rattle.office_commands.specs.Deeds.{AreDone, Deed, LeadOn, deeds_of_connections, deeds_of_records, records_of_connections, texts_of_connections};
-ghost use Rattle.office_commands.specs.Stores.{InFile, InMemory, LeadsInto, made_office};
+ghost use Rattle.office_commands.specs.Stores.{InFile, InMemory, LeadsInto};
+ghost use Rattle.office_stores.specs.Stores.{made_office};
 
 use sqlite::Alter;
 use sqlite_disk::Disk;

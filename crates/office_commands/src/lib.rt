@@ -2,8 +2,6 @@
 //! records, and serves connections.
 #![tactic(auto)]
 
-mod done;
-mod fault;
 mod laws;
 mod listening;
 mod policy_file;
@@ -14,8 +12,6 @@ mod task;
 mod work;
 mod working;
 
-pub use done::Done;
-pub use fault::{Cause, CommandFault, StoreFault};
 pub use laws::{answers_are_runs, deeds_lead_on, files_lead_on, memory_leads_on};
 pub use running::perform;
 pub use work::Work;

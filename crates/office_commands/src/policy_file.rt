@@ -5,9 +5,9 @@ ghost use Rattle.commands.specs.PolicyFiles.{IsRead};
 ghost use Rattle.commands.specs.declared.trouble.Trouble.TheVariants as troubles;
 ghost use Rattle.office_commands.specs.Policies.{IsUnread};
 
-use crate::fault::{Cause, CommandFault, StoreFault, failed_by};
 use commands::{RefusedPolicy, Trouble, read_policy_from};
 use office_core::Policy;
+use office_stores::{Cause, CommandFault, StoreFault, failed_by};
 use std::alloc::Global;
 use std::fs;
 use std::io::Read;

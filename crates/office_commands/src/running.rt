@@ -9,13 +9,11 @@ ghost use Rattle.commands.specs.declared.ending.Ending.TheVariants.{Refused};
 ghost use Rattle.desk_devices.specs.Devices.{device_of};
 ghost use Rattle.office_commands.specs.Policies.{installed_text};
 ghost use Rattle.office_commands.specs.Tasks.{reads_input, writes_log};
-ghost use Rattle.office_commands.specs.Texts.{IsUnsaid};
+ghost use Rattle.office_stores.specs.Texts.{IsQuiet, IsUnsaid};
 ghost use Rattle.office_commands.specs.Traffic.{upshot_of};
-ghost use Rattle.office_commands.specs.Works.{ComesOfNamed, ComesOfWork, InstallsFrom, IsQuiet, IsUnreadFirst, ReplaysFrom};
+ghost use Rattle.office_commands.specs.Works.{ComesOfNamed, ComesOfWork, InstallsAndSays, InstallsFrom, IsUnreadFirst, ReplaysFrom};
 ghost use Rattle.office_commands.specs.declared.work.Work.TheVariants as works;
 
-use crate::done::Done;
-use crate::fault::{CommandFault, StoreFault};
 use crate::policy_file::{PolicyFile, open_policy, policy_from};
 use crate::printing::{installed_line, print};
 use crate::stores::in_store;
@@ -23,6 +21,7 @@ use crate::work::Work;
 use commands::{Ending, RefusedPolicy};
 use http_desk::Counted;
 use office_core::Policy;
+use office_stores::{CommandFault, Done, StoreFault};
 use sqlite::{FileFrom, Start};
 use sqlite_disk::Disk;
 use std::alloc::Global;
@@ -77,6 +76,30 @@ fn say_refused<O: Write>(
     }
 }
 
+/// Installs a policy, and then says so.
+fn install_and_say<S: Start, R: Read, O: Write, E: Write>(
+    rt: &HostRuntime,
+    start: &mut Option<S>,
+    store: &str,
+    policy: &Policy,
+    input: &mut Counted<R>,
+    out: &mut Counted<O>,
+    log: &mut Counted<E>,
+) -> Result<Done, CommandFault>
+    ensures installs { InstallsAndSays ⟦<FileFrom<S> as Disk>⟧
+        (record { name = store.now; first = image_at S.Start }) (start.new ≡ start.old)
+        (upshot_of R.Read O.Write E.Write result (input.old, out.old, log.old)
+        (input.new, out.new, log.new))
+        policy.entry }
+    ensures left { input.new ≡ input.old }
+    ensures unlogged { log.new ≡ log.old }
+{
+    match in_store(rt, start, store, &Work::Policy { policy }, input, out, log) {
+        Ok(_) => say_installed(rt.alloc(), policy, out),
+        Err(fault) => Err(fault),
+    }
+}
+
 /// Installs the policy that the file gives, and then says so. One that is refused leaves the store alone.
 fn install_from<S: Start, P: Read, R: Read, O: Write, E: Write>(
     rt: &HostRuntime,
@@ -95,14 +118,9 @@ fn install_from<S: Start, P: Read, R: Read, O: Write, E: Write>(
     ensures left { input.new ≡ input.old }
     ensures unlogged { log.new ≡ log.old }
 {
-    let policy = match policy_from(rt.alloc(), file) {
-        Ok(Ok(policy)) => policy,
-        Ok(Err(refused)) => return say_refused(rt.alloc(), refused, out),
-        Err(fault) => return Err(fault),
-    };
-    let task = Work::Policy { policy: &policy };
-    match in_store(rt, start, store, &task, input, out, log) {
-        Ok(_) => say_installed(rt.alloc(), &policy, out),
+    match policy_from(rt.alloc(), file) {
+        Ok(Ok(policy)) => install_and_say(rt, start, store, &policy, input, out, log),
+        Ok(Err(refused)) => say_refused(rt.alloc(), refused, out),
         Err(fault) => Err(fault),
     }
 }

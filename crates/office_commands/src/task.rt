@@ -3,16 +3,15 @@
 ghost use Rattle.std.specs.Prelude.{◌≡◌, IfOk, false};
 ghost use Rattle.office_commands.specs.Tasks.{DoesTask, reads_input, writes_log};
 ghost use Rattle.office_commands.specs.Traffic.{upshot_of};
-ghost use Rattle.office_commands.specs.Works.{IsQuiet};
+ghost use Rattle.office_stores.specs.Texts.{IsQuiet};
 
-use crate::done::Done;
-use crate::fault::CommandFault;
 use crate::listening::serve_at;
 use crate::work::Work;
 use crate::working::{ask_office, install_policy, replay_after};
 use http_desk::Counted;
 use office_core::Policy;
 use office_engine::Office;
+use office_stores::{CommandFault, Done};
 use sqlite::Alter;
 use std::io::{Read, Write};
 use std::rt::HostRuntime;

@@ -4,42 +4,19 @@ ghost use Rattle.std.specs.Prelude.{◌≡◌, ◌∷◌, [], IfErr, IfOk, List,
 ghost use Rattle.office_contents.specs.Faults as faults;
 ghost use Rattle.office_commands.specs.Deeds.{AreDone, Deed};
 ghost use Rattle.office_commands.specs.Tasks.{ComesOfAsk, ComesOfReplay, ReplaysAfter, install_of};
-ghost use Rattle.office_commands.specs.Texts.{IsOfStore, IsUninstalled, IsUnopenable, desk_failure, install_failure, is_sought, replay_failure, table_failure, table_fault};
+ghost use Rattle.office_commands.specs.Texts.{desk_failure, replay_failure};
+ghost use Rattle.office_stores.specs.Texts.{IsQuiet, IsUninstalled, install_failure};
 ghost use Rattle.office_commands.specs.Traffic.{traffic_of};
-ghost use Rattle.office_commands.specs.Works.{IsQuiet};
 
-use crate::done::Done;
-use crate::fault::{Cause, CommandFault, StoreFault, failed_by};
 use crate::printing::flush;
 use http_desk::{Counted, DeskFault, ReplayStop, replay, serve_one};
 use office_core::{Day, Policy};
 use office_engine::Office;
+use office_stores::{Cause, CommandFault, Done, StoreFault, failed_by, table_fault};
 use office_tables::TableFault;
 use sqlite::Alter;
 use std::alloc::Global;
 use std::io::{Read, Write};
-
-/// What a fault of the tables is of the store.
-fn table_fault(fault: TableFault) -> StoreFault
-    ensures is { result ≡ table_fault fault }
-    ensures store { IsOfStore result }
-{
-    match fault {
-        TableFault::NotAnOffice => StoreFault::NotAnOffice,
-        TableFault::OtherVersion => StoreFault::OtherVersion,
-        TableFault::Memory => StoreFault::Memory,
-        TableFault::Store => StoreFault::Store,
-    }
-}
-
-/// An office that can't be made or taken up.
-pub fn table_failure(fault: TableFault) -> CommandFault
-    ensures is { result ≡ table_failure fault }
-    ensures sought { is_sought result ≡ false }
-    ensures failure { IsUnopenable result }
-{
-    CommandFault::without_cause(table_fault(fault))
-}
 
 /// A policy that can't be installed.
 fn install_failure(fault: TableFault) -> CommandFault

@@ -11,7 +11,7 @@ use Rattle.commands.specs.declared.outcome.Outcome.{Outcome}
 use Rattle.command_line.specs.declared.use_fault.UseFault.{UseFault}
 use Rattle.command_line.specs.declared.use_fault.UseFault.TheVariants as uses
 use Rattle.desk_devices.specs.declared.counted.Counted.{Counted}
-use Rattle.office_commands.specs.declared.done.Done.{Done}
+use Rattle.office_stores.specs.declared.done.Done.{Done}
 use Rattle.program.specs.Answering.{PrintsIfAny, IsExplained, IsPrinted, IsUnanswered, printed, unanswered}
 use Rattle.program.specs.Streams.{Stream, counted_seen}
 use Rattle.program.specs.Telling.{Refuses, TellsOfUse}

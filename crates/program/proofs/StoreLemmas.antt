@@ -6,8 +6,8 @@ use Rattle.sqlite_disk.specs.declared.Disk.{Ghosts}
 use Rattle.commands.specs.Printing.{IsAnswer}
 use Rattle.office_commands.specs.Traffic.{LoggedTraffic, Traffic}
 use Rattle.office_commands.specs.Works.{ComesOfWork, SaysInstalled, read_policy, refused_policy}
-use Rattle.office_commands.specs.declared.done.Done.{Done}
-use Rattle.office_commands.specs.declared.fault.CommandFault.{CommandFault}
+use Rattle.office_stores.specs.declared.done.Done.{Done}
+use Rattle.office_stores.specs.declared.fault.CommandFault.{CommandFault}
 use Rattle.office_commands.specs.declared.work.Work.{Work}
 use Rattle.office_commands.specs.declared.work.Work.TheVariants.{Ask, Policy, Replay, Serve}
 use Rattle.office_core.specs.Policies.{PolicyValue}

@@ -17,7 +17,7 @@ use Rattle.commands.specs.Printing.{reason_of}
 use Rattle.commands.specs.declared.asked.Asked.{Asked}
 use Rattle.commands.specs.declared.ending.Ending.TheVariants.{Accepted, Refused}
 use Rattle.commands.specs.declared.outcome.Outcome.{Outcome}
-use Rattle.office_commands.specs.declared.done.Done.{Done}
+use Rattle.office_stores.specs.declared.done.Done.{Done}
 use Rattle.program.specs.Streams.{Stream}
 use Rattle.program.specs.declared.stopped.Stopped.{Stopped}
 use Rattle.program.specs.declared.stopped.Stopped.TheVariants.{Folder, Output, Store, Unread}

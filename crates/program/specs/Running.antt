@@ -13,8 +13,8 @@ use Rattle.command_line.specs.declared.line.Line.TheVariants.{Check, Explain, Pa
 use Rattle.office_commands.specs.Traffic.{Upshot}
 use Rattle.office_commands.specs.Tasks.{reads_input as work_reads_input, writes_log as work_writes_log}
 use Rattle.office_commands.specs.Works.{ComesOfWork}
-use Rattle.office_commands.specs.declared.done.Done.{Done}
-use Rattle.office_commands.specs.declared.fault.CommandFault.{CommandFault}
+use Rattle.office_stores.specs.declared.done.Done.{Done}
+use Rattle.office_stores.specs.declared.fault.CommandFault.{CommandFault}
 use Rattle.office_commands.specs.declared.work.Work.{Work}
 use Rattle.office_commands.specs.declared.work.Work.TheVariants as works
 use Rattle.program.specs.Answering.{PrintsIfAny, IsExplained, IsJudged, IsPackSaid, IsUnpackSaid}

@@ -13,7 +13,7 @@ use Rattle.commands.specs.declared.ending.Ending.TheVariants.{Failed, Misused, U
 use Rattle.commands.specs.declared.failure.Failure.TheVariants.{Device, Memory}
 use Rattle.command_line.specs.declared.use_fault.UseFault.{UseFault}
 use Rattle.command_line.specs.declared.use_fault.UseFault.TheVariants as uses
-use Rattle.office_commands.specs.Texts.{ending_of, command_fault_text}
+use Rattle.office_stores.specs.Texts.{ending_of, command_fault_text}
 use Rattle.program.specs.Streams.{Stream}
 use Rattle.program.specs.declared.stopped.Stopped.{Stopped}
 use Rattle.program.specs.declared.stopped.Stopped.TheVariants.{Folder, Output, Store, Unread}

@@ -6,7 +6,7 @@ use bag_folders::Failed;
 use command_line::Line;
 use commands::Trouble;
 use fault_words::{Escaped, OtherFile};
-use office_commands::{Cause, CommandFault, StoreFault};
+use office_stores::{Cause, CommandFault, StoreFault};
 use std::io::ErrorKind;
 use std::{fmt, io};
 

@@ -13,7 +13,7 @@ use crate::stopped::Stopped;
 use crate::telling::{fail, tell, tell_why};
 use command_line::Line;
 use commands::{Ending, Failure};
-use office_commands::Done;
+use office_stores::Done;
 use std::alloc::Global;
 use std::io::Write;
 use streams::write_text;

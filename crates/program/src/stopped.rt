@@ -6,7 +6,7 @@ ghost use Rattle.program.specs.declared.stopped.Stopped.TheVariants.{Unread};
 
 use bag_folders::Failed;
 use commands::{Ending, Failure, Trouble};
-use office_commands::CommandFault;
+use office_stores::CommandFault;
 use std::alloc::{AllocError, Global};
 use std::io;
 

@@ -1,10 +1,17 @@
--- An office that is found in files, and copied into them.
-use Rattle.office_commands.proofs.Common.{◌≡◌, ◌≢◌, ◌∙◌, List, [], ◌∷◌, Bool, Result, Ok, Err, IfOk, IsErr, IsTrue, true, false, inl, inr, refl, sym, ap, subst, Image, State, HasCleanDisk, Opens, IsLive, FindsIn, AreFoundIn, HoldsDatabase, file_state, Held, state, Ghosts, FileStore, TableVersion, History, HoldsWhere, PicturesAt, IsStoredBy, IsLeftAt, IsLeftOf, IsLegalAndStored, GoesOnFrom, IsOfficeOver, IsOpenedFrom, made_office}
+-- An office that is made in memory or found in files, and copied into them.
+use Rattle.office_stores.proofs.Common.{◌≡◌, ◌≢◌, ◌∙◌, List, [], ◌∷◌, Bool, Result, Ok, Err, IfOk, IfErr, IsErr, IsTrue, true, false, inl, inr, refl, sym, ap, subst, Image, State, HasCleanDisk, Opens, IsLive, FindsIn, AreFoundIn, HoldsDatabase, file_state, Held, state, Ghosts, FileStore, TableVersion, History, HoldsWhere, PicturesAt, IsStoredBy, IsLeftAt, IsLeftOf, IsLegalAndStored, GoesOnFrom, IsClosedAfter, IsOfficeOver, IsOpenedFrom, IsUnhad, made_office, over_files, IsOpened, CommandFault, IsUnopenable, is_sought}
 use Rattle.std.proofs.Math.Logic.{∥∥₁_map}
 use Rattle.sqlite.specs.Schema.{Schema}
 use Rattle.sqlite.specs.Table.{Table}
 use Rattle.sqlite.specs.Effect.{Database, IsDatabase}
+use Rattle.std.proofs.lemmas.Bool.{cases_Bool}
+use Rattle.sqlite.specs.Steps.{over_memory}
+use Rattle.sqlite.specs.declared.MemStore.{MemStore}
+use Rattle.sqlite.proofs.Callers.{memory_is_clean}
 use Rattle.sqlite_disk.specs.declared.Disk.{Ghosts as Disks}
+use Rattle.sqlite_disk.specs.declared.Files.{Files}
+use Rattle.sqlite_wal.specs.Reads.{AreClean}
+use Rattle.sqlite.specs.Closing.{IsCopied}
 use Rattle.office_tables.specs.Opening.{has_office}
 use Rattle.office_contents.specs.Schema.{no_schema}
 use Rattle.office_contents.specs.Versions.{schema_at}
@@ -120,3 +127,32 @@ taken_is_office g conn is_new (Ok o) there clean goes_on was_there = record {
   was_there = λ _. was_there;
   goes_on = λ _. goes_on;
 }
+
+-- ---- an office is had, or none
+
+-- the disk of one in memory is always clean
+pub made_in_memory : {E : Type 0} (r : Result (Held MemStore) E) → IfOk r (λ o. HasCleanDisk (state over_memory o) → IsStoredBy made_office (state over_memory o))
+    → IfOk r (λ o. IsStoredBy made_office (state over_memory o))
+made_in_memory (Err e) made = tt
+made_in_memory (Ok o) made = made (memory_is_clean o)
+
+-- an office of a connection that was opened from files
+pub opened_from : {D E : Type 0} (g : Disks D) (first : Image) (makes is_new : Bool) (conn : Held (FileStore D g)) (r : Result (Held (FileStore D g)) E) → (is_new ≡ true → makes ≡ true)
+    → (HasCleanDisk (file_state conn) → IsOpened conn) → (HasCleanDisk (file_state conn) → FindsIn first (file_state conn)) → IfOk r (IsOfficeOver over_files conn is_new)
+    → IfOk r (IsOpenedFrom g first makes)
+opened_from g first makes is_new conn (Err e) asked opened found is = tt
+opened_from {E = E} g first makes is_new conn (Ok office) asked opened found is = elim (cases_Bool is_new) [
+  | inl made ↦ opened_as_made {E = E} g (Ok office) first (file_state conn) makes (asked made) is.clean (is.made made) (λ more. absurd (is.empty made more)) opened found
+  | inr there ↦ opened_as_taken {E = E} g (Ok office) first (file_state conn) makes is.clean (is.goes_on there) (is.was_there there) opened found
+]
+
+-- once something is there, it can't be opened
+pub unhad : {T : Type 0} (r : Result T CommandFault) (alone : Type 0) (makes : Bool) → IfErr r IsUnopenable → IfErr r (λ fault. is_sought fault ≡ false) → IfErr r (IsUnhad alone makes)
+unhad (Ok x) alone makes failed sought = tt
+unhad (Err fault) alone makes failed sought = (failed, inr sought)
+
+-- a connection that is closed into files closes its office
+pub closed_after : {D T E : Type 0} (g : Disks D) (office conn : Held (FileStore D g)) (given : Result (Files D) E) (files : Files D) (done : Result T CommandFault) → given ≡ Ok files → conn ≡ office
+    → IfOk given (λ f. AreClean g f.log f.db → IsCopied conn f) → IsClosedAfter g office done done
+closed_after {D = D} {E = E} g office conn given files done is same copied =
+    inl (files, subst (λ (o : Held (FileStore D g)). AreClean g files.log files.db → IsCopied o files) same (subst (λ (r : Result (Files D) E). IfOk r (λ f. AreClean g f.log f.db → IsCopied conn f)) is copied), refl)

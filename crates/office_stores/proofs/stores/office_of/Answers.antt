@@ -1,5 +1,5 @@
-use Rattle.office_commands.proofs.FileLemmas.{made_is_office, taken_is_office}
-use Rattle.office_commands.proofs.stores.office_of.Goals as goal
+use Rattle.office_stores.proofs.FileLemmas.{made_is_office, taken_is_office}
+use Rattle.office_stores.proofs.stores.office_of.Goals as goal
 
 pub returns-then-is_new-clause-is : goal.returns-then-is_new-clause-is
 returns-then-is_new-clause-is g c =

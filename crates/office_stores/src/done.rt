@@ -1,6 +1,6 @@
 //! How a command ends that did its work.
 
-ghost use Rattle.office_commands.specs.Works.{IsQuiet};
+ghost use Rattle.office_stores.specs.Texts.{IsQuiet};
 
 use commands::Ending;
 
@@ -14,7 +14,7 @@ pub struct Done {
 
 impl Done {
     /// It ends well, and there is nothing to tell.
-    pub(crate) fn quiet() -> Done
+    pub fn quiet() -> Done
         ensures { IsQuiet result }
     {
         Done {

@@ -1,5 +1,5 @@
-use Rattle.office_commands.proofs.Common.{◌∙◌, ap₂, subst, sym, state, History, new_history, IsStoredBy}
-use Rattle.office_commands.proofs.stores.make_office.Goals as goal
+use Rattle.office_stores.proofs.Common.{◌∙◌, ap₂, subst, sym, state, History, new_history, IsStoredBy}
+use Rattle.office_stores.proofs.stores.make_office.Goals as goal
 
 pub returns-in-Ok-clause-not_empty : goal.returns-in-Ok-clause-not_empty
 returns-in-Ok-clause-not_empty g c more = let never = sym c.in-Ok.is ∙ c.create.ensures.not_empty more in absurd (cc)

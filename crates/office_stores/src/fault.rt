@@ -2,8 +2,8 @@
 
 ghost use Rattle.std.specs.Prelude.{◌≡◌, ◌++◌, IfOk, None, Some, false, string_bytes};
 ghost use Rattle.commands.specs.Explaining.{bad_policy_text};
-ghost use Rattle.office_commands.specs.Texts.{IsOfOpening, IsOfStore, IsUnopenable, ending_of, command_fault_text, found_nothing, is_of_nothing, is_of_search, is_sought, message_of};
-ghost use Rattle.office_commands.specs.declared.fault.CommandFault.TheVariants.{Failed};
+ghost use Rattle.office_stores.specs.Texts.{IsOfOpening, IsOfStore, IsUnopenable, ending_of, command_fault_text, found_nothing, is_of_nothing, is_of_search, is_sought, message_of};
+ghost use Rattle.office_stores.specs.declared.fault.CommandFault.TheVariants.{Failed};
 
 use commands::{Ending, Failure, RefusedPolicy};
 use office_tables::TableFault;
@@ -109,7 +109,7 @@ pub enum CommandFault {
 }
 
 /// A failure, and what it came from.
-pub(crate) fn failed_by(fault: StoreFault, cause: Cause) -> CommandFault
+pub fn failed_by(fault: StoreFault, cause: Cause) -> CommandFault
     ensures is { result ≡ Failed fault (Some cause) }
     ensures nothing { found_nothing result ≡ is_of_nothing (Some cause) }
     ensures sought { is_sought result ≡ is_of_search (Some cause) }
@@ -133,7 +133,7 @@ fn refused_lines(alloc: Global, refused: &RefusedPolicy) -> Result<String, Alloc
 
 impl CommandFault {
     /// A failure of which no more is known.
-    pub(crate) fn without_cause(fault: StoreFault) -> CommandFault
+    pub fn without_cause(fault: StoreFault) -> CommandFault
         ensures is { result ≡ Failed fault None }
         ensures sought { is_sought result ≡ false }
         ensures unopenable { IsOfStore fault → IsUnopenable result }
