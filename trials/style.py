@@ -202,8 +202,16 @@ def found(document, name):
     return [path for inner in ("*", "*/*") for path in (TOP / "crates").glob(f"{inner}/{name}")]
 
 
+def alternatives(name):
+    """The names that one with braces stands for."""
+    cut = re.fullmatch(r"(.*)\{([^{}]*)\}(.*)", name)
+    if not cut:
+        return {name}
+    return {it for part in cut[2].split(",") for it in alternatives(cut[1] + part + cut[3])}
+
+
 def files_in(span):
-    """The names of files in a text in backquotes."""
+    """The names of files in a text in backquotes, but those with `+`, which a change is to add."""
     for word in span.split():
         word = word.strip(",;:()'\"")
         if not re.fullmatch(r"[\w.*@+{},-]+(?:/[\w.*@+{},-]*)*", word):
@@ -213,8 +221,7 @@ def files_in(span):
             continue
         first = word.split("/")[0]
         if suffix in ENDINGS or first not in (".", "..") and (TOP / first).is_dir():
-            cut = re.fullmatch(r"(.*)\{([^}]*)\}(.*)", word)
-            yield from [cut[1] + part + cut[3] for part in cut[2].split(",")] if cut else [word]
+            yield from sorted(it for it in alternatives(word) if "+" not in it)
 
 
 def check_links():
