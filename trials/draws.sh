@@ -2,11 +2,11 @@
 # For each of 100 seeds the proved program `trial_office` sends 100 random requests to an office over tables and to the
 # plain office, which must give the same answers, the same due lists and the same stock: over tables in memory, and over
 # a file. In the file `kept.py` then finds contents, due days and counts of holds as the rows give them. For each seed
-# `older.py` also puts a file after at most 50 requests into the tables of an older version, unless a rule has days by
-# then; it is upgraded, and as many requests follow. An odd seed does that after 50 requests, an even one after as many
-# as leave only rows that version 3 can have. Where there are 100 seeds or more, half of them must be upgraded. From
-# each version some must have holds, released ones too, and deposits. Requests about classes and under rules with days
-# must come before and after.
+# `older.py` also puts a file after at most 50 requests into the tables of an older version, unless its rows need the
+# newest; it is upgraded, and as many requests follow. An odd seed does that after 50 requests, an even one after as
+# many as leave only rows that the oldest can have. Where there are 100 seeds or more, half of them must be upgraded.
+# From each older version some must have holds, released ones too, and deposits. Requests about classes and under rules
+# with days must come before and after.
 # Arguments: the first seed and the last, 1 and 100 if left out. The program is that of TRIAL_OFFICE, or the
 # repository's own.
 set -eu

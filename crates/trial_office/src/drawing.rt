@@ -1,9 +1,10 @@
 //! Requests drawn by a seed.
 
+use crate::office::described;
 use crate::texts::{
     ACCESSIONS, BAGS, CALLERS, CLASSES, CLOSING_DAYS, COLLECTIONS, DAYS, MATTERS, PATHS, POLICIES,
 };
-use office_core::{Accession, Day, DescriptionOf, Matter, Name, Request, Years};
+use office_core::{Day, Matter, Name, Request, Years};
 use rand::RngExt;
 use rand::seq::IndexedRandom;
 use rand_pcg::Pcg32;
@@ -125,12 +126,12 @@ impl Draws {
 
     fn deposit(&mut self) -> Option<Request<'static>> {
         Some(Request::Deposit {
-            description: DescriptionOf {
-                collection: self.name(&COLLECTIONS)?,
-                class: self.name(&CLASSES)?,
-                accession: Accession::read(self.word(&ACCESSIONS)?)?,
-                closed: Day::read(self.word(&CLOSING_DAYS)?)?,
-            },
+            description: described(
+                self.word(&COLLECTIONS)?,
+                self.word(&CLASSES)?,
+                self.word(&ACCESSIONS)?,
+                self.word(&CLOSING_DAYS)?,
+            )?,
             bag: BAGS.choose(&mut self.generator).copied()?,
         })
     }

@@ -1,6 +1,7 @@
 //! The worked office, whose rows are in the file `trials/rows.txt`.
 
 use crate::changes::{Change, commit};
+use office_core::{Accession, Day, Description, DescriptionOf, Name};
 use office_tables::{HoldTarget, NewDeposit, TableFault, create};
 use sqlite::{Alter, Connection};
 use std::alloc::{AllocError, Global};
@@ -81,19 +82,22 @@ static DEFINITIONS: [Change<'static>; 10] = [
     Change::Collection("maps"),
 ];
 
+/// The first deposit. What another one doesn't say is as here.
+pub const FIRST_DEPOSIT: NewDeposit<'static> = NewDeposit {
+    number: 1,
+    accession: "2026-0001",
+    collection: "maps",
+    class: "y2",
+    closed: 20_454,
+    deposited: 20_500,
+    files: 1,
+    bytes: 0,
+};
+
 /// Deposits, of which the second is destroyed with its files. The third has files with odd paths,
 /// and the last has long ones.
 static DEPOSITS: [Change<'static>; 8] = [
-    Change::Deposit(NewDeposit {
-        number: 1,
-        accession: "2026-0001",
-        collection: "maps",
-        class: "y2",
-        closed: 20_454,
-        deposited: 20_500,
-        files: 1,
-        bytes: 0,
-    }),
+    Change::Deposit(FIRST_DEPOSIT),
     Change::Deposit(NewDeposit {
         number: 2,
         accession: "2026-0002",
@@ -103,26 +107,27 @@ static DEPOSITS: [Change<'static>; 8] = [
         deposited: 20_501,
         files: 2,
         bytes: 6,
+        ..FIRST_DEPOSIT
     }),
     Change::Deposit(NewDeposit {
         number: 3,
         accession: "A/3 'quoted'",
-        collection: "maps",
         class: "kept",
         closed: 0,
         deposited: 20_502,
         files: 7,
         bytes: 94,
+        ..FIRST_DEPOSIT
     }),
     Change::Deposit(NewDeposit {
         number: 1_000_000,
         accession: "2026-9999",
         collection: "letters",
-        class: "y2",
         closed: 2_932_896,
         deposited: 20_503,
         files: 2,
         bytes: 100_256,
+        ..FIRST_DEPOSIT
     }),
     Change::File(2, "data/one", b"one"),
     Change::File(2, "data/two", b"two"),
@@ -174,6 +179,21 @@ static HOLDS: [Change<'static>; 6] = [
     }),
     Change::Released(2, 20_700),
 ];
+
+/// What a deposit is about, where each text has the form of its part. Every description here is made by this.
+pub fn described<'a>(
+    collection: &'a str,
+    class: &'a str,
+    accession: &'a str,
+    closed: &str,
+) -> Option<Description<'a>> {
+    Some(DescriptionOf {
+        collection: Name::read(collection)?,
+        class: Name::read(class)?,
+        accession: Accession::read(accession)?,
+        closed: Day::read(closed)?,
+    })
+}
 
 /// Every byte, from 0 to 255.
 fn every_byte(alloc: Global) -> Result<Vec<u8>, AllocError> {

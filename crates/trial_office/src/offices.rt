@@ -1,9 +1,10 @@
 //! Cases of an office: a short session, with the plain one or with one over its tables.
 
+use crate::office::described;
 use crate::outcome::Outcome;
 use office_core::{
-    Accession, Answer, AuditReport, Day, DepositRecord, DescriptionOf, Limits, LiveHold, Matter,
-    Name, PolicyFault, Refusal, Request, Scope, Years, read_policy,
+    Answer, AuditReport, Day, DepositRecord, Limits, LiveHold, Matter, Name, PolicyFault, Refusal,
+    Request, Scope, Years, read_policy,
 };
 use office_engine::Office;
 use office_tables::TableFault;
@@ -175,12 +176,7 @@ pub fn install_policy<O: AnyOffice>(alloc: Global, office: &mut O, text: &str) -
 /// A deposit of these bytes.
 fn deposit(accession: &'static str, bag: &'static [u8]) -> Option<Request<'static>> {
     Some(Request::Deposit {
-        description: DescriptionOf {
-            collection: Name::read("maps")?,
-            class: Name::read("y1")?,
-            accession: Accession::read(accession)?,
-            closed: Day::read("2024-02-29")?,
-        },
+        description: described("maps", "y1", accession, "2024-02-29")?,
         bag,
     })
 }

@@ -1,9 +1,10 @@
 //! Requests that are timed, over bags of 10 KiB with three files.
 
+use crate::office::described;
 use crate::timed::{DECLARATION, RECORD, RECORD_LENGTH, scattered_number};
 use anyhow::{Context, Result, bail};
 use bag_text::{BagSet, write_bagset};
-use office_core::{Accession, Answer, Day, DescriptionOf, Matter, Name, Refusal, Request, Years};
+use office_core::{Answer, Day, Matter, Name, Refusal, Request, Years};
 use office_engine::Office;
 use sha2::{Digest, Sha256};
 use sqlite::Alter;
@@ -87,12 +88,7 @@ fn request<'a>(
 ) -> Option<Request<'a>> {
     match asked {
         TrialRequest::Deposit | TrialRequest::OwnDeposit => Some(Request::Deposit {
-            description: DescriptionOf {
-                collection: Name::read("tax")?,
-                class: Name::read("y10")?,
-                accession: Accession::read(accession)?,
-                closed: Day::read(CLOSED)?,
-            },
+            description: described("tax", "y10", accession, CLOSED)?,
             bag,
         }),
         TrialRequest::Record => Some(Request::Record { deposit: number }),

@@ -1,5 +1,6 @@
 //! Cases of the tables: a short session over one database in memory.
 
+use crate::office::FIRST_DEPOSIT;
 use crate::outcome::Outcome;
 use office_tables::{
     CallerRow, HoldTarget, NewDeposit, RuleRow, TableFault, add_holds, add_holds_class,
@@ -74,14 +75,13 @@ fn take<S: Alter>(alloc: Global, conn: &mut Connection<S>, step: Step) -> Result
 }
 
 const DEPOSIT: NewDeposit<'static> = NewDeposit {
-    number: 1,
     accession: "A-1",
-    collection: "maps",
     class: "short",
     closed: 10,
     deposited: 11,
     files: 2,
     bytes: 3,
+    ..FIRST_DEPOSIT
 };
 
 /// The changes of a step.

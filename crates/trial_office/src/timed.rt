@@ -1,7 +1,7 @@
 //! Calls that are timed, over bags of 10 KiB with three files.
 
 use crate::changes::{Change, commit};
-use crate::office::{self, FIRST_DAY, LAST_DAY, Rule};
+use crate::office::{self, FIRST_DAY, FIRST_DEPOSIT, LAST_DAY, Rule};
 use anyhow::{Result, bail};
 use office_tables::{NewDeposit, TableFault, file_of, last_deposit, live_holds};
 use sqlite::{Alter, Connection};
@@ -98,10 +98,8 @@ fn bag<'a>(number: u32, accession: &'a str, record: &'a [u8]) -> [Change<'a>; 4]
             accession,
             collection: "tax",
             class: "y10",
-            closed: 20_454,
-            deposited: 20_500,
-            files: 1,
             bytes: 10_108,
+            ..FIRST_DEPOSIT
         }),
         Change::File(number, "bagit.txt", DECLARATION),
         Change::File(number, RECORD, record),
