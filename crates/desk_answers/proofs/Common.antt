@@ -1,7 +1,7 @@
 -- The names that several proofs of this crate cite, passed on from one place. Declares nothing.
 pub use Rattle.desk_answers.specs.Bodies.{content_of, status_of}
 pub use Rattle.desk_answers.specs.Members.{member_data, with_member}
-pub use Rattle.desk_answers.specs.Messages.{IsInAlphabet, IsResponse, named_value, response_fields, values_of}
+pub use Rattle.desk_answers.specs.Messages.{IsResponse, named_value, response_fields, values_of}
 pub use Rattle.desk_answers.specs.Objects.{list_of, object_of, whole}
 pub use Rattle.desk_answers.specs.Refusals.{refusal_data, refusal_status}
 pub use Rattle.desk_answers.specs.Responses.{body_of, Content, head_text, json, media_text, media_type_of, octets, response_text}

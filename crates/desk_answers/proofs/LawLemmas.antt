@@ -1,11 +1,10 @@
 -- The laws of answers.
-use Rattle.desk_answers.proofs.Common.{◌≡◌, ◌≢◌, ◌↔◌, ◌⊎◌, inl, inr, ℕ, ◌^◌, ◌<◌, ◌≤◌, List, [], ◌∷◌, length, map, decimal, codes, refl, sym, subst, ap, ◌∙◌, append_assoc, append-nil, lit<, lit≤, arith, All, flat_map, All-nil, All-cons, AllPass-from_list_all, is_token_byte, IsToken, Field, IsField, print_field, ResponseHead, ReadsResponse, Answer, Refusal, code_of, Content, json, body_of, response_text, refusal_status, status_of, content_of, IsResponse, named_value, response_fields, values_of, IsInAlphabet}
+use Rattle.desk_answers.proofs.Common.{◌≡◌, ◌≢◌, ◌↔◌, ◌⊎◌, inl, inr, ℕ, ◌^◌, ◌<◌, ◌≤◌, List, [], ◌∷◌, length, map, decimal, codes, refl, sym, subst, ap, ◌∙◌, append_assoc, append-nil, lit<, lit≤, arith, All, flat_map, All-nil, All-cons, AllPass-from_list_all, is_token_byte, IsToken, Field, IsField, print_field, ResponseHead, ReadsResponse, Answer, Refusal, code_of, Content, json, body_of, response_text, refusal_status, status_of, content_of, IsResponse, named_value, response_fields, values_of}
 use Rattle.serde_json.proofs.OnLiterals.{serde_json_on_literals}
 use Rattle.httparse.proofs.GrammarLemmas.{response_unique}
 use Rattle.office_core.specs.declared.answer.Answer.TheVariants as answers
 use Rattle.office_core.specs.declared.refusal.Refusal.TheVariants as refusals
-use Rattle.desk_routes.specs.Table.{method_text, methods_of}
-use Rattle.desk_routes.specs.declared.method.Method.{Method}
+use Rattle.desk_routes.specs.Table.{methods_of}
 use Rattle.desk_routes.specs.declared.resource.Pattern.{Pattern}
 use Rattle.desk_routes.specs.declared.resource.Pattern.TheVariants as patterns
 use Rattle.desk_routes.specs.declared.refusal.DeskRefusal.{DeskRefusal}
@@ -26,18 +25,10 @@ token_allow : IsToken (codes "Allow")
 unfolding is_token_byte
 token_allow = (lit< tt, AllPass-from_list_all is_token_byte (codes "Allow") refl)
 
--- the methods of a pattern may stand in a field, and are in the order of the alphabet
-record AreMethods (methods : List Method) : Type 0 where
-  value : IsValue (methods_text methods)
-  in_order : IsInAlphabet (map method_text methods)
-
-methods_are : (pattern : Pattern) → AreMethods (methods_of pattern)
-methods_are patterns.Deposits = record { value = is_value (methods_text (methods_of patterns.Deposits)) refl refl refl; in_order = (refl, tt) }
-methods_are patterns.Deposit = record { value = is_value (methods_text (methods_of patterns.Deposit)) refl refl refl; in_order = (refl, tt) }
-methods_are pattern = record { value = is_value (methods_text (methods_of pattern)) refl refl refl; in_order = tt }
-
-pub methods_in_order : (pattern : Pattern) → IsInAlphabet (map method_text (methods_of pattern))
-methods_in_order pattern = (methods_are pattern).in_order
+-- the methods of a pattern may be the value of a field
+methods_value : (pattern : Pattern) → IsValue (methods_text (methods_of pattern))
+methods_value patterns.Deposits = is_value (methods_text (methods_of patterns.Deposits)) refl refl refl
+methods_value pattern = is_value (methods_text (methods_of pattern)) refl refl refl
 
 -- ---- refusals of the desk
 
@@ -56,11 +47,11 @@ none_are_read = record { lines = All-nil IsField; printed = refl; named = refl; 
 
 allow_is_read : (pattern : Pattern) → AreRead ((codes "Allow", methods_text (methods_of pattern)) ∷ [])
 allow_is_read pattern =
-    let methods = methods_are pattern in
+    let value = methods_value pattern in
     record {
-      lines = All-cons IsField (line (codes "Allow") (methods_text (methods_of pattern))) [] (is_line (codes "Allow") (methods_text (methods_of pattern)) token_allow methods.value) (All-nil IsField);
+      lines = All-cons IsField (line (codes "Allow") (methods_text (methods_of pattern))) [] (is_line (codes "Allow") (methods_text (methods_of pattern)) token_allow value) (All-nil IsField);
       printed = simp (append_assoc, append-nil);
-      named = rw methods.value.read;
+      named = rw value.read;
       one_length = λ content. refl;
     }
 

@@ -1,9 +1,6 @@
 -- What a reader of HTTP finds in a response. The grammar of RFC 9112, sections 2 to 5, is `httparse`'s, which reads a text in one way at most.
 use Rattle.std.specs.Prelude.{◌≡◌, ℕ, List, [], ◌∷◌, ◌++◌, length, map, codes, decimal, bytes_eq, if◌then◌else◌}
 use Rattle.std.specs.Char.{to_ascii_lowercase}
-use Rattle.std.specs.Ordering.{nat_cmp}
-use Rattle.std.specs.declared.cmp.Ordering.TheVariants.{Less}
-use Rattle.std.specs.Cmp.Lexicographic.{slice_cmp}
 use Rattle.httparse.specs.Grammar.{Field, field_value, ResponseHead, ReadsResponse, status_code, reason_phrase}
 use Rattle.desk_answers.specs.Statuses.{code_of, phrase_of}
 use Rattle.desk_answers.specs.Responses.{Content, media_text, media_type_of, body_of}
@@ -33,9 +30,3 @@ response_fields allow content =
 abbrev pub values_of : List ℕ → List (List ℕ × List ℕ) → List (List ℕ)
 values_of name [] = []
 values_of name (field ∷ fields) = if bytes_eq (map to_ascii_lowercase field.0) name then field.1 ∷ values_of name fields else values_of name fields
-
--- each before the next, as in a dictionary
-abbrev pub IsInAlphabet : List (List ℕ) → Type 0
-IsInAlphabet [] = Unit {0}
-IsInAlphabet (word ∷ []) = Unit {0}
-IsInAlphabet (word ∷ next ∷ words) = (slice_cmp nat_cmp word next ≡ Less) × IsInAlphabet (next ∷ words)

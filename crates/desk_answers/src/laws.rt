@@ -1,6 +1,9 @@
 //! Laws of the definitions alone.
 
 ghost use Rattle.std.specs.Prelude.{◌≡◌, ◌≢◌, ◌≤◌, ◌<◌, ◌^◌, ◌⊎◌, ◌↔◌, List, [], ◌∷◌, ℕ, length, map, codes, decimal, true};
+ghost use Rattle.std.specs.Cmp.Lexicographic.{slice_cmp};
+ghost use Rattle.std.specs.List.Sorted.{IsStrictlySortedBy};
+ghost use Rattle.std.specs.Ordering.{nat_cmp};
 ghost use Rattle.httparse.specs.Grammar.{ResponseHead, ReadsResponse};
 ghost use Rattle.office_core.specs.declared.answer.Answer.{Answer};
 ghost use Rattle.office_core.specs.declared.answer.Answer.TheVariants.{Refused};
@@ -15,7 +18,7 @@ ghost use Rattle.desk_answers.specs.Bodies.{status_of, content_of};
 ghost use Rattle.desk_answers.specs.DeskRefusals.{desk_status, desk_data, methods_text, allow_fields};
 ghost use Rattle.desk_answers.specs.Answers.{answer_text, refusal_text};
 ghost use Rattle.desk_answers.specs.Keys.{has_ascending_keys, content_has_ascending_keys};
-ghost use Rattle.desk_answers.specs.Messages.{IsResponse, named_value, response_fields, values_of, IsInAlphabet};
+ghost use Rattle.desk_answers.specs.Messages.{IsResponse, named_value, response_fields, values_of};
 
 /// The bytes of each answer, and of each refusal of the desk, are a response of HTTP/1.1 as its
 /// grammar reads them: the status, the fields `Content-Type`, `Content-Length`, `Allow` where the
@@ -58,7 +61,8 @@ pub fn allowed_methods()
     ensures not_of_the_office { (answer : Answer) → code_of (status_of answer) ≢ 405 }
     ensures names { (pattern : Pattern) → allow_fields (WrongMethod pattern)
         ≡ (codes "Allow", methods_text (methods_of pattern)) ∷ [] }
-    ensures in_order { (pattern : Pattern) → IsInAlphabet (map method_text (methods_of pattern)) }
+    ensures in_order { (pattern : Pattern)
+        → IsStrictlySortedBy (slice_cmp nat_cmp) (map method_text (methods_of pattern)) }
 {}
 
 /// The keys of each object in a body ascend, so no key occurs in it twice.

@@ -1,6 +1,7 @@
 use Rattle.desk_answers.proofs.Common.{refl}
-use Rattle.desk_answers.proofs.LawLemmas.{allow_stands, answer_code_is_other, methods_in_order}
+use Rattle.desk_routes.proofs.TableLemmas.{methods-sorted}
+use Rattle.desk_answers.proofs.LawLemmas.{allow_stands, answer_code_is_other}
 use Rattle.desk_answers.proofs.laws.allowed_methods.Goals as goal
 
 pub returns : goal.returns
-returns c = record { stands = allow_stands; not_of_the_office = answer_code_is_other; names = λ pattern. refl; in_order = methods_in_order }
+returns c = record { stands = allow_stands; not_of_the_office = answer_code_is_other; names = λ pattern. refl; in_order = methods-sorted }
