@@ -274,7 +274,7 @@ fn place_next<S: Alter>(alloc: Global, office: &mut Office<S>, case: &Case) -> R
 
 /// An `accept` that fails for one connection counts as one. Any other failure ends the serving: the
 /// office is as the connections before it left it, and `accept` isn't called again.
-pub fn take_accepts<S: Alter>(alloc: Global, office: &mut Office<S>) -> Result<(), Fail> {
+pub(crate) fn take_accepts<S: Alter>(alloc: Global, office: &mut Office<S>) -> Result<(), Fail> {
     for case in &CASES {
         take_turns(alloc, office, case)?;
         place_next(alloc, office, case)?;

@@ -273,7 +273,7 @@ fn take_failed_writes<S: Alter>(alloc: Global, office: &mut Office<S>) -> Result
 
 /// What the desk refuses, a day of an office, and writers that fail. The reader fails after the
 /// last byte of each request, and is not asked for more. Then requests at the limits.
-pub fn take_day<S: Alter>(alloc: Global, office: &mut Office<S>) -> Result<(), Fail> {
+pub(crate) fn take_day<S: Alter>(alloc: Global, office: &mut Office<S>) -> Result<(), Fail> {
     take(alloc, office, &MORNING)?;
     take_failed_writes(alloc, office)?;
     take(alloc, office, &DAY)?;

@@ -10,15 +10,15 @@ use std::test::Fail;
 /// How the bytes of a request come, and how those of its answer are taken: in which portions, and
 /// by how many calls until the device fails.
 #[derive(Clone, Copy)]
-pub struct Devices {
-    pub portion: Portion,
-    pub reads: u64,
-    pub writes: u64,
+pub(crate) struct Devices {
+    pub(crate) portion: Portion,
+    pub(crate) reads: u64,
+    pub(crate) writes: u64,
 }
 
 impl Devices {
     /// Devices that don't fail.
-    pub fn whole(portion: Portion) -> Devices {
+    pub(crate) fn whole(portion: Portion) -> Devices {
         Devices {
             portion,
             reads: u64::MAX,
@@ -28,7 +28,7 @@ impl Devices {
 
     /// Devices of one byte a call. The reader fails from its call after the request's last byte
     /// on, the writer from that call on.
-    pub fn narrow(request: &[u8], writes: u64) -> Devices {
+    pub(crate) fn narrow(request: &[u8], writes: u64) -> Devices {
         Devices {
             portion: Portion::OneByte,
             reads: request.len() as u64,
@@ -38,7 +38,7 @@ impl Devices {
 }
 
 /// What serving one request ends with, and what is written.
-pub fn serve_request<S: Alter>(
+pub(crate) fn serve_request<S: Alter>(
     alloc: Global,
     office: &mut Office<S>,
     day: &str,
@@ -53,7 +53,7 @@ pub fn serve_request<S: Alter>(
 }
 
 /// Fails where something else was written than was worked out.
-pub fn compare(alloc: Global, written: &[u8], wanted: &[u8]) -> Result<(), Fail> {
+pub(crate) fn compare(alloc: Global, written: &[u8], wanted: &[u8]) -> Result<(), Fail> {
     if written == wanted {
         return Ok(());
     }
@@ -63,7 +63,7 @@ pub fn compare(alloc: Global, written: &[u8], wanted: &[u8]) -> Result<(), Fail>
 
 /// Puts a request of 2024-03-01 to the office. Fails where that ends otherwise, or something else
 /// is written.
-pub fn put<S: Alter>(
+pub(crate) fn put<S: Alter>(
     alloc: Global,
     office: &mut Office<S>,
     request: &[u8],

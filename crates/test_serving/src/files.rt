@@ -6,12 +6,12 @@ use std::alloc::Global;
 use test_sessions::{Disks, has_stopped};
 
 /// Whether one of the files has stopped.
-pub fn have_stopped(files: &mut Disks) -> bool {
+pub(crate) fn have_stopped(files: &mut Disks) -> bool {
     has_stopped(&mut files.log) || has_stopped(&mut files.db)
 }
 
 /// Opens the files. Hands them back where they can't be opened.
-pub fn open<D: Disk + Drop>(
+pub(crate) fn open<D: Disk + Drop>(
     alloc: Global,
     files: Files<D>,
     options: Options,
@@ -26,7 +26,7 @@ pub fn open<D: Disk + Drop>(
 }
 
 /// The files as they are left, closed first if that is asked for.
-pub fn leave<D: Disk + Drop>(conn: Connection<FileStore<D>>, closes: bool) -> Files<D> {
+pub(crate) fn leave<D: Disk + Drop>(conn: Connection<FileStore<D>>, closes: bool) -> Files<D> {
     if !closes {
         return conn.into_store().close();
     }

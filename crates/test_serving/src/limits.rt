@@ -142,7 +142,7 @@ fn take_beginnings<S: Alter>(alloc: Global, office: &mut Office<S>) -> Result<()
 }
 
 /// Requests at the limits, and beginnings of one, none of which changes the office.
-pub fn take_limits<S: Alter>(alloc: Global, office: &mut Office<S>) -> Result<(), Fail> {
+pub(crate) fn take_limits<S: Alter>(alloc: Global, office: &mut Office<S>) -> Result<(), Fail> {
     for limit in &LIMITS {
         let request = bytes_of(alloc, limit)?;
         put_both_ways(alloc, office, &request, limit.answer)?;

@@ -14,14 +14,14 @@ use std::test::Fail;
 use std::time::Duration;
 
 /// Asks for a deposit that isn't there.
-pub const ASKS: Peer = Peer {
+pub(crate) const ASKS: Peer = Peer {
     sends: "GET /deposits/7 HTTP/1.1\r\nDepot-Caller: anna\r\n\r\n",
     letters: 0,
     then: Then::EndsItsInput,
     gets: NO_DEPOSIT,
 };
 
-pub const DEFINES: Peer = Peer {
+pub(crate) const DEFINES: Peer = Peer {
     sends: "PUT /collections/maps HTTP/1.1\r\nDepot-Caller: anna\r\n\r\n",
     gets: MAPS,
     ..ASKS
@@ -46,7 +46,7 @@ const GOES_AT_ONCE: Peer = Peer {
     ..ASKS
 };
 
-pub const SENDS_HALF: Peer = Peer {
+pub(crate) const SENDS_HALF: Peer = Peer {
     sends: "GET /deposits/7 HTTP/1.1\r\nDepot-",
     gets: TRUNCATED,
     ..ASKS
@@ -59,7 +59,7 @@ const SENDS_NOTHING: Peer = Peer {
 };
 
 /// Is too slow: it is left without an answer.
-pub const STOPS: Peer = Peer {
+pub(crate) const STOPS: Peer = Peer {
     then: Then::Waits,
     gets: b"",
     ..SENDS_HALF
@@ -83,21 +83,21 @@ const SENDS_MORE: Peer = Peer {
 
 /// Peers that connect in this order, and how many connections are answered, and how many aren't.
 #[derive(Clone, Copy)]
-pub struct Queue {
-    pub name: &'static str,
-    pub peers: &'static [Peer],
+pub(crate) struct Queue {
+    pub(crate) name: &'static str,
+    pub(crate) peers: &'static [Peer],
     /// How many connections are taken.
-    pub count: u32,
+    pub(crate) count: u32,
     /// How many milliseconds a peer may take.
-    pub talk: u64,
-    pub answered: u32,
-    pub failed: u32,
+    pub(crate) talk: u64,
+    pub(crate) answered: u32,
+    pub(crate) failed: u32,
     /// What ends the serving, where the listener doesn't wait for a connection.
-    pub stops: Option<ErrorKind>,
+    pub(crate) stops: Option<ErrorKind>,
 }
 
 /// One peer, which is answered.
-pub const ONE: Queue = Queue {
+pub(crate) const ONE: Queue = Queue {
     name: "one asks",
     peers: &[ASKS],
     count: 1,
@@ -226,7 +226,7 @@ fn serve_queue<S: Alter, E: Write>(
 
 /// Has the peers of a queue call, serves them, and hears what they got. Who was refused any wait isn't
 /// heard: what it sent was not read, so that its connection is reset.
-pub fn take_queue<S: Alter, E: Write>(
+pub(crate) fn take_queue<S: Alter, E: Write>(
     rt: &HostRuntime,
     office: &mut Office<S>,
     listener: &TcpListener,
@@ -244,7 +244,7 @@ pub fn take_queue<S: Alter, E: Write>(
 }
 
 /// Peers of an office on 2024-03-01.
-pub fn take_peers<S: Alter>(rt: &HostRuntime, office: &mut Office<S>) -> Result<(), Fail> {
+pub(crate) fn take_peers<S: Alter>(rt: &HostRuntime, office: &mut Office<S>) -> Result<(), Fail> {
     let listener = TcpListener::bind(rt, "127.0.0.1:0")?;
     for queue in &QUEUES {
         let mut log = Counted::new(Vec::new(rt.alloc()));
@@ -327,7 +327,7 @@ static DROPS: [Dropped; 7] = [
 ];
 
 /// What still comes is dropped. Fails where that ends otherwise, or drops something else.
-pub fn drop_all() -> Result<(), Fail> {
+pub(crate) fn drop_all() -> Result<(), Fail> {
     for row in &DROPS {
         let mut reader = Counted::new(FailAt::new(BODY, row.portion, row.calls));
         let end = drain(&mut reader, row.most);

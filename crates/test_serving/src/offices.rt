@@ -17,7 +17,7 @@ use test_sessions::{Disks, look};
 
 /// What is put to an office that was made.
 #[derive(Clone, Copy)]
-pub enum Part {
+pub(crate) enum Part {
     Nothing,
     /// Requests as bytes.
     Requests,
@@ -33,7 +33,7 @@ pub enum Part {
 
 /// What is done with two files.
 #[derive(Clone, Copy)]
-pub enum Task {
+pub(crate) enum Task {
     /// An office is made in them, and something is put to it.
     Make(Part),
     /// The office in them is visited.
@@ -136,7 +136,7 @@ fn perform_over<D: Disk + Drop>(
 }
 
 /// Performs the task over files in memory. It alone names a store.
-pub fn perform(
+pub(crate) fn perform(
     rt: &HostRuntime,
     files: Disks,
     options: Options,

@@ -8,7 +8,7 @@ use std::time::Duration;
 
 /// What a peer does when it has sent its bytes.
 #[derive(Clone, Copy)]
-pub enum Then {
+pub(crate) enum Then {
     /// It waits.
     Waits,
     /// It says that it sends no more, and waits.
@@ -19,12 +19,12 @@ pub enum Then {
 
 /// A peer, and what it gets.
 #[derive(Clone, Copy)]
-pub struct Peer {
-    pub sends: &'static str,
+pub(crate) struct Peer {
+    pub(crate) sends: &'static str,
     /// How many letters it sends after that.
-    pub letters: usize,
-    pub then: Then,
-    pub gets: &'static [u8],
+    pub(crate) letters: usize,
+    pub(crate) then: Then,
+    pub(crate) gets: &'static [u8],
 }
 
 impl Peer {
@@ -47,7 +47,7 @@ impl Peer {
 }
 
 /// Has the peers connect one after the other: their streams.
-pub fn call_all(
+pub(crate) fn call_all(
     rt: &HostRuntime,
     peers: &[Peer],
     address: SocketAddr,
@@ -60,7 +60,7 @@ pub fn call_all(
 }
 
 /// Fails where a peer that is still there gets something else than was worked out.
-pub fn hear_all(
+pub(crate) fn hear_all(
     rt: &HostRuntime,
     peers: &[Peer],
     streams: Vec<Option<TcpStream>>,

@@ -243,7 +243,7 @@ fn take_failures<S: Alter>(alloc: Global, office: &mut Office<S>) -> Result<(), 
 /// Replays of whole and of torn records, and a reader and a writer that fail at each of their
 /// calls. With one call more than the last that a replay stops at, the reader tells its end, and
 /// the writer has all answers.
-pub fn take_records<S: Alter>(alloc: Global, office: &mut Office<S>) -> Result<(), Fail> {
+pub(crate) fn take_records<S: Alter>(alloc: Global, office: &mut Office<S>) -> Result<(), Fail> {
     take_cases(alloc, office)?;
     take_failures(alloc, office)?;
     let calls = Calls {

@@ -255,19 +255,19 @@ fn take<S: Alter>(alloc: Global, office: &mut Office<S>, cases: &[Case]) -> Resu
 }
 
 /// A session with holds on classes.
-pub fn take_holds<S: Alter>(alloc: Global, office: &mut Office<S>) -> Result<(), Fail> {
+pub(crate) fn take_holds<S: Alter>(alloc: Global, office: &mut Office<S>) -> Result<(), Fail> {
     take(alloc, office, &HOLDS)
 }
 
 /// Requests to the office after that session, where a content is altered. It is as before in the end.
-pub fn take_altered<S: Alter + Drop>(alloc: Global, office: Office<S>) -> Result<Office<S>, Fail> {
+pub(crate) fn take_altered<S: Alter + Drop>(alloc: Global, office: Office<S>) -> Result<Office<S>, Fail> {
     let mut office = altered(office, ALTERS)?;
     take(alloc, &mut office, &DOWNLOADS)?;
     altered(office, RESTORES)
 }
 
 /// A session under a policy whose rules have days.
-pub fn take_rules<S: Alter>(alloc: Global, office: &mut Office<S>) -> Result<(), Fail> {
+pub(crate) fn take_rules<S: Alter>(alloc: Global, office: &mut Office<S>) -> Result<(), Fail> {
     let policy = read_policy(alloc, POLICY_WITH_DAYS)?;
     if office.install(alloc, &policy).is_err() {
         return Err("the policy was not installed".into());

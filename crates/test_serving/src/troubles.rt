@@ -153,7 +153,7 @@ static LOGS: [LogCase; 4] = [
 ];
 
 /// Runs SQL on the tables of the office.
-pub fn altered<S: Alter + Drop>(office: Office<S>, sql: &str) -> Result<Office<S>, Fail> {
+pub(crate) fn altered<S: Alter + Drop>(office: Office<S>, sql: &str) -> Result<Office<S>, Fail> {
     let mut conn = office.into_connection();
     if conn.execute_batch(sql).is_err() || !conn.is_autocommit() {
         return Err("a row can't be altered".into());
@@ -194,7 +194,7 @@ fn take_mending_log<S: Alter>(
 }
 
 /// The peers of an office that fails for one of them, on 2024-03-01.
-pub fn take_troubles<S: Alter + Drop>(
+pub(crate) fn take_troubles<S: Alter + Drop>(
     rt: &HostRuntime,
     office: Office<S>,
 ) -> Result<Office<S>, Fail> {

@@ -7,9 +7,9 @@ use crate::files::have_stopped;
 use crate::offices::{Part, Task, perform};
 use std::test::Fail;
 use steps::WHOLE;
-pub use steps::Way;
+pub(crate) use steps::Way;
 use test_sessions::{Disks, MANY, SMALL_CACHES, copy_files, empty, lose};
-pub use visits::{START, Visit, visit_over};
+pub(crate) use visits::{START, Visit, visit_over};
 
 /// Takes the session over files in which an office was stopped when the session had come so far, or
 /// in the next step. Fails where the office is neither as before that step nor as after it, or
@@ -100,7 +100,7 @@ fn count_stops(rt: &HostRuntime, made: &Disks, stopped: &Stopped) -> Result<u64,
 }
 
 /// An office is found again wherever one of its files stops.
-pub fn take_stops(rt: &HostRuntime) -> Result<(), Fail> {
+pub(crate) fn take_stops(rt: &HostRuntime) -> Result<(), Fail> {
     let (_, made) = perform(
         rt,
         empty(rt.alloc(), MANY, MANY),

@@ -17,7 +17,7 @@ use test_sessions::{TestRequest, answer_in_words};
 
 /// How the requests come.
 #[derive(Clone, Copy)]
-pub enum Way {
+pub(crate) enum Way {
     /// The office is asked.
     TestRequest,
     /// The desk hears their bytes.
@@ -157,10 +157,10 @@ static STEPS: [Step; 13] = [
 ];
 
 /// How far the session goes: both policies are installed, and each step is taken.
-pub const WHOLE: usize = 15;
+pub(crate) const WHOLE: usize = 15;
 
 /// What `held_rows` shows of the tables before the session, after each of its policies and after each step.
-pub static TABLES: [&[u8]; 16] = [
+pub(crate) static TABLES: [&[u8]; 16] = [
     b"1|5|1000000|1000000\n--\n--\n--\n--\n--\n--\n--\n--\n--\n",
     b"1|5|1000000|1000000\n--\nanna|archivist\ncarl|clerk\n--\n1|1|archivist|*|*|*|-25567|2859848\n2|0|clerk|class|*|*|-25567|2859848\n--\n--\n--\n--\n--\n--\n--\n",
     b"1|5|1000000|1000000\n--\nanna|archivist\ncarl|clerk\n--\n1|0|archivist|dispose|*|*|-25567|21914\n2|1|archivist|*|*|*|19783|21915\n3|0|clerk|class|*|*|-25567|2859848\n--\n--\n--\n--\n--\n--\n--\n",
@@ -180,7 +180,7 @@ pub static TABLES: [&[u8]; 16] = [
 ];
 
 /// The stock of the office then: how many contents, and how many bytes.
-pub static STOCKS: [(usize, usize); 16] = [
+pub(crate) static STOCKS: [(usize, usize); 16] = [
     (0, 0),
     (0, 0),
     (0, 0),
@@ -248,7 +248,7 @@ fn takes<S: Alter>(
 }
 
 /// Goes on with a session that has come so far, until the store fails: how far that is.
-pub fn go_on<S: Alter>(
+pub(crate) fn go_on<S: Alter>(
     alloc: Global,
     office: &mut Office<S>,
     way: Way,

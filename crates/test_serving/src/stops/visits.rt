@@ -10,17 +10,17 @@ use test_sessions::{derived_otherwise, held_rows};
 
 /// A visit, by numbers of steps that are done.
 #[derive(Clone, Copy, Drop)]
-pub struct Visit {
+pub(crate) struct Visit {
     /// What was found.
-    pub found: usize,
+    pub(crate) found: usize,
     /// What was reached before the store failed, or the session was at its end.
-    pub reached: usize,
+    pub(crate) reached: usize,
     /// What was found then. `None` where the rows can't be read any more.
-    pub shown: Option<usize>,
+    pub(crate) shown: Option<usize>,
 }
 
 /// That of an office whose session has not begun.
-pub const START: Visit = Visit {
+pub(crate) const START: Visit = Visit {
     found: 0,
     reached: 0,
     shown: Some(0),
@@ -71,7 +71,7 @@ fn go_on_and_tell<S: Alter>(
 
 /// Finds the office and goes on with the session. `None` where the store fails before the next
 /// step.
-pub fn visit_over<S: Alter + Drop>(
+pub(crate) fn visit_over<S: Alter + Drop>(
     alloc: Global,
     mut conn: Connection<S>,
     way: Way,
