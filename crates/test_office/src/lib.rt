@@ -17,7 +17,6 @@ mod tests;
 mod tests_stops;
 mod upgrade_stops;
 mod upgrades;
-mod words;
 
 pub use tables::tests::{
     calls_last_and_what_is_refused_changes_nothing, each_fault_has_its_code,

@@ -1,6 +1,7 @@
-//! What is asked in a worked row, as a value that a table can hold.
+//! What is asked in a worked row, as a value that a table can hold, and read from words.
 
 use office_core::{Accession, Day, DescriptionOf, Matter, Name, Request, Years};
+use test_bags::{BAG, BAG_0_97, NO_PAYLOAD, PERCENT};
 
 /// What is asked. Deposits and holds are named by their numbers.
 #[derive(Clone, Copy)]
@@ -40,7 +41,74 @@ pub enum TestRequest {
     DueList,
 }
 
+/// The word at this place, or an empty one.
+pub fn word<'a>(words: &[&'a str], at: usize) -> &'a str {
+    match words.get(at) {
+        Some(word) => word,
+        None => "",
+    }
+}
+
+/// The word at this place as a number, or 0.
+pub fn number(words: &[&str], at: usize) -> u32 {
+    word(words, at).parse().unwrap_or(0)
+}
+
+/// The bag of this name.
+fn bag(name: &str) -> &'static [u8] {
+    match name {
+        "percent" => PERCENT,
+        "0.97" => BAG_0_97,
+        "empty" => NO_PAYLOAD,
+        "nothing" => b"",
+        _ => BAG,
+    }
+}
+
+/// The day on which the records of a deposit were closed.
+fn closing_day(day: &'static str) -> &'static str {
+    match day {
+        "" => "2024-02-29",
+        _ => day,
+    }
+}
+
 impl TestRequest {
+    /// What the words ask. A deposit has its collection, class and accession, and may have the day on which
+    /// it was closed and the name of its bag.
+    pub fn read(words: &[&'static str]) -> Option<TestRequest> {
+        let name = word(words, 1);
+        let of = number(words, 1);
+        let second = word(words, 2);
+        match word(words, 0) {
+            "class" => Some(TestRequest::Class(name, second.parse().ok()?)),
+            "keep" => Some(TestRequest::ForGood(name)),
+            "collection" => Some(TestRequest::Collection(name)),
+            "deposit" => Some(TestRequest::Deposit {
+                collection: name,
+                class: second,
+                accession: word(words, 3),
+                closed: closing_day(word(words, 4)),
+                bag: bag(word(words, 5)),
+            }),
+            "list" => Some(TestRequest::List),
+            "list-of" => Some(TestRequest::ListOf(name)),
+            "list-class" => Some(TestRequest::ListOfClass(name)),
+            "bag" => Some(TestRequest::Bag(of)),
+            "record" => Some(TestRequest::Record(of)),
+            "holds" => Some(TestRequest::Holds(of)),
+            "audit" => Some(TestRequest::Audit(of)),
+            "file" => Some(TestRequest::File(of, second)),
+            "hold" => Some(TestRequest::HoldDeposit(of)),
+            "hold-all" => Some(TestRequest::HoldCollection(name)),
+            "hold-class" => Some(TestRequest::HoldClass(name)),
+            "release" => Some(TestRequest::Release(of)),
+            "dispose" => Some(TestRequest::Dispose(of)),
+            "due" => Some(TestRequest::DueList),
+            _ => None,
+        }
+    }
+
     /// The request, where its names are names.
     pub fn request(self) -> Option<Request<'static>> {
         match self {

@@ -11,7 +11,7 @@ mod sessions;
 mod showing;
 mod wording;
 
-pub use asking::TestRequest;
+pub use asking::{TestRequest, number, word};
 pub use derived::{derived_otherwise, look};
 pub use files::{Disks, MANY, SMALL_CACHES, copy_files, empty, has_stopped, lose};
 pub use offices::AnyOffice;

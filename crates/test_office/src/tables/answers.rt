@@ -1,6 +1,5 @@
 //! What is read, in words, and what it answers.
 
-use crate::words::{number, word};
 use office_tables::{
     TableFault, by_accession, class_of, contents, deposit_row, deposit_rows, deposits_and_dues,
     due_row, due_rows, file_of, files_of, has_collection, has_release_outside, hold_row,
@@ -10,6 +9,7 @@ use office_tables::{
 use sqlite::{Alter, Transaction};
 use std::alloc::Global;
 use std::fmt::Debug;
+use test_sessions::{number, word};
 
 /// The answer, as `Debug` shows it, or the code of the fault.
 pub(crate) fn answer_text<T: Debug + Drop>(

@@ -1,6 +1,5 @@
 //! Changes of the rows, in words.
 
-use crate::words::{number, word};
 use office_tables::{
     CallerRow, HoldTarget, NewDeposit, RuleRow, TableFault, add_holds, add_holds_class, drop_files,
     end_hold, mark_gone, put_class, put_collection, put_deposit, put_deposit_and_due, put_file,
@@ -8,6 +7,7 @@ use office_tables::{
 };
 use sqlite::{Alter, Transaction};
 use std::alloc::{AllocError, Global};
+use test_sessions::{number, word};
 
 /// Puts a policy: its callers and its rules.
 fn change_policy<S: Alter>(
