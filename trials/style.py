@@ -8,6 +8,8 @@
 - `words`: README.md, docs/*.md and crates/*/README.md have at most 31,000 words together;
 - `links`: what a document links to is there, and each file that it names in backquotes, with a `/` or as NAME.md; so
   are an anchor, and a section in quotes that follows the name of its document;
+- `edits`: each edit of crates/*/{must-fail,wrong-bodies,controls,refused-by-tests} fits: its files are there, and each
+  `old:` text is in its file exactly once;
 - `hosts`: no tracked file has a path of somebody's machine, or the host of a registry;
 - `trials`: trials.txt has each trial of this folder once, with what its script needs, and every other file is a part of
   one;
@@ -258,6 +260,34 @@ def check_links():
                 if title not in headings[key]:
                     say(name, at(place.start()), f"{place[1]} has no section \"{title}\"")
     return f"{count} links and names in {len(names)} documents"
+
+
+def fit(name, folder):
+    """Says where an edit of sources in this folder doesn't fit them. Its texts are changed in turn."""
+    texts, path = {}, None
+    for number, line in enumerate(text_of(name).split("\n"), 1):
+        key, _, rest = line.partition(":")
+        rest = rest.removeprefix(" ")
+        if key == "file":
+            path = str(folder / rest.strip())
+            if not (TOP / path).is_file():
+                return say(name, number, f"{path} isn't there")
+            texts.setdefault(path, text_of(path))
+        elif key == "old":
+            old = rest
+            if path is None or texts[path].count(old) != 1:
+                return say(name, number, f"this text is in {path} {texts.get(path, '').count(old)} times, not once")
+        elif key == "new":
+            texts[path] = texts[path].replace(old, rest)
+    return None if texts else say(name, 0, "it names no file")
+
+
+def check_edits():
+    names = [pathlib.PurePath(name) for name in FILES if re.fullmatch(r"crates/[^/]+/[^/]+/[^/]+\.edit", name)]
+    for name in names:
+        crates, crate, kind, _ = name.parts
+        fit(str(name), pathlib.PurePath(crates) if kind == "refused-by-tests" else pathlib.PurePath(crates, crate))
+    return f"{len(names)} edits"
 
 
 def check_hosts():
