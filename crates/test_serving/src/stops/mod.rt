@@ -62,7 +62,7 @@ struct Stopped {
 
 static STOPS: [Stopped; 4] = [
     Stopped {
-        way: Way::TestRequest,
+        way: Way::Called,
         of_log: true,
         least: 140,
     },
@@ -72,7 +72,7 @@ static STOPS: [Stopped; 4] = [
         least: 140,
     },
     Stopped {
-        way: Way::TestRequest,
+        way: Way::Called,
         of_log: false,
         least: 50,
     },

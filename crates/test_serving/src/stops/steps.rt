@@ -18,8 +18,8 @@ use test_sessions::{TestRequest, answer_in_words};
 /// How the requests come.
 #[derive(Clone, Copy)]
 pub(crate) enum Way {
-    /// The office is asked.
-    TestRequest,
+    /// The office is called.
+    Called,
     /// The desk hears their bytes.
     Sent,
 }
@@ -227,7 +227,7 @@ fn takes<S: Alter>(
     step: &Step,
 ) -> Result<bool, Fail> {
     match way {
-        Way::TestRequest => {
+        Way::Called => {
             let text = answer_in_words(alloc, office, step.day, "anna", step.asked)?;
             is_accepted(alloc, text.as_bytes(), step.told, b"Store")
         }
