@@ -28,7 +28,7 @@ abbrev pub count_of : ℤ → Option ℕ
 count_of (pos count) = Some count
 count_of (negsuc n) = None
 
--- a count of so many at most
+-- a count that is at most this number
 abbrev pub count_up_to : ℕ → ℤ → Option ℕ
 count_up_to most number = if is_between (pos 0) (pos most) number then count_of number else None
 
@@ -57,7 +57,7 @@ things_told tell (x ∷ xs) = do
 
 -- ---- days
 
--- the dates of so many years from the first
+-- the dates of this number of years from the first
 unfoldable pub dates_from : ℕ → ℕ → List Date
 dates_from first count = flat_map (λ year. flat_map (λ month. filter_map (date_of (pos year) month) (range_with_len 1 31)) (range_with_len 1 12)) (range_with_len first count)
 

@@ -9,7 +9,7 @@ use Rattle.office_core.specs.FirstOf.{◌>>=◌}
 abbrev pub next_of : ClosingRow → ClosingRow
 next_of row = record { number = row.number +ℤ pos 1; closed = row.closed }
 
--- this row and so many more
+-- this row and that number of rows after it
 abbrev pub series_from : ClosingRow → ℕ → List ClosingRow
 series_from row zero = row ∷ []
 series_from row (suc more) = row ∷ series_from (next_of row) more

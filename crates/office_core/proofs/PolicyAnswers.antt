@@ -33,7 +33,7 @@ of_fault text fault (inr (tree, parsed, first)) = ap read_tree parsed ∙ ap (po
 
 -- ---- what an answer says
 
--- a refusal is want of memory, or the one that reading gives
+-- a refusal is that memory ran out, or the one that reading gives
 pub refusal_is : (fault : PolicyFault) (read : Read) → FailsAs (named_policy_fault fault) read → (fault ≡ Memory) ⊎ (read ≡ Err fault)
 refusal_is Memory read e = inl refl
 refusal_is _ read e = inr e

@@ -33,7 +33,7 @@ among_have_days with_days found = all_rules HasDays with_days (rule_has_days wit
 
 -- ---- callers
 
--- what stands at a caller is that caller, with names
+-- what is at a caller is that caller, with names
 caller_is : (entry : List ℕ × Data) (caller : Caller) → caller_in entry ≡ Some caller → (caller.name ≡ entry.0) × IsNamedCaller caller
 caller_is entry caller e =
     let (role, _, read) = some_and_then (as_str entry.1) _ caller e in
@@ -66,7 +66,7 @@ entries_once (member key d ms) once =
     by_Option (caller_in (key, d)) (λ none. rw none (entries_once ms once.1))
     (λ caller is. rw is (subst (λ name. AllByRecursion (λ other. name ≢ other.name) (filter_map caller_in (entries ms))) (sym (caller_is (key, d) caller is).0) (no_such_caller key ms once.0), entries_once ms once.1))
 
--- each caller of a tree stands once
+-- each caller of a tree is there once
 pub callers_once : (tree : Members) → AllSound tree → EachCallerOnce (callers_of tree)
 callers_once tree sound = by_table (get_member (codes "callers") tree) refl
   where
@@ -111,7 +111,7 @@ pub spelled_policy : (text : List ℕ) (policy : PolicyValue) → SpellsPolicy t
 spelled_policy text policy spells =
     subst IsPolicy (sym spells.is) (tree_policy spells.tree (parsed_sound text spells.tree spells.parsed) spells.sound)
 
--- callers and rules that were read are those that stand there
+-- callers and rules that were read are those of the tree
 pub callers_read : (found : Option (List (List ℕ × Data))) (callers : List Caller) → read_callers found ≡ Ok callers → callers_among found ≡ callers
 callers_read found callers e = by_Bool (is_bad_among found) (λ bad. absurd (let read = rw bad at e in cc)) (λ good. let read = rw good at e in cc)
 

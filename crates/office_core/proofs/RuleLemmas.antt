@@ -170,7 +170,7 @@ pub denied_verdict : (facts : Facts) (day : Date) (decision : Option Decision) �
 denied_verdict facts day None e h = rw e refl
 denied_verdict facts day (Some d) e h = rw (e, h d refl) refl
 
--- what an allowed disposal stands on
+-- what an allowed disposal needs
 ready : (facts : Facts) (day : Date) (decision : Decision) (hold : Option ℕ) (due : Due) → facts.decision ≡ Some decision → decision.effect ≡ effects.Allow → facts.gone ≡ None → facts.hold ≡ hold → facts.due ≡ due
     → unwrap_or (first_some (hold_verdict hold ∷ due_verdict day due ∷ [])) Allow ≡ Allow → IsReadyForDisposal facts day
 ready facts day decision (Some k) due a b c d e is = cc

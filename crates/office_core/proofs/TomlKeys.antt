@@ -1,4 +1,4 @@
--- A table that stands at the top of a TOML text has each of its keys once.
+-- A table at the top of a TOML text has each of its keys once.
 use Rattle.office_core.proofs.Common.{◌≡◌, ◌∙◌, ℕ, zero, suc, Bool, true, false, List, [], ◌∷◌, length, drop, Option, Some, None, option_map, option_and_then, refl, sym, ap, subst, Ordering, Less, nat_cmp, is_eq, if◌then◌else◌, none-some, same_Some, option_and_then_some, slice_cmp, ordering_reverse, Data, string, array, table, no_items, Members, no_members, member, same_key, get_member}
 use Rattle.std.proofs.lemmas.Cmp.{nat_list_cmp_total}
 use Rattle.std.specs.Cmp.{tied_itself}
@@ -17,7 +17,7 @@ abbrev pub IsNoKey : List ℕ → Members → Type 0
 IsNoKey k no_members = Unit {0}
 IsNoKey k (member l d ms) = (same_key k l ≡ false) × IsNoKey k ms
 
--- each key stands once
+-- each key is there once
 abbrev pub HasKeysOnce : Members → Type 0
 HasKeysOnce no_members = Unit {0}
 HasKeysOnce (member k d ms) = IsNoKey k ms × HasKeysOnce ms

@@ -305,7 +305,7 @@ pub record IsPolicy (policy : PolicyValue) : Type 0 where
   pub few_rules : length policy.rules ≤ max_rules
   pub few_callers : length policy.callers ≤ max_callers
 
--- ---- what a call answers, memory aside
+-- ---- what a call answers, unless memory runs out
 -- The fault that an answer names: none where memory ran out, which says nothing of the text.
 abbrev pub named_policy_fault : PolicyFault → Option PolicyFault
 named_policy_fault Memory = None

@@ -32,7 +32,7 @@ read_members tree =
     else if has_unknown_key tree then Err UnknownKey
     else (read_callers (caller_entries tree) >>= λ callers. read_rules (has_days tree) (rule_values tree) >>= λ rules. policy_within_limits callers rules)
 
--- a part of a rule is read, or isn't there, memory aside
+-- a part of a rule is read, or isn't there, unless memory runs out
 abbrev pub Reads : {A : Type 0} → Result A RuleFlaw → Option A → Type 0
 Reads (Ok x) found = found ≡ Some x
 Reads (Err Bad) found = found ≡ None

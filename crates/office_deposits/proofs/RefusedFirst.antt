@@ -11,7 +11,7 @@ pub both_of_ok : {A E : Type 0} (result : Result A E) (P Q R : A → Type 0) →
 both_of_ok (Ok x) P Q R both p q = both x p q
 both_of_ok (Err fault) P Q R both p q = tt
 
--- of one refusal, whether it stands or not
+-- of one refusal, whether it applies or not
 pub one_told : (why : Option Refusal) → first_told (Some why ∷ []) ≡ Some why
 one_told (Some why) = refl
 one_told None = refl

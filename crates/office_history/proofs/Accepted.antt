@@ -6,7 +6,7 @@ use Rattle.office_core.specs.Verdicts as deciding
 use Rattle.office_core.specs.declared.request.Request.TheVariants.{Deposit as MakeDeposit}
 use Rattle.office_history.proofs.HistoryLemmas.{one_deposit, one_hold, same_deposits, same_holds}
 
--- ---- where no refusal stands
+-- ---- where no refusal applies
 
 is_so : {A : Type 0} (test : Bool) (x : A) → answer_if (not test) x ≡ None → test ≡ true
 is_so true x e = refl

@@ -84,7 +84,7 @@ row p day caller action gone there rest =
     ∷ refusal_in (deciding.gone_verdict gone)
     ∷ rest d))
 
--- what stands after a refusal is of no matter
+-- what comes after a refusal doesn't matter
 cut : (first : Option Refusal) (why : Refusal) (r s : List (Option Refusal)) → first_some (first ∷ Some why ∷ r) ≡ first_some (first ∷ Some why ∷ s)
 cut None why r s = refl
 cut (Some x) why r s = refl

@@ -1,4 +1,4 @@
--- Due lists and what is kept, by what stands in the lists; audits of legal histories.
+-- Due lists and what is kept, by what is in the lists; audits of legal histories.
 use Rattle.office_history.proofs.FirstLemmas.{◌≡◌, ◌∙◌, ℕ, Bool, false, List, [], ◌∷◌, length, map, Option, Some, None, slice_get, is_none, int_lt, sym, ap, subst, rules, flat_map, Contains, option_map_or, Date, epoch_day, File, first_some, answer_if, gone_verdict, hold_verdict, due_verdict, NotDue, Refusal, Audit, Dispose, numbers, History, Deposit, deposits, deposit_numbered, destruction_day, kept_numbers, IsDisposable, report_on, refusal_in, denial_at, of_deposit, disposal_refusals, refusal, answer, answer_unless, allowed_answer, audit_report, due_list, files_of, contents, IsKept, none_of, is_nothing, Has, contains_has, has_contains, has_filter, filter_has, has_map, map_has, numbered_has, has_gathered, gathered_has, first_places_have, has_in_places, disposable, by_Option}
 use Rattle.office_core.specs.declared.action.Action.TheVariants as acts
 use Rattle.office_core.specs.declared.answer.Answer.TheVariants as answers

@@ -66,7 +66,7 @@ read_of text bag e = by_set (set_of text) refl e
     by_set (Err fault) s e = absurd cc
     by_set (Ok files) s e = by_report files (report_on files) s e
 
--- A deposit that was answered stands in each later history with its bag, which is read from the text that was deposited.
+-- A deposit that was answered is in each later history with its bag, which is read from the text that was deposited.
 pub record WasDeposited (next : History) (n : ℕ) (text : List ℕ) : Type 0 where
   pub found : Date × Deposit
   pub there : deposit_numbered next n ≡ Some found

@@ -41,7 +41,7 @@ pub last_said_last : {A B : Type 0} (says : A → Option B) (xs : List A) (y : A
 last_said_last says [] y b e = rw e refl
 last_said_last says (x ∷ xs) y b e = rw (last_said_last says xs y b e) refl
 
--- an item of two lists in a row stands in the first or in the second
+-- an item of two lists in a row is in the first or in the second
 pub split_two : {A : Type 0} (xs ys before : List A) (c : A) (rest : List A) → xs ++ ys ≡ before ++ c ∷ rest
     → ((more : List A) × (xs ≡ before ++ c ∷ more)) ⊎ ((more : List A) × (before ≡ xs ++ more) × (ys ≡ more ++ c ∷ rest))
 split_two [] ys before c rest e = inr (before, refl, e)

@@ -1,4 +1,4 @@
--- What stands in lists of numbers, in lists that are gathered, and in lists freed of repetitions.
+-- What is in lists of numbers, in lists that are gathered, and in lists freed of repetitions.
 use Rattle.office_history.proofs.Common.{◌≡◌, ℕ, zero, suc, ◌+◌, ◌<◌, ◌≤◌, ◌||◌, false, List, [], ◌∷◌, ◌++◌, length, Some, slice_get, refl, sym, ap, subst, ◌∙◌, inl, inr, ◌⊎◌, arith, true≢false, bytes_eq, AllByRecursion, IsDistinct, flat_map, list_any, range_with_len, or_parts, same_Some, slice_get_within, bytes_eq-Decides, other_way, Has, item_numbered, numbers, distinct_after, in_first_places, by_Bool}
 
 pub has_at : {A : Type 0} (xs : List A) (i : ℕ) (x : A) → slice_get xs i ≡ Some x → Has xs x
@@ -76,7 +76,7 @@ has_distinct y seen (x ∷ xs) found =
       | inr rest ↦ inr (has_distinct y (x ∷ seen) xs rest)
     ])
 
--- a text stands in first places exactly where it stands
+-- a text is among the first places exactly if it is in the list
 pub first_places_have : (y : List ℕ) (texts : List (List ℕ)) → Has texts y → Has (in_first_places texts) y
 first_places_have y texts found = distinct_has y [] texts refl found
 

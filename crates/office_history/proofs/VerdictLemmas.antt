@@ -5,7 +5,7 @@ use Rattle.office_core.specs.declared.action.Action.TheVariants as acts
 use Rattle.office_core.specs.declared.facts.Verdict.{Verdict}
 use Rattle.office_core.specs.declared.facts.Verdict.TheVariants.{Allow}
 
--- verdicts that each refuse, where they stand
+-- verdicts that each refuse, where they apply
 abbrev first_verdict : List (Option Verdict) → Option Refusal
 first_verdict verdicts = refusal_of (unwrap_or (first_some verdicts) Allow)
 

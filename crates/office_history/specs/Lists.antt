@@ -18,7 +18,7 @@ abbrev pub item_numbered : {A : Type 0} → List A → ℕ → Option A
 item_numbered xs zero = None
 item_numbered xs (suc place) = slice_get xs place
 
--- 1, 2, 3 and so on, so many
+-- 1, 2, 3 and so on, up to that number
 abbrev pub numbers : ℕ → List ℕ
 numbers count = range_with_len 1 count
 

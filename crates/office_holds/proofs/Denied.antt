@@ -1,4 +1,4 @@
--- What stands first against a hold or a release, and what is answered and written where nothing does, by the rows that were read.
+-- What first refuses a hold or a release, and what is answered and written where nothing does, by the rows that were read.
 use Rattle.office_holds.proofs.Common.{◌≡◌, ℕ, pos, negsuc, not, Bool, true, false, List, [], ◌∷◌, Option, Some, None, option_map, unwrap_or, refl, sym, ap, ◌∙◌, if◌then◌else◌, epoch_day, ◌>>=◌, answer_if, Refusal, HoldRow, Tables, has_collection, hold_numbered, with_hold, with_released, held_deposit, Visit, denial_in, target_of, allowed_rows, counted_over, new_hold, first_told, full_of_holds, highest_hold, hold_denials, hold_refusals, number_after, of_hold, refusal, release_denial, release_denial_on, released_refusal, none_first, denial_of_name, hold_request, is_there_in, name_denial, subject_of}
 use Rattle.std.specs.Borrow.{MutBor}
 use Rattle.std.proofs.lemmas.Option.{same_Some}
@@ -18,12 +18,12 @@ use Rattle.office_by_rows.specs.Answers.{allowed_answer}
 abbrev pub tables_before : {S : Type 0} → Ghosts S → MutBor (Held S) → Tables
 tables_before g conn = tables_of (state g conn.now).now
 
--- one that is told stands alone
+-- one that is told is alone
 pub alone : (why : Option Refusal) → first_told (Some why ∷ []) ≡ Some why
 alone None = refl
 alone (Some why) = refl
 
--- a refusal that is told stands before that it is missing, or the rules are asked
+-- a refusal that is told comes before that it is missing, or the rules are asked
 missing_or : (there : Bool) (denial : Option (Option Refusal)) (missing : Refusal) (said : Option (Option Refusal)) → (if there then option_map Some denial else Some None) ≡ Some said
     → first_told (Some (answer_if (not there) missing) ∷ denial ∷ []) ≡ Some (unwrap_or said (Some missing))
 missing_or false denial missing said e = ap (option_map (λ o. unwrap_or o (Some missing))) e
@@ -52,11 +52,11 @@ module _ (t : Tables) (visit : Visit) where
   name_denied (OnCollection name) said named e = missing_or (has_collection name t) (denial_in t visit acts.Hold (Some name) None) (NoSuch subjects.Collection) said e
   name_denied (OnClass name) said named e = missing_or (is_there_in t (OnClass name)) (denial_in t visit acts.Hold None (Some name)) (NoSuch subjects.Class) said e
 
-  -- where nothing stands before that the office is full
+  -- where nothing comes before that the office is full
   pub full_first : (target : Target) (full : Option Refusal) → first_told (hold_denials t visit target) ≡ Some None → full_of_holds t ≡ Some full → first_told (hold_refusals t visit target) ≡ Some full
   full_first target full none is = none_first (hold_denials t visit target) (full_of_holds t ∷ []) none ∙ ap (λ o. first_told (o ∷ [])) is ∙ alone full
 
-  -- the request for a hold meets what stands against a hold of its target
+  -- the request for a hold meets what refuses a hold of its target
   pub hold_refused : (target : Target) (matter : List ℕ) → refusal t visit (hold_request target matter) ≡ first_told (hold_refusals t visit target)
   hold_refused (OnDeposit n) matter = refl
   hold_refused _ matter = refl

@@ -1,4 +1,4 @@
--- What is answered by the rows of a legal history, where nothing stands against it, is what the history answers.
+-- What is answered by the rows of a legal history, where nothing refuses it, is what the history answers.
 use Rattle.office_refines.proofs.FirstLemmas.{◌≡◌, ℕ, ◌+◌, ◌*◌, suc, ℤ, pos, ◌≤ℤ◌, ◌&&◌, Bool, true, false, List, [], ◌∷◌, length, Option, Some, None, IfSome, filter, find, map, slice_get, is_none, option_map, refl, sym, ap, subst, ◌∙◌, inl, inr, arith, cond, if◌then◌else◌, bytes_eq, AllByRecursion, cons_option, filter_map, range_with_len, option_map_or, Date, epoch_day, Has, contains_has, is_good, File, IsBag, content_at, max_content, max_files, set_text, and_parts, signed_arith, sort_by, IsDayNumber, ◌>>=◌, answer_if, first_some, IsName, is_name, denial_verdict, Action, Answer, DepositRecord, Refusal, NoFile, Request, Record, Holds, DownloadBag, DownloadFile, Audit, HoldDeposit, HoldCollection, HoldClass, DueList, ClassRow, DepositRow, DueRow, FileRow, Tables, is_disposable, is_file_of, this_version, DisposableRow, disposable_rows, disposable_row, Wanted, file_answer, is_selected, live_hold, record_of, told_of, History, Deposit, covers, deposits, destruction_day, due, hold_numbered, holds, is_live, live_holds, policy, role_of, numbers, deposit_row, due_row, file_row, file_rows, hold_row, picture, AreInRange, IsClassRow, IsDepositRow, report_on, IsLegal, IsSound, all_told, count_up_to, due_of_number, things_told, Visit, hold_by, told_hold, told_holds, highest_deposit, highest_hold, number_after, allowed_answer, audit_of, audit_unless, bag_in, content_stored, file_in, has_names, holds_in, is_allowed_for, is_shown_unless, listed_records, path_cmp, disposable_told, record_by, record_in, stored_files, told_if, day_back, HasBagOf, refusal_before, between, due_number, deposit_numbered, description_of, due_list, listed_record, both, rows_beside, live_told, rows_from, by_Bool, by_Option, none_of, not_gone}
 use Rattle.office_core.specs.declared.request.Request.TheVariants.{Deposit as MakeDeposit, List as ListDeposits}
 use Rattle.bag_text.specs.BagList.{list_fault}
@@ -66,7 +66,7 @@ module _ (h : History) (legal : IsLegal h) (ranged : AreInRange this_version (pi
 
   -- ---- a deposit that is there and kept
 
-  -- where nothing stands against what is asked of it
+  -- where nothing refuses what is asked of it
   pub record IsKept (n : ℕ) : Type 0 where
     pub found : Date × Deposit
     pub there : deposit_numbered h n ≡ Some found
@@ -278,7 +278,7 @@ module _ (h : History) (legal : IsLegal h) (ranged : AreInRange this_version (pi
 
     -- ---- any request
 
-    -- an answer against which nothing stands
+    -- an answer that nothing refuses
     unless : (stands : Option Refusal) (answer : Answer) → stands ≡ None → Some answer ≡ Some (histories.answer_unless stands answer)
     unless stands answer free = ap (λ o. Some (histories.answer_unless o answer)) (sym free)
 

@@ -1,4 +1,4 @@
--- The rows that a request leaves of a legal history, where nothing stands against it: the picture of the history after it.
+-- The rows that a request leaves of a legal history, where nothing refuses it: the picture of the history after it.
 use Rattle.office_refines.proofs.FirstLemmas.{◌≡◌, ℕ, ◌+◌, ◌≤◌, ℤ, pos, negsuc, neg_ℤ, ◌+ℤ◌, ◌&&◌, true, List, [], ◌∷◌, length, Option, Some, None, IsSome, is_some, map, filter, option_map, Result, refl, sym, ap, ◌∙◌, arith, if◌then◌else◌, option_map_or, Decides-eqb, length-map, length_push, same_Some, Date, IsBetween, epoch_day, signed_arith, File, max_years, ◌>>=◌, due_of, Refusal, Request, DefineClass, DefineCollection, HoldDeposit, HoldCollection, HoldClass, Release, Dispose, Never, ClassRow, DueRow, HoldRow, Tables, class_named, is_class, is_of_class, is_within, with_class, with_hold, with_holds, with_deposit_and_due, with_released, this_version, closing_of, IsPlaceable, IsReleasable, IsThere, allowed_change, changes_unless, deposit_change, bag_of, History, Change, Deposit, Hold, Target, OnDeposit, OnCollection, OnClass, DefinedClass, Deposited, PlacedHold, ReleasedHold, deposits, holds, live_holds, with_changes, years_in, years_of, last_said, due_rows, hold_row, picture, years_back, years_number, AreInRange, IsClassRow, IsLegal, allowed_of, depositable, disposable, grown_by_none, releasable, none_gone, all_numbered, HasTarget, limits_hold, placed_holds, ranged_deposits, is_between, years_of_number, Visit, target_of, allowed_rows, count_in, counted_on, counted_over, due_in, if_bag, stored_as, new_deposit, new_hold, placed, released, with_due_days, with_files, refusal_before, between, due_number, deposit_numbered, has_class, with_years, deposit_rows_are, live_told, not_yet, placed_told, released_told, bytes_eq-sym, eqb-sym, none_next, same_number, same_holds, few_live, LeavesDeposits, one_hold}
 use Rattle.office_core.specs.declared.request.Request.TheVariants.{Deposit as MakeDeposit}
 use Rattle.office_rows.specs.Rows as rows
@@ -124,7 +124,7 @@ module _ (h : History) (legal : IsLegal h) (ranged : AreInRange this_version (pi
 
   -- ---- any request
 
-  -- what a request changes, where nothing stands against it
+  -- what a request changes, where nothing refuses it
   changed : (visit : Visit) (request : Request) → refusing.refusal h visit.day visit.caller request ≡ None
       → Some (picture this_version (with_changes h (allowed_change h visit.day request))) ≡ Some (picture this_version (histories.after h visit.day visit.caller request))
   changed visit request free = ap (λ o. Some (picture this_version (with_changes h (changes_unless o (allowed_change h visit.day request))))) (sym free)

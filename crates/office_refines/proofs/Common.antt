@@ -51,7 +51,7 @@ pub use Rattle.office_history.specs.Stocks.{files_of}
 pub use Rattle.office_refines.specs.Refining.{HasBagOf, place_and_effect, refusal_before, rule_and_effect}
 pub use Rattle.office_rows.proofs.Order.{map_back, put_last, sorted_already}
 pub use Rattle.office_rows.specs.Matching.{fits_attempt, fits_name, matching_rule}
-pub use Rattle.office_rows.specs.Rows.{beside, caller_named, CallerRow, class_named, ClassRow, deposit_by, DepositRow, due_numbered, DueRow, FileRow, has_accession, HoldRow, is_by, is_caller, is_class, is_deposit, is_disposable, is_due_of, is_file_of, is_hold, is_live_over, is_of_class, is_within, last_number, least_number, more_holds, OfficeRow, DisposableRowsRise, put_by, RuleRow, Tables, this_version, with_class, with_collection, with_due, with_gone, with_hold, with_holds, with_deposit_and_due, with_new_class, with_new_collection, with_policy, with_released, without_files}
+pub use Rattle.office_rows.specs.Rows.{beside, caller_named, CallerRow, class_named, ClassRow, deposit_by, DepositRow, due_numbered, DueRow, FileRow, has_accession, HoldRow, is_by, is_caller, is_class, is_deposit, is_disposable, is_due_of, is_file_of, is_hold, is_live_over, is_of_class, is_within, last_number, least_number, more_holds, OfficeRow, PlacesRise, put_by, RuleRow, Tables, this_version, with_class, with_collection, with_due, with_gone, with_hold, with_holds, with_deposit_and_due, with_new_class, with_new_collection, with_policy, with_released, without_files}
 pub use Rattle.office_rows.specs.Told.{closing_of, disposable_rows, disposable_row, DisposableRow}
 pub use Rattle.sqlite_keyed.specs.Lists.{insert_sorted, sort_by}
 pub use Rattle.std.proofs.Common.{◌&&◌, ◌*◌, ◌+◌, ◌++◌, ◌+ℤ◌, ◌<◌, ◌==◌, [], add-one, ap, append-nil, append_assoc, ap₂, arith, Bool, bytes_eq, codes, cond, false, filter, find, IfSome, if◌then◌else◌, inl, inr, int_cmp, int_eq, int_le, int_lt, is_ge, is_gt, is_le, is_lt, is_none, is_some, IsSome, length, Less, List, map, nat_cmp, nat_le, nat_lt, neg_ℤ, negsuc, None, not, Option, option_and_then, option_map, pos, position, refl, Result, rules, slice_get, Some, subst, suc, sym, true, true≢false, unwrap_or, zero, ◌||◌, ℕ, ℤ, ◌∙◌, ◌∷◌, ◌≡◌, ◌≤◌, ◌≤ℤ◌}

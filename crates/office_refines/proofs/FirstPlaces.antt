@@ -1,4 +1,4 @@
--- Texts once, where they stand first, when one more comes last.
+-- Texts once, at their first place, when one more comes last.
 use Rattle.office_refines.proofs.Common.{◌≡◌, ℕ, Bool, true, ◌||◌, List, [], ◌∷◌, ◌++◌, refl, ap, ◌∙◌, if◌then◌else◌, bytes_eq, list_any, bytes_eq-Decides, distinct_after, in_first_places, by_Bool, arith}
 
 passed : (s e r : Bool) → (e ≡ true → s ≡ true) → (s || r) ≡ (s || (e || r))

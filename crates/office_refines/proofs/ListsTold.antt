@@ -17,7 +17,7 @@ is_due h visit n = is_none (destruction_day h n) && is_none (refusal h visit.day
 abbrev pub shown_record : History → Visit → Wanted → ℕ → Option DepositRecord
 shown_record h visit wanted n = if is_none (destruction_day h n) then listed_record h visit.day visit.caller wanted n else None
 
--- the rules let the caller destroy what stands there
+-- the rules let the caller destroy that deposit
 abbrev pub may_destroy : History → Visit → DisposableRow → Bool
 may_destroy h visit place = is_none (denial h visit.day visit.caller acts.Dispose (Some place.collection) (Some place.class))
 

@@ -1,5 +1,5 @@
 -- The rows of callers, and those of a policy that is installed.
-use Rattle.office_refines.proofs.FirstLemmas.{◌≡◌, ℕ, ◌+◌, List, [], ◌∷◌, map, option_map, refl, ap, ◌∙◌, arith, ◌<◌, pos, Less, sym, bytes_eq, find, int_cmp, AllByRecursion, PolicyValue, or_stranger, Rule, CallerRow, RuleRow, caller_named, DisposableRowsRise, with_policy, this_version, sorted_already, caller_row, rule_rows, office_row, picture, History, Change, Installed, with_changes, policy, policy_grown, is_less, same_classes, same_collection_rows, same_deposit_rows, same_due_rows, same_file_rows, same_hold_rows, by_Bool}
+use Rattle.office_refines.proofs.FirstLemmas.{◌≡◌, ℕ, ◌+◌, List, [], ◌∷◌, map, option_map, refl, ap, ◌∙◌, arith, ◌<◌, pos, Less, sym, bytes_eq, find, int_cmp, AllByRecursion, PolicyValue, or_stranger, Rule, CallerRow, RuleRow, caller_named, PlacesRise, with_policy, this_version, sorted_already, caller_row, rule_rows, office_row, picture, History, Change, Installed, with_changes, policy, policy_grown, is_less, same_classes, same_collection_rows, same_deposit_rows, same_due_rows, same_file_rows, same_hold_rows, by_Bool}
 use Rattle.office_core.specs.declared.caller.Caller.{Caller}
 
 -- ---- the role
@@ -14,7 +14,7 @@ all_above : (low place : ℕ) (rules : List Rule) → low < place → AllByRecur
 all_above low place [] less = tt
 all_above low place (rule ∷ rules) less = (is_less low place less, all_above low (place + 1) rules (omega (arith, less)))
 
-places_rise : (place : ℕ) (rules : List Rule) → DisposableRowsRise (rule_rows place rules)
+places_rise : (place : ℕ) (rules : List Rule) → PlacesRise (rule_rows place rules)
 places_rise place [] = tt
 places_rise place (rule ∷ rules) = (all_above place (place + 1) rules (omega arith), places_rise (place + 1) rules)
 

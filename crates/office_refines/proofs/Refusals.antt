@@ -12,7 +12,7 @@ use Rattle.office_refines.proofs.ClassesTold.{years_of_row}
 use Rattle.office_refines.proofs.CollectionsTold.{collection_there}
 use Rattle.office_refines.proofs.Readings.{days_exact, denial_exact, facts_exact, hold_at, hold_ranged, hold_told_exact, role_exact}
 
--- ---- the first that stands
+-- ---- the first that applies
 
 pub first_exact : (xs : List (Option Refusal)) → first_told (map Some xs) ≡ Some (first_some xs)
 first_exact [] = refl

@@ -1,4 +1,4 @@
--- What a request does to the rows of a legal history, by what stands against it, what it answers, and the rows that it leaves.
+-- What a request does to the rows of a legal history, by what refuses it, what it answers, and the rows that it leaves.
 use Rattle.office_refines.proofs.Common.{◌≡◌, ℕ, List, [], ◌∷◌, Option, Some, None, refl, sym, ap, ◌∙◌, Date, ◌>>=◌, first_some, Answer, Refusal, Request, DownloadFile, Tables, this_version, allowed_change, answer_unless, changes_unless, History, Deposit, with_changes, picture, denial_at, file_refusals, no_file, grown_by_none, Visit, allowed_answer, allowed_rows, serve, serve_unless, refusal_before, deposit_numbered, gone_refusal, of_deposit, refusal}
 use Rattle.office_history.specs.Refusals.{kept_refusals}
 use Rattle.office_core.specs.declared.action.Action.TheVariants as acts
@@ -6,7 +6,7 @@ use Rattle.office_history.specs.Answers as histories
 use Rattle.office_history.specs.Refusals as refusing
 
 module _ (h : History) (day : Date) (caller : List ℕ) where
-  -- what stands against the download of a bag stands against that of each of its files
+  -- what refuses the download of a bag refuses that of each of its files
   file_refused : (n : ℕ) (path : List ℕ) (why : Refusal) → first_some (of_deposit (deposit_numbered h n) (kept_refusals h day caller acts.Download n)) ≡ Some why
       → first_some (of_deposit (deposit_numbered h n) (file_refusals h day caller n path)) ≡ Some why
   file_refused n path why = by (deposit_numbered h n)

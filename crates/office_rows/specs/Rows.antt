@@ -198,8 +198,8 @@ abbrev pub caller_named : List ℕ → List CallerRow → Option CallerRow
 caller_named name = find (is_caller name)
 
 -- the rules ascend by place
-abbrev pub DisposableRowsRise : List RuleRow → Type 0
-DisposableRowsRise = NumbersRise (λ r. r.place)
+abbrev pub PlacesRise : List RuleRow → Type 0
+PlacesRise = NumbersRise (λ r. r.place)
 
 -- these callers, and these rules sorted by place; and none of those before
 abbrev pub with_policy : List CallerRow → List RuleRow → Tables → Tables
@@ -257,7 +257,7 @@ deposit_by accession = find (has_accession accession)
 abbrev pub new_due_row : ℤ → Option ℤ → ℤ → DueRow
 new_due_row n due holds = record { number = n; due = due; holds = holds }
 
--- the deposit is in its place by number; it falls due on that day or never, and so many live holds cover it
+-- the deposit is in its place by number; it falls due on that day or never, and this number of live holds covers it
 abbrev pub with_deposit_and_due : DepositRow → Option ℤ → ℤ → Tables → Tables
 with_deposit_and_due d due holds t = record t { deposits = put_by (λ e. e.number) d t.deposits; dues = put_by (λ e. e.number) (new_due_row d.number due holds) t.dues }
 
@@ -288,7 +288,7 @@ is_due_between first last d = is_ge (int_cmp d.number first) && is_le (int_cmp d
 abbrev pub with_dues : ℤ → ℤ → Option ℤ → Tables → Tables
 with_dues first last due t = record t { dues = map (λ d. if is_due_between first last d then record d { due = due } else d) t.dues }
 
--- so many live holds cover the deposit
+-- this number of live holds covers the deposit
 abbrev pub with_holds : ℤ → ℤ → Tables → Tables
 with_holds n holds t = record t { dues = map (λ d. if is_due_of n d then record d { holds = holds } else d) t.dues }
 
@@ -298,7 +298,7 @@ beside [] dues = []
 beside (d ∷ ds) [] = []
 beside (d ∷ ds) (k ∷ ks) = (d, k) ∷ beside ds ks
 
--- each deposit that passes has so many more live holds
+-- each deposit that passes has this number of live holds more
 abbrev pub more_holds : (DepositRow → Bool) → ℤ → List DepositRow → List DueRow → List DueRow
 more_holds those by ds ks = map (λ p. if those p.0 then record p.1 { holds = p.1.holds +ℤ by } else p.1) (beside ds ks)
 
@@ -454,4 +454,4 @@ with_rules rs t = record t { rules = put_each_by (λ s. s.place) rs t.rules }
 pub record AreInOrder (t : Tables) : Type 0 where
   pub deposits : NumbersRise (λ d. d.number) t.deposits
   pub holds : NumbersRise (λ h. h.number) t.holds
-  pub rules : DisposableRowsRise t.rules
+  pub rules : PlacesRise t.rules

@@ -5,7 +5,7 @@ ghost use Rattle.std.specs.List.{AllByRecursion};
 ghost use Rattle.std.specs.List.Sorted.{IsPermutation};
 ghost use Rattle.std.specs.Ordering.{int_cmp};
 ghost use Rattle.std.specs.declared.cmp.Ordering.TheVariants.{Less};
-ghost use Rattle.office_rows.specs.Rows.{Tables, CallerRow, RuleRow, IsLimit, NumbersBelow, NumbersRise, NumbersDiffer, DisposableRowsRise, put_by, sorted_by, last_number, with_policy};
+ghost use Rattle.office_rows.specs.Rows.{Tables, CallerRow, RuleRow, IsLimit, NumbersBelow, NumbersRise, NumbersDiffer, PlacesRise, put_by, sorted_by, last_number, with_policy};
 
 /// A limit is one of the numbers from 1 to 1,000,000.
 pub fn limits_are_in_range()
@@ -32,11 +32,11 @@ pub fn new_rows_keep_the_order<Row>()
 /// as they are where their places rise.
 pub fn rules_are_sorted()
     ensures sorted { (rules : List RuleRow) → NumbersDiffer (λ r. r.place) rules
-        → DisposableRowsRise (sorted_by (λ r. r.place) rules) }
+        → PlacesRise (sorted_by (λ r. r.place) rules) }
     ensures each { (rules : List RuleRow)
         → IsPermutation rules (sorted_by (λ r. r.place) rules) }
     ensures rising { (callers : List CallerRow) (rules : List RuleRow) (tables : Tables)
-        → DisposableRowsRise rules
+        → PlacesRise rules
         → with_policy callers rules tables
         ≡ record tables { callers = callers; rules = rules } }
 {}

@@ -103,7 +103,7 @@ shown_same sql params old new schema has plain rows h =
     let bare = subst IsPlain (sym known) plain in
     (rw (bare.0) at h.2).3
 
--- ORDER BY with a key that rises over the table: the answer is what is shown of the kept rows, as they stand
+-- ORDER BY with a key that rises over the table: the answer is what is shown of the rows that pass, in their order
 pub answers_rising : (db : Trees) (params : Row) (tree : ℕ) (test project : List Term) (order : List (Term × Key)) (rows : List Row) (keep : Row → Bool) → Scans db params tree test project order rows
     → AllByRecursion (λ r. passes params test r ≡ keep r) (db tree)
     → IsAscending (λ a b. output_cmp (scan tree test project order) (output (scan tree test project order) (params ∷ a ∷ [])) (output (scan tree test project order) (params ∷ b ∷ [])) ≡ Less) (db tree)

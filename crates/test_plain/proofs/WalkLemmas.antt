@@ -27,7 +27,7 @@ within_grown h (PlacedHold day hold) room within =
 within_grown h change room within =
     within_so h _ within (omega (arith, within.deposits_in, ap length (same_deposits h (change ∷ []) refl))) (omega (arith, within.holds_in, ap length (same_holds h (change ∷ []) refl)))
 
--- the number of the first deposit that has this accession, where so many stand before
+-- the number of the first deposit that has this accession, after this number of others
 abbrev pub accession_behind : ℕ → List ℕ → List (Date × Deposit) → Option ℕ
 accession_behind n accession [] = None
 accession_behind n accession (d ∷ ds) = if bytes_eq d.1.description.accession accession then Some (n + 1) else accession_behind (n + 1) accession ds

@@ -12,8 +12,8 @@ pub enum SessionFault {
     /// A row's day is no day, or what it asks is no request.
     #[error("a row asks nothing")]
     AsksNothing,
-    /// The policy is none.
-    #[error("the policy is none")]
+    /// The policy is malformed.
+    #[error("the policy is malformed")]
     NoPolicy,
     /// The policy was not installed.
     #[error("not installed: {0}")]
