@@ -36,8 +36,13 @@ pub(crate) fn rows(alloc: Global, text: &'static str) -> Option<Vec<Row>> {
         match line.split_once(" > ") {
             Some((asks, answer)) => {
                 let words: Vec<&'static str> = asks.split(' ').collect(alloc).ok()?;
-                rows.push((when.0, when.1, TestRequest::read(&words)?, answer_of(answer)))
-                    .ok()?;
+                rows.push((
+                    when.0,
+                    when.1,
+                    TestRequest::read(&words)?,
+                    answer_of(answer),
+                ))
+                .ok()?;
             }
             None => when = line.split_once(' ')?,
         }

@@ -260,7 +260,10 @@ pub(crate) fn take_holds<S: Alter>(alloc: Global, office: &mut Office<S>) -> Res
 }
 
 /// Requests to the office after that session, where a content is altered. It is as before in the end.
-pub(crate) fn take_altered<S: Alter + Drop>(alloc: Global, office: Office<S>) -> Result<Office<S>, Fail> {
+pub(crate) fn take_altered<S: Alter + Drop>(
+    alloc: Global,
+    office: Office<S>,
+) -> Result<Office<S>, Fail> {
     let mut office = altered(office, ALTERS)?;
     take(alloc, &mut office, &DOWNLOADS)?;
     altered(office, RESTORES)

@@ -6,7 +6,7 @@ use std::io;
 use test_bags::{BAGS, DENIED_EVERYTHING};
 
 /// Bags and a question of `explain` through the program, and the calls below it.
-pub fn bags(rt: &HostRuntime) -> io::Result<()> {
+pub(crate) fn bags(rt: &HostRuntime) -> io::Result<()> {
     for worked in &BAGS {
         say(rt, worked.0, lines::judge(rt, *worked))?;
     }

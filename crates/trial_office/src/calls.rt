@@ -14,7 +14,7 @@ const LISTING: &[u8] =
     b"ba7816bf8f01cfea414140de5dae2223b00361a396177a9cb410ff61f20015ad  data/a%0A\nba7816bf8f01cfea414140de5dae2223b00361a396177a9cb410ff61f20015ad  data/b\n";
 
 /// Reads the words of `check`.
-pub fn read_check(alloc: Global) -> Outcome {
+pub(crate) fn read_check(alloc: Global) -> Outcome {
     match read_line(alloc, ["check", "-"].as_slice()) {
         Ok(Line::Check { file }) => Outcome::expected_if(file == "-"),
         Err(UseFault::Memory) => Outcome::Memory,
@@ -23,7 +23,7 @@ pub fn read_check(alloc: Global) -> Outcome {
 }
 
 /// Reads the words of `explain`.
-pub fn read_explain(alloc: Global) -> Outcome {
+pub(crate) fn read_explain(alloc: Global) -> Outcome {
     let words = ["explain", "p", "anna", "list", "-", "y1"];
     match read_line(alloc, words.as_slice()) {
         Ok(Line::Explain(asked)) => Outcome::expected_if(asked.caller == "anna"),
@@ -33,7 +33,7 @@ pub fn read_explain(alloc: Global) -> Outcome {
 }
 
 /// Reads invalid words.
-pub fn refuse_words(alloc: Global) -> Outcome {
+pub(crate) fn refuse_words(alloc: Global) -> Outcome {
     match read_line(alloc, ["check"].as_slice()) {
         Ok(_) => Outcome::Wrong,
         Err(UseFault::Use(text)) => Outcome::expected_if(text.ends_with('\n')),
@@ -42,7 +42,7 @@ pub fn refuse_words(alloc: Global) -> Outcome {
 }
 
 /// Reads the transfer form of a bag.
-pub fn read_form(alloc: Global) -> Outcome {
+pub(crate) fn read_form(alloc: Global) -> Outcome {
     match read_bagset(alloc, BAG) {
         Ok(bag) => Outcome::expected_if(bag.files().len() == 3),
         Err(fault) => Outcome::memory_if(fault == SetFault::Memory),
@@ -50,7 +50,7 @@ pub fn read_form(alloc: Global) -> Outcome {
 }
 
 /// Judges a bag.
-pub fn judge_form(alloc: Global) -> Outcome {
+pub(crate) fn judge_form(alloc: Global) -> Outcome {
     let bag = match read_bagset(alloc, BAG) {
         Ok(bag) => bag,
         Err(fault) => return Outcome::memory_if(fault == SetFault::Memory),
@@ -63,7 +63,7 @@ pub fn judge_form(alloc: Global) -> Outcome {
 }
 
 /// Reads a manifest that spells one of its paths.
-pub fn read_listing(alloc: Global) -> Outcome {
+pub(crate) fn read_listing(alloc: Global) -> Outcome {
     match read_manifest(alloc, LISTING, Version::V1_0, Algorithm::Sha256) {
         Ok(manifest) => Outcome::expected_if(
             manifest.lists("data/a\n") && manifest.lists("data/b"),
@@ -73,7 +73,7 @@ pub fn read_listing(alloc: Global) -> Outcome {
 }
 
 /// Reads a text of `bag-info.txt`.
-pub fn read_pairs(alloc: Global) -> Outcome {
+pub(crate) fn read_pairs(alloc: Global) -> Outcome {
     match read_bag_info(alloc, b"A: b\n  c\n  d\nE: f\n") {
         Ok(info) => Outcome::expected_if(info.pairs.len() == 2),
         Err(fault) => Outcome::memory_if(fault == InfoFault::Memory),
@@ -81,7 +81,7 @@ pub fn read_pairs(alloc: Global) -> Outcome {
 }
 
 /// Makes a bag of a list of files, and writes it.
-pub fn write_form(alloc: Global) -> Outcome {
+pub(crate) fn write_form(alloc: Global) -> Outcome {
     match BagSet::of(alloc, &[("a", b"b"), ("c", b"")]) {
         Ok(bag) => match write_bagset(alloc, &bag) {
             Ok(text) => Outcome::expected_if(

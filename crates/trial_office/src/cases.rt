@@ -48,7 +48,7 @@ fn said_group(said: &[u8]) -> Option<Group> {
 
 /// Prints how each case of the one group that standard input names comes out, or of all where it names none.
 /// Whether all were wanted.
-pub fn answer(rt: &HostRuntime) -> io::Result<bool> {
+pub(crate) fn answer(rt: &HostRuntime) -> io::Result<bool> {
     let mut room = [0_u8; 16];
     let length = rt.stdin().read(&mut room)?;
     let only = said_group(room.get(..length).unwrap_or(&[]));
@@ -57,7 +57,7 @@ pub fn answer(rt: &HostRuntime) -> io::Result<bool> {
 }
 
 /// Prints how each case comes out.
-pub fn answer_all(rt: &HostRuntime) -> io::Result<()> {
+pub(crate) fn answer_all(rt: &HostRuntime) -> io::Result<()> {
     answer_group(rt, None)
 }
 

@@ -10,7 +10,7 @@ use std::alloc::{AllocError, Global};
 
 /// A change. Deposits and holds are named by their numbers.
 #[derive(Clone, Copy)]
-pub enum Change<'a> {
+pub(crate) enum Change<'a> {
     /// Callers with their roles, and rules, in the place of those before.
     Policy(&'a [(&'a str, &'a str)], &'a [Rule<'a>]),
     /// A class and its years.
@@ -27,7 +27,7 @@ pub enum Change<'a> {
 }
 
 /// Makes the changes in one transaction, which is committed where all are made.
-pub fn commit<S: Alter>(
+pub(crate) fn commit<S: Alter>(
     alloc: Global,
     conn: &mut Connection<S>,
     changes: &[Change],

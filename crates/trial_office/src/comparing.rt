@@ -184,7 +184,7 @@ fn compare_new<S: Alter + Drop>(
 }
 
 /// The same by a seed. The connection again, and what came of the requests.
-pub fn compare<S: Alter + Drop>(
+pub(crate) fn compare<S: Alter + Drop>(
     alloc: Global,
     conn: Connection<S>,
     seed: u64,
@@ -206,7 +206,7 @@ fn compare_with_memory(
 }
 
 /// Puts this number of requests, drawn by the seed, to an office in memory and to the plain office.
-pub fn compare_in_memory(alloc: Global, seed: u64, count: u32) -> Result<Tally> {
+pub(crate) fn compare_in_memory(alloc: Global, seed: u64, count: u32) -> Result<Tally> {
     let (_, tally) = compare_with_memory(alloc, &mut Draws::new(seed), count)?;
     Ok(tally)
 }
@@ -214,7 +214,7 @@ pub fn compare_in_memory(alloc: Global, seed: u64, count: u32) -> Result<Tally> 
 /// Goes on where `compare` left an office after this number of requests, with as many more: its tables may be
 /// those of an older version by now, and are upgraded first. Fails where an answer isn't that of the plain
 /// office that is brought to the same place. The connection again, and what came of the further requests.
-pub fn compare_on<S: Alter + Drop>(
+pub(crate) fn compare_on<S: Alter + Drop>(
     alloc: Global,
     conn: Connection<S>,
     seed: u64,

@@ -64,22 +64,22 @@ static KINDS: [Kind; 29] = [
 
 /// What is put to both offices.
 #[derive(Drop)]
-pub struct Drawn {
+pub(crate) struct Drawn {
     /// The text of a policy that is installed before the request, where one is.
-    pub policy: Option<&'static str>,
-    pub day: Day,
-    pub caller: &'static str,
-    pub request: Request<'static>,
+    pub(crate) policy: Option<&'static str>,
+    pub(crate) day: Day,
+    pub(crate) caller: &'static str,
+    pub(crate) request: Request<'static>,
 }
 
 /// Draws what is put to the offices, the same for the same seed.
 #[derive(Drop)]
-pub struct Draws {
+pub(crate) struct Draws {
     generator: Pcg32,
 }
 
 impl Draws {
-    pub fn new(seed: u64) -> Draws {
+    pub(crate) fn new(seed: u64) -> Draws {
         Draws {
             generator: Pcg32::new(seed, 0),
         }
@@ -192,7 +192,7 @@ impl Draws {
     }
 
     /// What is put to the offices next.
-    pub fn next(&mut self) -> Option<Drawn> {
+    pub(crate) fn next(&mut self) -> Option<Drawn> {
         let kind = *KINDS.choose(&mut self.generator)?;
         Some(Drawn {
             policy: self.policy()?,

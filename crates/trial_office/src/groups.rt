@@ -7,15 +7,15 @@ use std::io;
 use test_sessions::{AnyOffice, POLICY};
 
 /// Prints how a case came out.
-pub fn say(rt: &HostRuntime, name: &str, outcome: Outcome) -> io::Result<()> {
+pub(crate) fn say(rt: &HostRuntime, name: &str, outcome: Outcome) -> io::Result<()> {
     println!(rt; "{name}: {}", outcome.words())
 }
 
 /// The words of a command line, and the calls below the program.
-pub fn run_calls(rt: &HostRuntime) -> io::Result<()> {
+pub(crate) fn run_calls(rt: &HostRuntime) -> io::Result<()> {
     say(rt, "words of check", calls::read_check(rt.alloc()))?;
     say(rt, "words of explain", calls::read_explain(rt.alloc()))?;
-    say(rt, "words of no use", calls::refuse_words(rt.alloc()))?;
+    say(rt, "invalid arguments", calls::refuse_words(rt.alloc()))?;
     say(rt, "a form read", calls::read_form(rt.alloc()))?;
     say(rt, "a form judged", calls::judge_form(rt.alloc()))?;
     say(rt, "a manifest read", calls::read_listing(rt.alloc()))?;
@@ -24,7 +24,7 @@ pub fn run_calls(rt: &HostRuntime) -> io::Result<()> {
 }
 
 /// A session over the tables. Where memory ran out before there was a database, the second has to be.
-pub fn run_tables(rt: &HostRuntime) -> io::Result<()> {
+pub(crate) fn run_tables(rt: &HostRuntime) -> io::Result<()> {
     match Connection::open_in_memory(rt.alloc()) {
         Ok(mut conn) => session(rt, &mut conn),
         Err(_) => {
@@ -45,7 +45,7 @@ fn session(rt: &HostRuntime, conn: &mut Connection<MemStore>) -> io::Result<()> 
 }
 
 /// A session with the plain office.
-pub fn run_plain_office(rt: &HostRuntime) -> io::Result<()> {
+pub(crate) fn run_plain_office(rt: &HostRuntime) -> io::Result<()> {
     let Some(mut office) = offices::plain(rt.alloc()) else {
         return say(rt, "an office", Outcome::Wrong);
     };
@@ -54,7 +54,7 @@ pub fn run_plain_office(rt: &HostRuntime) -> io::Result<()> {
 }
 
 /// The same session with the office over tables in memory.
-pub fn run_office(rt: &HostRuntime) -> io::Result<()> {
+pub(crate) fn run_office(rt: &HostRuntime) -> io::Result<()> {
     let Some((outcome, mut office)) = offices::over_tables(rt.alloc()) else {
         return say(rt, "an office over tables", Outcome::Wrong);
     };

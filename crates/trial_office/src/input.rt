@@ -10,7 +10,7 @@ use std::time::Instant;
 
 /// What is done with standard input.
 #[derive(Clone, Copy)]
-pub enum Input {
+pub(crate) enum Input {
     /// A request is heard.
     Heard,
     /// All of it is read.
@@ -54,7 +54,7 @@ fn peak(rt: &HostRuntime) -> Result<u64> {
 
 impl Input {
     /// What a word asks for.
-    pub fn read(word: &str) -> Option<Input> {
+    pub(crate) fn read(word: &str) -> Option<Input> {
         match word {
             "hear" => Some(Input::Heard),
             "read-all" => Some(Input::Whole),
@@ -64,7 +64,7 @@ impl Input {
 
     /// Takes standard input, and prints how many bytes were heard or read, the microseconds, and the
     /// most memory that the program has taken, in KiB.
-    pub fn measure(self, rt: &HostRuntime) -> Result<()> {
+    pub(crate) fn measure(self, rt: &HostRuntime) -> Result<()> {
         let start = Instant::now(rt)?;
         let length = match self {
             Input::Heard => hear(rt)?,

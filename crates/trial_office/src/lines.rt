@@ -14,7 +14,7 @@ const ASKED: &str = "asked.toml";
 
 /// What a run on these words and this standard input prints, what it says on standard error, and how it
 /// ends, with room for the lines taken first.
-pub fn run_words(
+pub(crate) fn run_words(
     rt: &HostRuntime,
     words: &[&str],
     input: &[u8],
@@ -51,14 +51,14 @@ fn outcome(
 }
 
 /// Judges a bag from standard input.
-pub fn judge(rt: &HostRuntime, worked: WorkedBag) -> Outcome {
+pub(crate) fn judge(rt: &HostRuntime, worked: WorkedBag) -> Outcome {
     let (_, form, line, reason, ending) = worked;
     let found = run_words(rt, ["check", "-"].as_slice(), form);
     outcome(found, line, reason, ending)
 }
 
 /// Asks a policy file, written for this, which rule decides.
-pub fn explain(rt: &HostRuntime, worked: WorkedQuestion) -> Outcome {
+pub(crate) fn explain(rt: &HostRuntime, worked: WorkedQuestion) -> Outcome {
     if fs::write(rt, ASKED, worked.policy).is_err() {
         return Outcome::Memory;
     }

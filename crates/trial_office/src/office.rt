@@ -8,31 +8,31 @@ use std::alloc::{AllocError, Global};
 
 /// A hold, as it is placed.
 #[derive(Clone, Copy)]
-pub struct Hold<'a> {
-    pub number: u32,
-    pub target: HoldTarget<'a>,
-    pub matter: &'a str,
-    pub placed: i64,
+pub(crate) struct Hold<'a> {
+    pub(crate) number: u32,
+    pub(crate) target: HoldTarget<'a>,
+    pub(crate) matter: &'a str,
+    pub(crate) placed: i64,
 }
 
 /// A rule of the policy.
 #[derive(Clone, Copy)]
-pub struct Rule<'a> {
-    pub place: i64,
-    pub effect: i64,
-    pub role: &'a str,
-    pub action: &'a str,
-    pub collection: &'a str,
-    pub class: &'a str,
+pub(crate) struct Rule<'a> {
+    pub(crate) place: i64,
+    pub(crate) effect: i64,
+    pub(crate) role: &'a str,
+    pub(crate) action: &'a str,
+    pub(crate) collection: &'a str,
+    pub(crate) class: &'a str,
     /// The numbers of its first day and its last.
-    pub first: i64,
-    pub last: i64,
+    pub(crate) first: i64,
+    pub(crate) last: i64,
 }
 
 /// The number of the first day of the office, and of its last.
-pub const FIRST_DAY: i64 = -25_567;
+pub(crate) const FIRST_DAY: i64 = -25_567;
 
-pub const LAST_DAY: i64 = 2_859_848;
+pub(crate) const LAST_DAY: i64 = 2_859_848;
 
 /// A policy that is put in the place of one, a class that is revised, and a collection put twice.
 static DEFINITIONS: [Change<'static>; 10] = [
@@ -83,7 +83,7 @@ static DEFINITIONS: [Change<'static>; 10] = [
 ];
 
 /// The first deposit. What another one doesn't say is as here.
-pub const FIRST_DEPOSIT: NewDeposit<'static> = NewDeposit {
+pub(crate) const FIRST_DEPOSIT: NewDeposit<'static> = NewDeposit {
     number: 1,
     accession: "2026-0001",
     collection: "maps",
@@ -181,7 +181,7 @@ static HOLDS: [Change<'static>; 6] = [
 ];
 
 /// What a deposit is about, where each text has the form of its part. Every description here is made by this.
-pub fn described<'a>(
+pub(crate) fn described<'a>(
     collection: &'a str,
     class: &'a str,
     accession: &'a str,
@@ -214,7 +214,7 @@ fn long_content(alloc: Global) -> Result<Vec<u8>, AllocError> {
 }
 
 /// Makes an office in the empty database.
-pub fn make<S: Alter>(conn: &mut Connection<S>) -> Result<(), TableFault> {
+pub(crate) fn make<S: Alter>(conn: &mut Connection<S>) -> Result<(), TableFault> {
     if !conn.is_autocommit() {
         return Err(TableFault::Store);
     }
@@ -222,7 +222,7 @@ pub fn make<S: Alter>(conn: &mut Connection<S>) -> Result<(), TableFault> {
 }
 
 /// Makes the worked office in the empty database.
-pub fn write<S: Alter>(alloc: Global, conn: &mut Connection<S>) -> Result<(), TableFault> {
+pub(crate) fn write<S: Alter>(alloc: Global, conn: &mut Connection<S>) -> Result<(), TableFault> {
     make(conn)?;
     commit(alloc, conn, &DEFINITIONS)?;
     commit(alloc, conn, &DEPOSITS)?;

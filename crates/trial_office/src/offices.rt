@@ -16,7 +16,7 @@ use test_sessions::AnyOffice;
 
 /// What is asked.
 #[derive(Clone, Copy)]
-pub enum Part {
+pub(crate) enum Part {
     Class,
     Collection,
     BadBag,
@@ -44,7 +44,7 @@ pub enum Part {
 }
 
 /// The session up to the releases: each request with its name and its day, in turn.
-pub static SESSION: [(&str, &str, Part); 19] = [
+pub(crate) static SESSION: [(&str, &str, Part); 19] = [
     ("a class defined", "2024-03-01", Part::Class),
     ("a collection defined", "2024-03-01", Part::Collection),
     ("a bad bag refused", "2024-03-01", Part::BadBag),
@@ -70,11 +70,11 @@ pub static SESSION: [(&str, &str, Part); 19] = [
 static TOGETHER: [Part; 3] = [Part::DueList, Part::List, Part::Bag];
 
 /// The policy of the end of the session, whose first rule denies disposals until the end of 2029.
-pub const DATED_POLICY: &str =
+pub(crate) const DATED_POLICY: &str =
     "version = 2\n\n[callers]\nanna = \"archivist\"\n\n[[rule]]\neffect = \"deny\"\nrole = \"archivist\"\naction = \"dispose\"\ncollection = \"maps\"\nclass = \"*\"\nfirst = \"2024-03-01\"\nlast = \"2029-12-31\"\n\n[[rule]]\neffect = \"allow\"\nrole = \"archivist\"\naction = \"*\"\ncollection = \"*\"\nclass = \"*\"\n";
 
 /// And the end of the session.
-pub static END: [(&str, &str, Part); 5] = [
+pub(crate) static END: [(&str, &str, Part); 5] = [
     (
         "a disposal denied on its day",
         "2029-12-31",
@@ -87,25 +87,25 @@ pub static END: [(&str, &str, Part); 5] = [
 ];
 
 /// What is kept before the disposals: three contents, of 54, 3 and 73 bytes, which both deposits have.
-pub const KEPT: Stock = Stock {
+pub(crate) const KEPT: Stock = Stock {
     contents: 3,
     bytes: 130,
 };
 
 /// And after them.
-pub const NOTHING: Stock = Stock {
+pub(crate) const NOTHING: Stock = Stock {
     contents: 0,
     bytes: 0,
 };
 
 /// A new plain office.
-pub fn plain(alloc: Global) -> Option<test_plain::Office> {
+pub(crate) fn plain(alloc: Global) -> Option<test_plain::Office> {
     let limits = Limits::new(10, 10)?;
     Some(test_plain::Office::create(alloc, limits))
 }
 
 /// A new office over tables in memory. Where memory was refused to a call, it is made once more.
-pub fn over_tables(alloc: Global) -> Option<(Outcome, Office<MemStore>)> {
+pub(crate) fn over_tables(alloc: Global) -> Option<(Outcome, Office<MemStore>)> {
     let limits = Limits::new(10, 10)?;
     let (outcome, conn) = match Connection::open_in_memory(alloc) {
         Ok(conn) => (Outcome::Expected, conn),
@@ -127,7 +127,7 @@ pub fn over_tables(alloc: Global) -> Option<(Outcome, Office<MemStore>)> {
 }
 
 /// The office of the same tables, taken out and adopted again. Where memory was refused, once more.
-pub fn adopt_again(office: Office<MemStore>) -> Option<(Outcome, Office<MemStore>)> {
+pub(crate) fn adopt_again(office: Office<MemStore>) -> Option<(Outcome, Office<MemStore>)> {
     match Office::adopt(office.into_connection()) {
         Ok(office) => Some((Outcome::Expected, office)),
         Err((conn, TableFault::Memory | TableFault::Store)) => match Office::adopt(conn) {
@@ -139,7 +139,7 @@ pub fn adopt_again(office: Office<MemStore>) -> Option<(Outcome, Office<MemStore
 }
 
 /// What the office lists as due; where memory was refused, once more.
-pub fn due(alloc: Global, office: &mut Office<MemStore>) -> Outcome {
+pub(crate) fn due(alloc: Global, office: &mut Office<MemStore>) -> Outcome {
     let Some(day) = Day::read("2030-01-02") else {
         return Outcome::Wrong;
     };
@@ -166,7 +166,7 @@ fn install_once<O: AnyOffice>(alloc: Global, office: &mut O, text: &str) -> Outc
 
 /// Installs the policy; where memory was refused, once more, and then it has to be installed: what
 /// is asked next is denied by an office that has none.
-pub fn install_policy<O: AnyOffice>(alloc: Global, office: &mut O, text: &str) -> Outcome {
+pub(crate) fn install_policy<O: AnyOffice>(alloc: Global, office: &mut O, text: &str) -> Outcome {
     match install_once(alloc, office, text) {
         Outcome::Memory => install_once(alloc, office, text).again(),
         outcome => outcome,
@@ -318,7 +318,12 @@ fn fits(part: Part, answer: &Answer) -> bool {
 
 /// Asks; where memory was refused, once more, and then the answer has to fit: a request that was
 /// refused has changed nothing. What the store lacked memory for it may tell as its own failure.
-pub fn come_out<O: AnyOffice>(alloc: Global, office: &mut O, day: &str, part: Part) -> Outcome {
+pub(crate) fn come_out<O: AnyOffice>(
+    alloc: Global,
+    office: &mut O,
+    day: &str,
+    part: Part,
+) -> Outcome {
     let (Some(day), Some(request)) = (Day::read(day), request(part)) else {
         return Outcome::Wrong;
     };
@@ -361,7 +366,7 @@ fn run_together<O: AnyOffice>(alloc: Global, office: &mut O) -> Result<Outcome, 
 }
 
 /// Asks them in one run; where memory was refused, once more, and then all answers have to fit.
-pub fn together<O: AnyOffice>(alloc: Global, office: &mut O) -> Outcome {
+pub(crate) fn together<O: AnyOffice>(alloc: Global, office: &mut O) -> Outcome {
     match run_together(alloc, office) {
         Ok(Outcome::Expected) => Outcome::Expected,
         Ok(Outcome::Wrong) => Outcome::Wrong,
@@ -373,7 +378,7 @@ pub fn together<O: AnyOffice>(alloc: Global, office: &mut O) -> Outcome {
 }
 
 /// Counts the contents of the office; where memory was refused, once more.
-pub fn count<O: AnyOffice>(alloc: Global, office: &mut O, kept: Stock) -> Outcome {
+pub(crate) fn count<O: AnyOffice>(alloc: Global, office: &mut O, kept: Stock) -> Outcome {
     match office.stock(alloc) {
         Ok(found) => Outcome::expected_if(found == kept),
         Err(TableFault::NotAnOffice | TableFault::OtherVersion) => Outcome::Wrong,

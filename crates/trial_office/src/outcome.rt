@@ -2,7 +2,7 @@
 
 /// How a case came out.
 #[derive(Clone, Copy)]
-pub enum Outcome {
+pub(crate) enum Outcome {
     /// With the answer that was worked out.
     Expected,
     /// Memory ran out.
@@ -13,7 +13,7 @@ pub enum Outcome {
 
 impl Outcome {
     /// The answer that was worked out, or a wrong one.
-    pub fn expected_if(holds: bool) -> Outcome {
+    pub(crate) fn expected_if(holds: bool) -> Outcome {
         if holds {
             Outcome::Expected
         } else {
@@ -22,7 +22,7 @@ impl Outcome {
     }
 
     /// Memory ran out, or the answer is wrong.
-    pub fn memory_if(holds: bool) -> Outcome {
+    pub(crate) fn memory_if(holds: bool) -> Outcome {
         if holds {
             Outcome::Memory
         } else {
@@ -31,7 +31,7 @@ impl Outcome {
     }
 
     /// What comes out of two.
-    pub fn and(self, other: Outcome) -> Outcome {
+    pub(crate) fn and(self, other: Outcome) -> Outcome {
         match (self, other) {
             (Outcome::Wrong, _) => Outcome::Wrong,
             (_, Outcome::Wrong) => Outcome::Wrong,
@@ -41,7 +41,7 @@ impl Outcome {
     }
 
     /// Memory ran out, and this came when it was asked again.
-    pub fn again(self) -> Outcome {
+    pub(crate) fn again(self) -> Outcome {
         match self {
             Outcome::Expected => Outcome::Memory,
             _ => Outcome::Wrong,
@@ -49,7 +49,7 @@ impl Outcome {
     }
 
     /// The outcome in words.
-    pub fn words(self) -> &'static str {
+    pub(crate) fn words(self) -> &'static str {
         match self {
             Outcome::Expected => "as worked out",
             Outcome::Memory => "want of memory",

@@ -7,7 +7,7 @@ use std::io::{Read, Write};
 
 /// Has the program replay the records of standard input under the policy in the file, in a new office in
 /// memory.
-pub fn replay(rt: &HostRuntime, policy: &str) -> Result<()> {
+pub(crate) fn replay(rt: &HostRuntime, policy: &str) -> Result<()> {
     let mut records = Vec::new(rt.alloc());
     rt.stdin().read_to_end(&mut records)?;
     let words = ["replay", "--policy", policy, ":memory:"];

@@ -21,7 +21,7 @@ const DAY: &str = "2026-02-16";
 /// A request that is made many times. One about a deposit is made of this one and that, here and
 /// there.
 #[derive(Clone, Copy)]
-pub enum TrialRequest {
+pub(crate) enum TrialRequest {
     /// A bag is deposited, the same each time.
     Deposit,
     /// A bag is deposited, each time one with a record of its own.
@@ -58,7 +58,7 @@ fn form(alloc: Global, begin: &[u8]) -> Result<Vec<u8>> {
 }
 
 /// The forms of the bags that are deposited in this number of turns, or none.
-pub fn forms(alloc: Global, asked: TrialRequest, count: u32) -> Result<Vec<Vec<u8>>> {
+pub(crate) fn forms(alloc: Global, asked: TrialRequest, count: u32) -> Result<Vec<Vec<u8>>> {
     let mut forms = Vec::new(alloc);
     for turn in 1..=count {
         match asked {
@@ -165,7 +165,7 @@ fn ask_in_turn<S: Alter>(
 
 /// Makes the request this many times, in an office of deposits 1 to `last`. `forms` are those of the
 /// bags that are deposited.
-pub fn repeat<S: Alter>(
+pub(crate) fn repeat<S: Alter>(
     alloc: Global,
     office: &mut Office<S>,
     asked: TrialRequest,

@@ -15,7 +15,7 @@ use std::alloc::{AllocError, Global};
 
 /// What is done in one transaction, or on the connection itself.
 #[derive(Clone, Copy)]
-pub enum Step {
+pub(crate) enum Step {
     Create,
     Open,
     Define,
@@ -28,7 +28,7 @@ pub enum Step {
 }
 
 /// The session: each step with its name, in turn.
-pub static SESSION: [(&str, Step); 9] = [
+pub(crate) static SESSION: [(&str, Step); 9] = [
     ("tables made", Step::Create),
     ("tables opened", Step::Open),
     ("a class and a collection", Step::Define),
@@ -42,7 +42,7 @@ pub static SESSION: [(&str, Step); 9] = [
 
 /// Takes the step; where memory was refused, once more, and then it has to hold: a step that was
 /// refused has changed nothing.
-pub fn come_out<S: Alter>(alloc: Global, conn: &mut Connection<S>, step: Step) -> Outcome {
+pub(crate) fn come_out<S: Alter>(alloc: Global, conn: &mut Connection<S>, step: Step) -> Outcome {
     match take(alloc, conn, step) {
         Ok(holds) => Outcome::expected_if(holds),
         Err(TableFault::Memory) => Outcome::memory_if(take(alloc, conn, step) == Ok(true)),

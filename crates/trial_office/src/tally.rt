@@ -5,7 +5,7 @@ use std::alloc::{AllocError, Global};
 
 /// What came of a request, as far as it is counted.
 #[derive(Clone, Copy, PartialEq, Eq)]
-pub enum Came {
+pub(crate) enum Came {
     Refused,
     /// A rule that has days denied it.
     DeniedOnDay,
@@ -20,21 +20,21 @@ pub enum Came {
 
 /// How many requests came to what.
 #[derive(Clone, Copy)]
-pub struct Tally {
-    pub accepted: u64,
-    pub refused: u64,
+pub(crate) struct Tally {
+    pub(crate) accepted: u64,
+    pub(crate) refused: u64,
     /// Of those that were accepted, the holds on a class, their releases, and the lists that have one.
-    pub class_holds: u64,
-    pub class_releases: u64,
-    pub class_lists: u64,
+    pub(crate) class_holds: u64,
+    pub(crate) class_releases: u64,
+    pub(crate) class_lists: u64,
     /// Those that came while a rule had days, and of them those that such a rule denied.
-    pub under_days: u64,
-    pub denied_on_day: u64,
+    pub(crate) under_days: u64,
+    pub(crate) denied_on_day: u64,
 }
 
 /// What is known of an office beside its answers.
 #[derive(Drop)]
-pub struct Known {
+pub(crate) struct Known {
     /// The holds that were placed on a class.
     class_holds: Vec<u32>,
     /// The numbers, from 1, of the rules that have days.
@@ -47,13 +47,13 @@ fn increase(count: &mut u64) {
 }
 
 impl Came {
-    pub fn is_accepted(self) -> bool {
+    pub(crate) fn is_accepted(self) -> bool {
         !matches!(self, Came::Refused | Came::DeniedOnDay)
     }
 }
 
 impl Tally {
-    pub fn new() -> Tally {
+    pub(crate) fn new() -> Tally {
         Tally {
             accepted: 0,
             refused: 0,
@@ -66,7 +66,7 @@ impl Tally {
     }
 
     /// Counts what came of a request, and whether a rule had days.
-    pub fn count(&mut self, came: Came, is_under_days: bool) {
+    pub(crate) fn count(&mut self, came: Came, is_under_days: bool) {
         if came.is_accepted() {
             increase(&mut self.accepted);
         } else {
@@ -95,7 +95,7 @@ fn has_class(holds: &[LiveHold]) -> bool {
 }
 
 impl Known {
-    pub fn new(alloc: Global) -> Known {
+    pub(crate) fn new(alloc: Global) -> Known {
         Known {
             class_holds: Vec::new(alloc),
             dated_rules: Vec::new(alloc),
@@ -103,12 +103,12 @@ impl Known {
     }
 
     /// Whether a rule has days.
-    pub fn is_under_days(&self) -> bool {
+    pub(crate) fn is_under_days(&self) -> bool {
         !self.dated_rules.is_empty()
     }
 
     /// Notes which rules of the policy have days.
-    pub fn note_policy(&mut self, alloc: Global, policy: &Policy) -> Result<(), AllocError> {
+    pub(crate) fn note_policy(&mut self, alloc: Global, policy: &Policy) -> Result<(), AllocError> {
         let mut dated = Vec::new(alloc);
         let mut number = 0_usize;
         for rule in policy.rules() {
@@ -130,7 +130,11 @@ impl Known {
     }
 
     /// What comes of a request by this answer.
-    pub fn note(&mut self, request: &Request<'_>, answer: &Answer) -> Result<Came, AllocError> {
+    pub(crate) fn note(
+        &mut self,
+        request: &Request<'_>,
+        answer: &Answer,
+    ) -> Result<Came, AllocError> {
         match (request, answer) {
             (_, Answer::Refused(Refusal::DeniedByRule(rule))) if self.is_dated(*rule) => {
                 Ok(Came::DeniedOnDay)

@@ -14,7 +14,7 @@ use store_file::open_file;
 
 /// What is done with the file.
 #[derive(Clone, Copy)]
-pub enum Task {
+pub(crate) enum Task {
     /// The worked office is made in it.
     Write,
     /// An office in which bags can be deposited.
@@ -33,7 +33,7 @@ pub enum Task {
 
 /// What a task comes to.
 #[derive(Clone, Copy)]
-pub enum Report {
+pub(crate) enum Report {
     Done,
     /// The time of the calls or requests: the opening of the file doesn't count.
     Took(Duration),
@@ -132,7 +132,7 @@ fn open(rt: &HostRuntime, file: &str) -> Result<Connection<FileStore<File>>, Err
 
 impl Task {
     /// The task that a word asks for.
-    pub fn read(word: &str) -> Option<Task> {
+    pub(crate) fn read(word: &str) -> Option<Task> {
         match word {
             "write" => Some(Task::Write),
             "make" => Some(Task::Make),
@@ -142,7 +142,7 @@ impl Task {
     }
 
     /// The calls or requests that a word asks for, this number of them.
-    pub fn read_timed(word: &str, count: u32) -> Option<Task> {
+    pub(crate) fn read_timed(word: &str, count: u32) -> Option<Task> {
         match word {
             "deposits" => Some(Task::Time(Call::Deposit, count)),
             "read" => Some(Task::Time(Call::Read, count)),
@@ -162,7 +162,7 @@ impl Task {
     }
 
     /// Does the task over the file.
-    pub fn take(self, rt: &HostRuntime, file: &str) -> Result<Report> {
+    pub(crate) fn take(self, rt: &HostRuntime, file: &str) -> Result<Report> {
         let conn = open(rt, file).context("opening the file")?;
         let (conn, report) = perform(rt, conn, self)?;
         conn.close().context("closing the file")?;

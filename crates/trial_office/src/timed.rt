@@ -7,21 +7,21 @@ use office_tables::{NewDeposit, TableFault, file_of, last_deposit, live_holds};
 use sqlite::{Alter, Connection};
 use std::alloc::Global;
 
-pub const DECLARATION: &[u8] = b"BagIt-Version: 1.0\nTag-File-Character-Encoding: UTF-8\n";
+pub(crate) const DECLARATION: &[u8] = b"BagIt-Version: 1.0\nTag-File-Character-Encoding: UTF-8\n";
 
 /// The payload file of a bag.
-pub const RECORD: &str = "data/record";
+pub(crate) const RECORD: &str = "data/record";
 
 /// Its length: with the other two files the bag has 10,240 bytes.
-pub const RECORD_LENGTH: usize = 10_108;
+pub(crate) const RECORD_LENGTH: usize = 10_108;
 
 /// The line that lists it.
-pub const MANIFEST: &[u8] =
+pub(crate) const MANIFEST: &[u8] =
     b"c18da936f4a0e2d069d24a948518a527894ef8b727b5f6d020d11e9bbf5448d4  data/record\n";
 
 /// A call that is made many times.
 #[derive(Clone, Copy)]
-pub enum Call {
+pub(crate) enum Call {
     /// A bag is deposited.
     Deposit,
     /// The payload file of one of the deposits, here and there.
@@ -52,13 +52,13 @@ static DEFINITIONS: [Change<'static>; 3] = [
 ];
 
 /// Makes an office in which bags can be deposited.
-pub fn make<S: Alter>(alloc: Global, conn: &mut Connection<S>) -> Result<(), TableFault> {
+pub(crate) fn make<S: Alter>(alloc: Global, conn: &mut Connection<S>) -> Result<(), TableFault> {
     office::make(conn)?;
     commit(alloc, conn, &DEFINITIONS)
 }
 
 /// The last number of a deposit, or 0.
-pub fn last<S: Alter>(conn: &mut Connection<S>) -> Result<u32, TableFault> {
+pub(crate) fn last<S: Alter>(conn: &mut Connection<S>) -> Result<u32, TableFault> {
     if !conn.is_autocommit() {
         return Err(TableFault::Store);
     }
@@ -66,13 +66,13 @@ pub fn last<S: Alter>(conn: &mut Connection<S>) -> Result<u32, TableFault> {
 }
 
 /// A number from 1 to `last`, here and there.
-pub fn scattered_number(turn: u32, last: u32) -> u32 {
+pub(crate) fn scattered_number(turn: u32, last: u32) -> u32 {
     let before = turn.wrapping_mul(7919).checked_rem(last).unwrap_or(0);
     before.wrapping_add(1)
 }
 
 /// Makes the call this many times, over deposits 1 to `last`.
-pub fn repeat<S: Alter>(
+pub(crate) fn repeat<S: Alter>(
     alloc: Global,
     conn: &mut Connection<S>,
     call: Call,

@@ -16,7 +16,7 @@ fn why(fault: TableFault) -> &'static str {
 }
 
 /// The version of the tables, where they tell one.
-pub fn told_version<S: Alter>(conn: &mut Connection<S>) -> Option<i64> {
+pub(crate) fn told_version<S: Alter>(conn: &mut Connection<S>) -> Option<i64> {
     if !conn.is_autocommit() {
         return None;
     }
@@ -24,7 +24,7 @@ pub fn told_version<S: Alter>(conn: &mut Connection<S>) -> Option<i64> {
 }
 
 /// The office, whose tables are of the newest version then.
-pub fn upgraded<S: Alter + Drop>(conn: Connection<S>) -> Result<Office<S>> {
+pub(crate) fn upgraded<S: Alter + Drop>(conn: Connection<S>) -> Result<Office<S>> {
     if !conn.is_autocommit() {
         bail!("a transaction is open");
     }
