@@ -177,7 +177,8 @@ fn numbered_bag<'a, S: Alter>(
     ensures reads { Shows S.Store tx.old.conn.now tx.new.conn.now result (λ tables details.
         (first_told (refusals_of_the_bag tables text.entry.now) ≡ Some (result_err details))
         × IfOk details (λ new. number_after (highest_deposit tables) ≡ Some new.number)) }
-    ensures bag { IfOk result (λ details. IfOk details (λ new. bag_of text.entry.now ≡ Ok new.bag)) }
+    ensures bag { IfOk result (λ details. IfOk details (λ new.
+        bag_of text.entry.now ≡ Ok new.bag)) }
     ensures digests { IfOk result (λ details. IfOk details (λ new.
         new.digests.items ≡ digests_of new.bag)) }
 {

@@ -32,7 +32,8 @@ pub fn files_have_their_contents()
         → (c : ContentRow)
         × (content_at n path (tables_of db).files (references_of db) (contents_of db) ≡ Some c)
         × (f.content ≡ c.bytes) }
-    ensures intact { (db : Database) → IsOffice db → StoresOnce db → (n : ℤ) (path : List ℕ) (f : FileRow)
+    ensures intact { (db : Database) → IsOffice db → StoresOnce db
+        → (n : ℤ) (path : List ℕ) (f : FileRow)
         → file_at n path (tables_of db).files ≡ Some f
         → is_intact (content_at n path (tables_of db).files (references_of db) (contents_of db)) ≡ true }
 {}
