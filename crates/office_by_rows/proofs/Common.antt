@@ -8,7 +8,7 @@ pub use Rattle.office_core.proofs.DayLemmas.{day_number, first_number}
 pub use Rattle.office_core.specs.FirstOf.{◌>>=◌, answer_if}
 pub use Rattle.office_core.specs.declared.retention.Due.{Due}
 pub use Rattle.office_rows.specs.Rows.{DepositRow, due_numbered, DueRow, hold_numbered, HoldRow, Limits, limits_of, live_holds, RuleRow, Tables}
-pub use Rattle.std.proofs.Common.{◌&&◌, ◌+◌, ◌<◌, [], ap, arith, Bool, bytes_eq, codes, cond, false, find, IfSome, if◌then◌else◌, inl, inr, int_eq, int_le, is_none, List, negsuc, None, Option, option_map, pos, refl, rules, Some, subst, suc, sym, true, zero, ◌||◌, ℕ, ℤ, ◌∙◌, ◌∷◌, ◌≡◌, ◌≤◌, ◌≤ℤ◌, ◌⊎◌}
+pub use Rattle.std.proofs.Common.{◌&&◌, ◌+◌, ◌<◌, [], ap, arith, Bool, bytes_eq, codes, cond, false, find, IfSome, if◌then◌else◌, inl, inr, int_eq, int_le, is_none, List, negsuc, None, Option, option_map, pos, refl, rules, Some, subst, sym, true, ◌||◌, ℕ, ℤ, ◌∙◌, ◌∷◌, ◌≡◌, ◌≤◌, ◌≤ℤ◌}
 pub use Rattle.std.proofs.lemmas.Bool.{false_from_ne_true, true≢false}
 pub use Rattle.std.proofs.lemmas.Bool.Decides.{Decides-int_eq}
 pub use Rattle.std.proofs.lemmas.Option.{same_Some}

@@ -15,6 +15,6 @@ pub use Rattle.office_contents.specs.Calls.{GoesOnInTurn}
 pub use Rattle.office_contents.specs.Tables.{tables_of}
 pub use Rattle.office_contents.specs.declared.fault.TableFault.{TableFault}
 pub use Rattle.sqlite.specs.Held.{state}
-pub use Rattle.std.proofs.Common.{◌&&◌, ◌+◌, ◌++◌, ◌+ℤ◌, ◌<◌, [], ap, append-nil, append_assoc, ap₂, arith, Bool, drop, false, get_or, if◌then◌else◌, IsTrue, length, List, map, None, Ok, Option, option_map, pos, refl, rules, SFits, Some, subst, suc, sym, take, true, w64, zero, ◌||◌, ℕ, ℤ, ◌∙◌, ◌∷◌, ◌≡◌, ◌≤ℤ◌}
+pub use Rattle.std.proofs.Common.{◌&&◌, ◌+◌, ◌++◌, ◌+ℤ◌, [], ap, append-nil, append_assoc, ap₂, arith, Bool, drop, false, if◌then◌else◌, IsTrue, List, map, None, Ok, Option, option_map, pos, refl, rules, SFits, Some, subst, suc, sym, take, true, w64, zero, ◌||◌, ℕ, ℤ, ◌∙◌, ◌∷◌, ◌≡◌, ◌≤ℤ◌}
 pub use Rattle.std.proofs.lemmas.Int.{ints, to_z-of_z}
 pub use Rattle.std.proofs.lemmas.Result.{on_ok_weaker}

@@ -17,8 +17,8 @@ pub use Rattle.office_core.specs.declared.policy_fault.PolicyFault.TheVariants.{
 pub use Rattle.office_core.specs.declared.retention.Due.{Due}
 pub use Rattle.office_core.specs.declared.retention.Due.TheVariants.{Never, On}
 pub use Rattle.office_core.specs.declared.rule.Rule.{Rule}
-pub use Rattle.std.proofs.Common.{◌%◌, ◌&&◌, ◌*◌, ◌+◌, ◌++◌, ◌+ℤ◌, ◌-◌, ◌/◌, ◌<◌, ◌<ℤ◌, ◌==◌, [], ◌^◌, add-one, ap, arith, Bool, bytes_eq, codes, cond, drop, Equal, Err, false, find, FitsSigned, get_or, Greater, IfErr, IfOk, IfSome, if◌then◌else◌, inl, inr, int_le, int_lt, is_eq, is_none, is_some, IsOk, IsSome, IsSomeAnd, leb, length, length-append, Less, List, MatchResult, nat_cmp, nat_lt, neg_ℤ, negsuc, None, not, Ok, Option, option_and_then, option_map, Ordering, pos, position, refl, Result, rules, slice_get, slice_index, Some, subst, suc, sym, T, take, true, unsigned_abs, unwrap_or, w16, w32, w64, w8, zero, ◌||◌, ℕ, ℤ, ◌↔◌, ◌∙◌, ◌∷◌, ◌≡◌, ◌≢◌, ◌≤◌, ◌≤ℤ◌, ◌⊎◌}
-pub use Rattle.std.proofs.lemmas.Bool.{and_parts, cases_Bool, false≢true, or_parts}
+pub use Rattle.std.proofs.Common.{◌%◌, ◌&&◌, ◌*◌, ◌+◌, ◌++◌, ◌+ℤ◌, ◌-◌, ◌/◌, ◌<◌, ◌<ℤ◌, ◌==◌, [], ◌^◌, add-one, ap, arith, Bool, bytes_eq, codes, drop, Equal, Err, false, find, FitsSigned, get_or, Greater, IfErr, IfOk, IfSome, if◌then◌else◌, inl, inr, int_le, int_lt, is_eq, is_none, is_some, IsOk, IsSome, IsSomeAnd, leb, length, length-append, Less, List, MatchResult, nat_cmp, nat_lt, neg_ℤ, negsuc, None, not, Ok, Option, option_and_then, option_map, Ordering, pos, position, refl, Result, rules, slice_get, Some, subst, suc, sym, T, take, true, unsigned_abs, unwrap_or, w16, w32, w64, w8, zero, ◌||◌, ℕ, ℤ, ◌↔◌, ◌∙◌, ◌∷◌, ◌≡◌, ◌≢◌, ◌≤◌, ◌≤ℤ◌, ◌⊎◌}
+pub use Rattle.std.proofs.lemmas.Bool.{and_parts, false≢true, or_parts}
 pub use Rattle.std.proofs.lemmas.Bool.Decides.{nat_tests}
 pub use Rattle.std.proofs.lemmas.Int.{by_lt_z, to_z-of_z}
 pub use Rattle.std.proofs.lemmas.Option.{cond_some, get_or_from_slice_get, IfSome_then, none-some, option_and_then_some, same_Some, slice_get-get_or, slice_get_within}
@@ -27,6 +27,6 @@ pub use Rattle.std.proofs.lemmas.Str.{digit_value_digit, is_utf8-from_IsUtf8}
 pub use Rattle.std.specs.Cmp.Lexicographic.{slice_cmp}
 pub use Rattle.std.specs.Int.{IsInRange}
 pub use Rattle.std.specs.List.{AllByRecursion, filter_map, list_all, list_any, position_or_len, prefix_len}
-pub use Rattle.std.specs.Ordering.{int_eq, match_ordering, ordering_reverse}
+pub use Rattle.std.specs.Ordering.{int_eq, ordering_reverse}
 pub use Rattle.toml.specs.Data.{array, as_str, as_table, Data, get_member, member, Members, no_items, no_members, same_key, string, table}
 pub use Rattle.toml.specs.View.{items_view, members_view, table_view}

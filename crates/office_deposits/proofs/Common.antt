@@ -21,7 +21,7 @@ pub use Rattle.office_deposits.specs.Details.{request_of, row_of, visit_of}
 pub use Rattle.office_deposits.specs.Stored.{stored_with_due, years_shown}
 pub use Rattle.office_deposits.specs.declared.details.DepositDetails.{DepositDetails}
 pub use Rattle.office_rows.specs.Rows.{class_named, ClassRow, deposit_numbered, DepositRow, has_collection, is_deposit, last_number, Tables, with_file, with_gone, with_deposit_and_due, without_files}
-pub use Rattle.office_contents.proofs.InTurn.{clean_first, in_turn, inside_after, inside_as, inside_failed, inside_then, none_called, then_in_turn, turn_as, turn_failed, turn_then}
+pub use Rattle.office_contents.proofs.InTurn.{clean_first, in_turn, inside_after, inside_failed, inside_then, none_called, then_in_turn, turn_as, turn_then}
 pub use Rattle.office_contents.specs.Calls.{GoesOnInside, GoesOnInTurn, Writes}
 pub use Rattle.office_contents.specs.Contents.{Does, StoresOnce, LeavesOnce, references_of}
 pub use Rattle.office_contents.specs.Tables.{Becomes, contents_of, IsOffice, tables_of}
@@ -32,5 +32,5 @@ pub use Rattle.sqlite.specs.Store.{Ghosts}
 pub use Rattle.std.proofs.Common.{◌+◌, ◌<◌, [], ap, arith, Bor, drop, Err, false, IfOk, is_none, length, List, map, MutBor, None, not, Ok, Option, option_map, pos, refl, Result, rules, SFits, slice_index_or, Some, subst, suc, sym, true, w32, w64, zero, ℕ, ℤ, ◌∙◌, ◌∷◌, ◌≡◌, ◌≤◌}
 pub use Rattle.std.proofs.lemmas.Int.{to_z-of_z}
 pub use Rattle.std.proofs.lemmas.Option.{same_Some}
-pub use Rattle.std.proofs.lemmas.Result.{IfErr-weaker, IfOk-weaker, on_ok_weaker}
+pub use Rattle.std.proofs.lemmas.Result.{IfOk-weaker, on_ok_weaker}
 pub use Rattle.std.specs.Result.{result_err}

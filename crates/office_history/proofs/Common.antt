@@ -24,7 +24,7 @@ pub use Rattle.office_core.specs.Verdicts.{due_verdict, gone_verdict, hold_verdi
 pub use Rattle.office_core.specs.declared.action.Action.{Action}
 pub use Rattle.office_core.specs.declared.answer.Answer.{Answer}
 pub use Rattle.office_core.specs.declared.caller.Caller.{Caller}
-pub use Rattle.office_core.specs.declared.facts.Verdict.TheVariants.{DeniedByRule, NotDue}
+pub use Rattle.office_core.specs.declared.facts.Verdict.TheVariants.{NotDue}
 pub use Rattle.office_core.specs.declared.refusal.Refusal.{Refusal}
 pub use Rattle.office_core.specs.declared.refusal.Refusal.TheVariants.{DeniedByDefault, Full, Gone, Held, NoSuch, Released, Taken}
 pub use Rattle.office_core.specs.declared.request.Request.{Request}

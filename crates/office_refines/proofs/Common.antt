@@ -10,9 +10,9 @@ pub use Rattle.office_by_rows.proofs.Days.{day_back, days_back, due_back}
 pub use Rattle.office_by_rows.specs.Answers.{allowed_answer, audit_of, audit_unless, bag_in, content_stored, due_list, file_in, has_names, holds_in, is_allowed_for, is_shown_unless, listed_record, listed_records, path_cmp, disposable_told, record_by, record_in, stored_files, told_if}
 pub use Rattle.office_by_rows.specs.Asking.{are_released_on_days, counted_hold_in, Days, days_of, decision_by, decision_for, denial_in, hold_by, is_day_or_none, is_over, is_rule, or_empty, role_by, role_in, target_named, target_of, told_hold, told_holds, Visit}
 pub use Rattle.office_by_rows.specs.Changes.{allowed_rows, count_in, counted_on, counted_over, due_in, if_bag, stored_as, new_deposit, new_hold, placed, released, with_due_days, with_files, with_years}
-pub use Rattle.office_by_rows.specs.Refusals.{disposal_facts, disposal_refusal, first_told, full_after, full_of_deposits, full_of_holds, highest_deposit, highest_hold, hold_refusals, kept_refusals, no_such_class, no_such_collection, number_after, of_hold, refusal, refusals, refusals_before_the_bag, refusals_of_the_bag, release_denial, release_denial_at, release_denial_on, released_refusal, taken_refusal}
+pub use Rattle.office_by_rows.specs.Refusals.{disposal_facts, disposal_refusal, first_told, full_after, full_of_deposits, full_of_holds, highest_deposit, highest_hold, hold_refusals, kept_refusals, no_such_class, no_such_collection, number_after, of_hold, refusal, refusals, refusals_before_the_bag, refusals_of_the_bag, release_denial, release_denial_on, released_refusal, taken_refusal}
 pub use Rattle.office_by_rows.specs.Serving.{serve, serve_unless}
-pub use Rattle.office_by_rows.specs.Values.{all_told, count_of, count_up_to, day_numbered, due_of_number, effect_of, if_any, is_action_pattern, is_between, is_pattern, things_told, years_of_number}
+pub use Rattle.office_by_rows.specs.Values.{all_told, count_up_to, day_numbered, due_of_number, effect_of, if_any, is_action_pattern, is_between, is_pattern, things_told, years_of_number}
 pub use Rattle.office_core.specs.Actions.{action_of, action_text}
 pub use Rattle.office_core.specs.Bounds.{max_rules, max_years}
 pub use Rattle.office_core.specs.Days.{first_day_number, IsDayNumber, last_day_number}
@@ -25,7 +25,7 @@ pub use Rattle.office_core.specs.declared.action.Action.{Action}
 pub use Rattle.office_core.specs.declared.answer.Answer.{Answer}
 pub use Rattle.office_core.specs.declared.answer.DepositRecord.{DepositRecord}
 pub use Rattle.office_core.specs.declared.refusal.Refusal.{Refusal}
-pub use Rattle.office_core.specs.declared.refusal.Refusal.TheVariants.{Full, Gone, NoFile, NoSuch, Released, Taken}
+pub use Rattle.office_core.specs.declared.refusal.Refusal.TheVariants.{Full, Gone, NoFile, NoSuch, Released}
 pub use Rattle.office_core.specs.declared.request.Request.{Request}
 pub use Rattle.office_core.specs.declared.request.Request.TheVariants.{Audit, DefineClass, DefineCollection, Dispose, DownloadBag, DownloadFile, DueList, HoldClass, HoldCollection, HoldDeposit, Holds, Record, Release}
 pub use Rattle.office_core.specs.declared.retention.Due.TheVariants.{Never, On}
@@ -41,7 +41,7 @@ pub use Rattle.office_history.proofs.RangeLemmas.{HasTarget, IsDeposited, limits
 pub use Rattle.office_history.specs.Acceptance.{IsPlaceable, IsReleasable, IsThere}
 pub use Rattle.office_history.specs.Answers.{allowed_change, answer_unless, changes_unless, deposit_change, file_answer, is_selected, live_hold, record_of, scope_of, told_of, Wanted}
 pub use Rattle.office_history.specs.Bags.{bag_of, report_on}
-pub use Rattle.office_history.specs.Histories.{accession_of, Change, collection_in, collections, covers, DefinedClass, DefinedCollection, Deposit, deposit_in, deposit_numbered, Deposited, deposits, Destroyed, destroyed_in, destruction_day, due, has_class, has_collection, History, Hold, hold_in, hold_numbered, holds, Installed, installed_in, is_live, least_hold, live_holds, OnClass, OnCollection, OnDeposit, PlacedHold, policy, reaches, release_day, released_in, ReleasedHold, Target, with_changes, years_in, years_of}
+pub use Rattle.office_history.specs.Histories.{accession_of, Change, collection_in, collections, covers, DefinedClass, DefinedCollection, Deposit, deposit_numbered, Deposited, deposits, Destroyed, destroyed_in, destruction_day, due, has_class, has_collection, History, Hold, hold_numbered, holds, Installed, installed_in, is_live, least_hold, live_holds, OnClass, OnCollection, OnDeposit, PlacedHold, policy, reaches, release_day, released_in, ReleasedHold, Target, with_changes, years_in, years_of}
 pub use Rattle.office_history.specs.Lists.{distinct_after, first_said, in_first_places, item_numbered, last_said, numbers}
 pub use Rattle.office_history.specs.Pictures.{action_pattern_text, caller_row, class_in, class_row, class_rows, collection_rows, deposit_row, deposit_rows, description_of, due_number, due_row, due_rows, effect_number, file_row, file_rows, held_class, held_collection, held_deposit, hold_row, hold_rows, office_row, pattern_text, picture, row_by_gone, row_by_release, rule_row, rule_rows, years_back, years_number}
 pub use Rattle.office_history.specs.Refusals.{deciding_rule, deciding_rule_at, denial, denial_at, disposal_refusals, facts_of, file_refusals, gone_refusal, held_refusal, no_file, not_due_refusal, of_deposit, refusal_in, refusal_of}

@@ -8,7 +8,7 @@ pub use Rattle.office_core.specs.declared.refusal.Refusal.{Refusal}
 pub use Rattle.office_core.specs.declared.request.Request.TheVariants.{Dispose}
 pub use Rattle.office_history.proofs.Accepted.{allowed_of, AtMostOne, grown_by_none}
 pub use Rattle.office_history.specs.Answers.{allowed_answer, allowed_change, listed_record, told_hold}
-pub use Rattle.office_history.specs.Histories.{accession_of, Change, collection_in, covers, Deposit, deposit_in, Deposited, deposits, destroyed_in, destruction_day, has_accession, History, Hold, hold_in, holds, Installed, installed_in, is_live, kept_numbers, live_holds, PlacedHold, released_in, with_changes, years_in}
+pub use Rattle.office_history.specs.Histories.{accession_of, Change, collection_in, covers, Deposit, deposit_in, Deposited, deposits, destroyed_in, destruction_day, has_accession, History, hold_in, holds, Installed, installed_in, is_live, kept_numbers, live_holds, PlacedHold, released_in, with_changes, years_in}
 pub use Rattle.office_history.specs.Lists.{distinct_after, first_said, in_first_places, item_numbered, last_said}
 pub use Rattle.office_history.specs.Refusals.{bag_refusals, denial, facts_of, full_of_holds, kept_refusals, no_file, no_such_class, no_such_collection, filing_refusals, refusal, refusal_of}
 pub use Rattle.office_history.specs.Runs.{install, IsLegal, IsWithin, Item, new, Run, RunFailing, step, StepFailing}
