@@ -1,7 +1,7 @@
 #!/usr/bin/env bash
 # Shows what the script `first-look` does with its arguments, what it prints and its status. A copy of it calls a
-# stand-in for `rt`, which notes each call, and runs each case by a program that packs and checks as far as these cases
-# need it. `walkthrough.sh` compares what the real one prints.
+# stand-in for `rt`, which notes each call, and runs each case by a program that packs, checks and answers as far as
+# these cases need it. `walkthrough.sh` compares what the real one prints.
 set -eu
 top=$(readlink -f "$(dirname "$(readlink -f "$0")")/..")
 . "$top/trials/cases.sh"
@@ -29,6 +29,7 @@ program() {
         { echo BAGSET; cat "$2/bagit.txt"; } >"$3" && echo "packed 1 files" ;;
     check) [ "$(head -c 6 "$2")" = BAGSET ] || { echo "L1" && echo "depot: no bag" >&2; return 1; }
         echo "valid $(basename "$2" | tr -d 0-9)" ;;
+    replay) cat "$ROOM/answers" ;;
     esac
 }
 for given in "$5"/*.args; do
@@ -36,7 +37,7 @@ for given in "$5"/*.args; do
     mapfile -t words <"$given"
     echo "== $name"
     status=0
-    program "${words[@]}" || status=$?
+    program "${words[@]}" <"${given%.args}" || status=$?
     echo "case=$name run=ended status=$status steps=1" >&2
 done
 STUB
@@ -58,6 +59,21 @@ look() {
     compare "$1: what is said" "$5" "$said"
 }
 
+# A day of three requests. The first is answered by a body of several lines, one of them empty and one like the first
+# line of an answer's record, the second by a body that is one line, the third by none.
+printf '%s\r\nDepot-Caller: %s\r\n\r\n%s\n' >"$tree/examples/day.records" \
+    $'REQ 2024-03-01 52\nGET /deposits/1/bag HTTP/1.1' anna "" \
+    $'REQ 2024-03-02 75\nPOST /holds HTTP/1.1' carl '{"deposit":1,"matter":"Case 7"}' \
+    $'REQ 2024-03-03 49\nHEAD /deposits/1 HTTP/1.1' anna ""
+for answer in $'200 OK\r\n\r\nBAGSET 1\nFILE 6 9\ndata/ab\n\nANS 0\n\nEND\n' \
+    $'201 Created\r\n\r\n{"hold":1}' $'404 Not Found\r\n\r\n'; do
+    printf 'ANS %d\nHTTP/1.1 %s\n' $((9 + ${#answer})) "$answer"
+done >"$room/answers"
+
+look "the example bag and the example day" 0 1 $'the example bag:\nvalid -\nthe example day:
+2024-03-01 anna: GET /deposits/1/bag\n    BAGSET 1\n    FILE 6 9\n    data/ab\n    \n    ANS 0\n    \n    END
+2024-03-02 carl: POST /holds {"deposit":1,"matter":"Case 7"}\n    {"hold":1}
+2024-03-03 anna: HEAD /deposits/1' ""
 look "a form" 0 1 $'./-a form:\nvalid -a form' "" "./-a form"
 look "a form by a whole path, and after -" 0 1 $'-a form:\nvalid -a form' "" "-a form"
 look "a folder" 0 1 $'a folder:\npacked 1 files\nvalid .bagset' "" "a folder"
