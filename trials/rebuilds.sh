@@ -1,7 +1,8 @@
 #!/usr/bin/env bash
-# Shows when the script `depot` builds the program, and what it says meanwhile. A copy of it works on a tiny tree of
-# crates, where a stand-in for `rt` notes its calls, and makes a program that prints the number of the build that made
-# it, and its arguments.
+# Shows when the script `depot` builds the program, by how many processes, and what it says meanwhile. A copy of it
+# works on a tiny tree of crates, where a stand-in for `rt` notes its calls, and makes a program that prints the number
+# of the build that made it, and its arguments. A stand-in for `nproc`, and a file in the place of /proc/meminfo, say
+# how large the machine is.
 set -eu
 top=$(readlink -f "$(dirname "$(readlink -f "$0")")/..")
 . "$top/trials/cases.sh"
@@ -11,7 +12,8 @@ export ROOM=$room
 tree=$room/tree
 
 mkdir -p "$room"/kit/bin "$room"/bare "$tree"/crates/{depot,above,beside,below,apart}/{src,must-fail}
-cp "$top/depot" "$tree/depot"
+sed "s#/proc/meminfo#$room/memory#" "$top/depot" >"$tree/depot"
+chmod +x "$tree/depot"
 printf 'depot: above beside below hex\nabove: below\nbeside: hex\nbelow:\napart: below\n' >"$tree/crates.txt"
 for crate in depot above beside below apart; do
     echo "// $crate" >"$tree/crates/$crate/src/lib.rt"
@@ -56,7 +58,17 @@ case "$*" in
 *) exit 2 ;;
 esac
 STUB
-chmod +x "$room/kit/bin/rt"
+cat >"$room/kit/bin/nproc" <<'STUB'
+#!/bin/sh
+cat "$ROOM/processors"
+STUB
+chmod +x "$room"/kit/bin/*
+# Lets the machine have this number of processors, and this many GB of free memory.
+machine() {
+    echo "$1" >"$room/processors"
+    printf 'MemTotal: 99000000 kB\nMemAvailable: %d kB\n' "$2"000000 >"$room/memory"
+}
+machine 4 24
 # The commands that the script needs as long as nothing is built, and no `rt`.
 for tool in bash readlink dirname awk find sort xargs sha256sum cat head mkdir flock; do
     ln -s "$(command -v "$tool")" "$room/bare/$tool"
@@ -89,10 +101,8 @@ depot=$tree/crates/depot below=$tree/crates/below apart=$tree/crates/apart
 expect "nothing is built" 1 1
 compare "the libraries are proved, and the program is built" "below lib, beside lib, above lib, depot run" \
     "$(cut -d' ' -f-2 "$room/calls" | paste -sd, | sed 's/,/, /g')"
-case $(cat "$room/err") in *'at most 1 at a time'*) wanted=no ;; *) wanted=yes ;; esac
-compare "two libraries are proved at a time, where there is room for two" "$wanted" "$(cat "$room/beside-below")"
-case $wanted in yes) share=$(($(nproc) / 2)) ;; no) share=$(nproc) ;; esac
-compare "their processes share the processors" $((share > 1 ? share : 1)) "$(sed -n '1s/.* //p' "$room/calls")"
+matches "how many at most" '*4 crates, at most 4 at a time*' "$(cat "$room/err")"
+compare "two libraries are proved at a time" yes "$(cat "$room/beside-below")"
 compare "what the proofs left" "above below beside" \
     "$(cd "$tree/crates" && find . -path './*/out/rlib/stamp' | cut -d/ -f2 | LC_ALL=C sort | paste -sd' ')"
 compare "the folders that they ran in" "" "$(ls "$tree/crates/depot/out/depot-rooms")"
@@ -200,5 +210,24 @@ touch "$room/fails-depot"
 status=0
 said=$(call "$tree" check 2>"$room/err") || status=$?
 compare "a build failed, and there is no program" "; 3, of 19 builds" "$said; $status, of $(builds) builds"
+rm "$room/fails-depot"
+
+# By how many processes each library is proved, and whether two are at a time: by the processors, and by the free
+# memory, of which a process needs 5 GB. Two libraries can begin at once, and the third after both.
+sed -i 's/^above:.*/above: below beside/' "$tree/crates.txt"
+shares() { # PROCESSORS GB WANTED
+    machine "$1" "$2"
+    echo "// $1 and $2" >>"$below/src/lib.rt"
+    call "$tree" check >/dev/null 2>"$room/err" || fail "$(cat "$room/err")"
+    compare "the processes by $1 processors and $2 GB" "$3" "$(tail -n 4 "$room/calls" | sed -n 's/ lib --jobs / /p' |
+        paste -sd,), two at a time: $(cat "$room/beside-below")"
+}
+shares 4 24 'below 2,beside 2,above 4, two at a time: yes'
+shares 2 24 'below 1,beside 1,above 2, two at a time: yes'
+shares 1 24 'below 1,beside 1,above 1, two at a time: no'
+shares 4 16 'below 1,beside 2,above 3, two at a time: yes'
+shares 4 11 'below 1,beside 1,above 2, two at a time: yes'
+shares 4 9 'below 1,beside 1,above 1, two at a time: no'
+shares 4 1 'below 1,beside 1,above 1, two at a time: no'
 echo "rebuilds: $cases cases of calls with $(builds) builds, each where it is wanted and nowhere else; where one" \
     "fails the old program stays"
