@@ -3,13 +3,15 @@
 
 Python fills the file (`stores.py`): each deposit has three small files, of which two are its own, and a hold of its
 own; but one in ten thousand is due and has none. One in a thousand is of another collection. `depot serve` over that
-file is asked requests of fourteen kinds, readings first: the small ones many times, over scattered deposits; those that
-go over all deposits once. Prints for each how much processor time the server takes, how long the client waits, and the
-most memory that the server has had until then. Then the office is stopped, backed up as the unit `depot-backup@` does
-it, and started again. No figure has a target, and nothing is on the other side.
+file is asked requests of many kinds, readings first: the small ones many times, over scattered deposits; those that go
+over all deposits once. Prints for each how much processor time the server takes, how long the client waits, and the
+most memory that the server has had until then. For the list of all deposits it also prints that memory for each byte
+of the answer. One more deposit fills the office, and the next is refused. Then the office is stopped, backed up as the
+unit `depot-backup@` does it, and started again. No figure but that of the list has a target.
 
-Takes some 2 GiB below TMPDIR, 4 GiB of memory, and several minutes. ROWS=n is another number of deposits; DEPOT names
-another program than the built one. crates/trial_office has to be built too, since it makes the file.
+Takes some 3 GiB below TMPDIR, 4 GiB of memory, and several minutes. ROWS=n is another number of deposits; DEPOT names
+another program than the built one. BESIDE=PROGRAM then asks another `depot` the same, over the same rows.
+crates/trial_office has to be built too, since it makes the file.
 """
 import os
 import re
@@ -20,7 +22,7 @@ from contextlib import closing
 from pathlib import Path
 from statistics import median
 
-from trial_office import FILES, opened
+from trial_office import FILES, copy, opened
 from offices import DAY, deposit
 from servers import asked, processor_time
 from shared.comparing import fail
@@ -29,7 +31,7 @@ from shared.offices import Server
 from shared.places import DEPOT, TRIAL_OFFICE, TOP, needs_built
 from shared.requests import request
 from stores import small_bag, stored
-from turns import say_machine
+from turns import BESIDE, say_machine
 
 ROWS = int(os.environ.get("ROWS", "999999"))
 # How many times a small request is made.
@@ -56,10 +58,10 @@ def special(number):
 class Office(Server):
     """A `depot serve` over a file, which takes as long as it may."""
 
-    def __init__(self, file):
+    def __init__(self, depot, file):
         begin = time.perf_counter()
-        super().__init__(DEPOT, file, DAY, patience=None)
-        self.opening = time.perf_counter() - begin
+        super().__init__(depot, file, DAY, patience=None)
+        self.opening, self.opened = time.perf_counter() - begin, self.peak()
 
     def used(self):
         """The seconds of processor time that the server has taken."""
@@ -70,7 +72,7 @@ class Office(Server):
         return int(re.search(r"VmHWM:\s+(\d+) kB", Path(f"/proc/{self.process.pid}/status").read_text())[1]) / 1024
 
     def ask(self, name, texts, status):
-        """Makes requests of one kind, and says what they took."""
+        """Makes requests of one kind, and says what they took. The body of the last answer."""
         waits, before = [], self.used()
         for text in texts:
             begin = time.perf_counter()
@@ -85,6 +87,7 @@ class Office(Server):
             f" at most {self.peak():.0f} MiB so far)",
             flush=True,
         )
+        return body
 
     def __enter__(self):
         return self
@@ -117,7 +120,13 @@ def read(office):
     office.ask("a disposal that a hold refuses", scattered("/deposits/%d", "DELETE"), 409)
     office.ask(f"a due list of {len(DUE)}", [request("GET", "/due")] * 20, 200)
     office.ask(f"a list of a collection of {ROWS // 1_000:,}", [request("GET", "/deposits?collection=tax")], 200)
-    office.ask("a list of all deposits", [request("GET", "/deposits")], 200)
+    length = len(office.ask("a list of all deposits", [request("GET", "/deposits")], 200))
+    peak, more = office.peak() * MIB, (office.peak() - office.opened) * MIB
+    print(
+        f"{peak / length:.1f} bytes of memory for each of its {length:,} bytes (at most 6),"
+        f" {more / length:.1f} of them above the most of the opening",
+        flush=True,
+    )
 
 
 def change(office):
@@ -128,34 +137,49 @@ def change(office):
 
     office.ask("a disposal", [request("DELETE", f"/deposits/{n}") for n in DUE], 200)
     office.ask("a deposit of 10 KiB", [deposit(ROWS + 1, BAG)], 201)
+    refused = office.ask("a deposit that a full office refuses", [deposit(ROWS + 2, BAG)], 409)
+    if refused != b'{"error":"Full"}':
+        fail(f"a full office refuses a deposit otherwise: {refused}")
     office.ask("a collection defined", defined("/collections/c%d", 100), 200)
     office.ask("a class defined", defined("/classes/k%d", 100, b'{"years":3}'), 200)
     office.ask("a hold on a deposit", [request("POST", "/holds", b'{"deposit":2,"matter":"suit"}')], 201)
     office.ask("its release", [request("DELETE", f"/holds/{HELD + 1}")], 200)
-    office.ask("a hold on the class of all", [request("POST", "/holds", b'{"class":"y10","matter":"suit"}')], 201)
+    office.ask(
+        f"a hold on a collection of {ROWS - ROWS // 1_000:,}",
+        [request("POST", "/holds", b'{"collection":"maps","matter":"suit"}')],
+        201,
+    )
     office.ask("its release", [request("DELETE", f"/holds/{HELD + 2}")], 200)
+    office.ask("a hold on the class of all", [request("POST", "/holds", b'{"class":"y10","matter":"suit"}')], 201)
+    office.ask("its release", [request("DELETE", f"/holds/{HELD + 3}")], 200)
     office.ask("the class of all revised", [request("PUT", "/classes/y10", b'{"years":11}')], 200)
 
 
-def restart(file, folder):
+def restart(depot, file):
     """A backup of the office that was stopped, and a start."""
     begin = time.perf_counter()
-    words = [str(TOP / "examples" / "systemd" / "backup"), str(file), f"{folder}/backups"]
-    subprocess.run(words, check=True, stdout=subprocess.DEVNULL, env={**os.environ, "DEPOT": str(DEPOT)})
+    with tempfile.TemporaryDirectory() as folder:
+        words = [str(TOP / "examples" / "systemd" / "backup"), str(file), folder]
+        subprocess.run(words, check=True, stdout=subprocess.DEVNULL, env={**os.environ, "DEPOT": str(depot)})
     between = time.perf_counter() - begin
-    with Office(file) as again:
+    with Office(depot, file) as again:
         print(f"a restart with a backup: {shown(between + again.opening)}, {shown(again.opening)} of it the opening")
 
 
-def measure(folder):
-    """All of it."""
+def filled(folder):
+    """The file of an office that has room for one more deposit."""
     begin = time.perf_counter()
     file = stored(folder, "full", ROWS, special, bag=small_bag)
     with closing(opened(file)) as connection:
-        connection.execute("UPDATE office SET max_deposits = 1000000, max_holds = 1000000")
+        connection.execute("UPDATE office SET max_deposits = ?1, max_holds = 1000000", (ROWS + 1,))
     size = file.stat().st_size / MIB
     print(f"a file of {size:.0f} MiB, filled in {shown(time.perf_counter() - begin)}", flush=True)
-    with Office(file) as office:
+    return file
+
+
+def measure(depot, file):
+    """All that a program takes over the file."""
+    with Office(depot, file) as office:
         print(
             f"its opening: {shown(office.used())} of processor time, {shown(office.opening)} until it listens,"
             f" at most {office.peak():.0f} MiB",
@@ -163,11 +187,18 @@ def measure(folder):
         )
         read(office)
         change(office)
-    restart(file, folder)
+    restart(depot, file)
 
 
-if __name__ == "__main__":
+def main():
     needs_built(DEPOT, TRIAL_OFFICE)
     say_machine()
     with tempfile.TemporaryDirectory() as room:
-        measure(room)
+        file = filled(room)
+        for depot in filter(None, (DEPOT, BESIDE)):
+            print(f"by {depot}:", flush=True)
+            measure(depot, copy(file, "asked.db"))
+
+
+if __name__ == "__main__":
+    main()

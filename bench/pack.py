@@ -3,9 +3,9 @@
 
 `pack` is measured beside `tar -cf`, and beside `tar -cf` and `sync` of what it wrote, since `pack` brings
 its file to the disk; `unpack` beside `tar -xf`. Prints the ratios of each case: the median time of `depot`
-over that of the other, which take turns (RUNS=n, 15 if left out), in going first too. Run it after
-`./depot check examples/bag-a.bagset` has built the program. The arguments of `pack.py` name the cases that are
-run; with none, all are.
+over that of the other, which take turns (RUNS=n, 15 if left out), in going first too. BESIDE=PROGRAM measures
+time and memory beside another `depot` instead. Run it after `./depot check examples/bag-a.bagset` has built the
+program. The arguments of `pack.py` name the cases that are run; with none, all are.
 """
 import os
 import pathlib
@@ -17,7 +17,7 @@ from shared.comparing import fail
 from shared.forms import bag
 from shared.peaks import watched
 from shared.places import DEPOT, needs_built
-from turns import chosen, ratio, say_machine, spreads, turns
+from turns import BESIDE, OTHER, chosen, ratio, say, say_machine, say_memory, spreads, turns
 
 
 def cleared(clear, commands):
@@ -46,13 +46,34 @@ class RoundTrip:
         """What `depot` and the other commands take in turns, each once what was written before is gone."""
         return turns(lambda: cleared(self.clear, [ours]), lambda: cleared(self.clear, theirs), bench.RUNS)
 
+    def beside(self, verb, words_of):
+        """What `depot` and another build of it take in turns, in microseconds, and how much memory."""
+        took = lambda program: cleared(self.clear, [words_of(program)]) * 1e6
+
+        def peak(program):
+            self.clear()
+            return watched(*words_of(program))[1]
+
+        found = turns(lambda: took(DEPOT), lambda: took(BESIDE), bench.RUNS)
+        say(f"{verb} {self.name}", 1, *found, OTHER)
+        say_memory(f"{verb} {self.name}, peak memory", peak, DEPOT, bench.RUNS)
+
+    def holds_the_form(self):
+        """Ends the script where what was packed is another form."""
+        if self.packed.read_bytes() != self.form.read_bytes():
+            fail(f"{self.name}: another form")
+
     def pack(self):
-        pack = [str(DEPOT), "pack", str(self.base), str(self.packed)]
+        words_of = lambda program: [str(program), "pack", str(self.base), str(self.packed)]
+        if BESIDE:
+            self.beside("pack", words_of)
+            self.holds_the_form()
+            return
+        pack = words_of(DEPOT)
         tar = ["tar", "-cf", str(self.archive), "-C", str(self.base), "."]
         plain = self.turns(pack, [tar])
         synced = self.turns(pack, [tar, ["sync", str(self.archive)]])
-        if self.packed.read_bytes() != self.form.read_bytes():
-            fail(f"{self.name}: another form")
+        self.holds_the_form()
         memory = max(watched(*pack)[1] for _ in range(3)) - self.size
         print(
             f"pack {self.name}: {ratio(*plain):.2f} times tar -cf (at most 1.5; {spreads(*plain)}), and"
@@ -62,7 +83,11 @@ class RoundTrip:
         )
 
     def unpack(self):
-        unpack = [str(DEPOT), "unpack", str(self.packed), str(self.unpacked)]
+        words_of = lambda program: [str(program), "unpack", str(self.packed), str(self.unpacked)]
+        if BESIDE:
+            self.beside("unpack", words_of)
+            return
+        unpack = words_of(DEPOT)
         found = self.turns(unpack, [["tar", "-xf", str(self.archive), "-C", str(self.other)]])
         self.clear()
         memory = watched(*unpack)[1] - self.size

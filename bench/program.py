@@ -2,13 +2,13 @@
 """Speed of the whole program: `serve`, `replay` into a file, and the opening of a file.
 
 `get` and `deposit` are requests through `depot serve`, beside the same through `serving.py` (http.server
-and sqlite3, WAL, synchronous FULL), or with BESIDE=PROGRAM through another `depot`; the same client asks
-both, over a connection for each request, and their bodies are compared. The processor time of the servers,
-without their start, is compared too. `replay` is 2,000 mixed requests into a file, beside the SQL statements
-alone that they make, in their order and in one transaction each, through Python's sqlite3; the start of the
-program, the opening of the file and its closing count on both sides. `open` is the time of a request that
-changes nothing by `depot ask`, of files of several sizes with rows of 1 MiB, and of one with 100 MiB of
-bags of 10 KiB: figures alone.
+and sqlite3, WAL, synchronous FULL); the same client asks both, over a connection for each request, and their
+bodies are compared. The processor time of the servers, without their start, is compared too. `replay` is 2,000
+mixed requests into a file, beside the SQL statements alone that they make, in their order and in one transaction
+each, through Python's sqlite3; the start of the program, the opening of the file and its closing count on both
+sides. With BESIDE=PROGRAM another `depot` takes the other side of the three. `open` is the time of a request that
+changes nothing by `depot ask`, of files of several sizes with rows of 1 MiB, and of one with 100 MiB of bags of
+10 KiB: figures alone.
 Prints a ratio for each case: of the medians of runs that take turns (RUNS=n, 7 if left out). The programs
 `depot` and crates/trial_office have to be built. The arguments of `program.py` name the cases that are run;
 with none, all are.
@@ -19,8 +19,8 @@ import sys
 import time
 from statistics import median
 
-from trial_office import BESIDE, END_HOLD, FILES, PUT_HOLD, SET_HOLDS
-from trial_office import copy, filled, main, opened, put_file, say, turns
+from trial_office import END_HOLD, FILES, PUT_HOLD, SET_HOLDS
+from trial_office import copy, filled, main, opened, put_file, turns
 from servers import asked, processor_time
 from shared.comparing import fail
 from shared.forms import form
@@ -30,6 +30,7 @@ from shared.places import DEPOT, TOP, needs_built
 from shared.requests import deposit_target, parts, record, records_in, request
 from statements import DAY as DAY_NUMBER
 from statements import DUE_ROW, HOLD, LIMITS, Statements
+from turns import BESIDE, other_side, say
 
 SERVING = TOP / "bench" / "serving.py"
 DAY = "2026-02-16"
@@ -62,17 +63,16 @@ def through_servers(folder, name, requests, most):
         return took
 
     def through(depot):
-        return lambda to: [depot, "serve", "--port", 0, "--count", count, to, DAY]
+        words_of = lambda to: [depot, "serve", "--port", 0, "--count", count, to, DAY]
+        return side("theirs" if depot == BESIDE else "ours", words_of)
 
-    if BESIDE:
-        other, of_other, most = "the other program", through(BESIDE), None
-    else:
-        other, of_other = "http.server and sqlite3", lambda to: [sys.executable, SERVING, to, DAY, count]
-    first, second = turns(lambda: side("ours", through(DEPOT)), lambda: side("theirs", of_other))
+    through_python = lambda: side("theirs", lambda to: [sys.executable, SERVING, to, DAY, count])
+    other, *named = other_side(through, through_python, "http.server and sqlite3", most)
+    first, second = turns(lambda: through(DEPOT), other)
     if last["ours"] != last["theirs"]:
         fail(f"{name}: other answers")
-    say(name, count, first, second, other, most)
-    say(f"{name}, processor time of the server", count, *processor.values(), other)
+    say(name, count, first, second, *named)
+    say(f"{name}, processor time of the server", count, *processor.values(), named[0])
 
 
 def target_of(number):
@@ -145,10 +145,10 @@ def replay(folder):
     items = [it for turn in range(200) for it in mixed(turn)]
     text = b"".join(record(DAY, request(*words)) for words, _ in items)
 
-    def ours():
+    def ours(depot):
         to = copy(file, "ours.db")
         begin = time.perf_counter()
-        done = replayed(DEPOT, to, [text])
+        done = replayed(depot, to, [text])
         took = time.perf_counter() - begin
         statuses = [parts(it)[0] for it in records_in(done.stdout)[0]]
         if done.returncode != 0 or statuses != [STATUS[name] for _, (name, *_) in items]:
@@ -166,8 +166,8 @@ def replay(folder):
         statements.connection.close()
         return (time.perf_counter() - begin) * 1e6
 
-    first, second = turns(ours, theirs)
-    say("replay", len(items), first, second, "its statements through Python", 2)
+    other, *named = other_side(ours, theirs, "its statements through Python", 2)
+    say("replay", len(items), *turns(lambda: ours(DEPOT), other), *named)
 
 
 def opens(file, rows):

@@ -6,26 +6,23 @@ one transaction, through Python's sqlite3 (WAL, synchronous FULL, foreign keys o
 each: of the medians of runs that take turns (RUNS=n, 7 if left out). `large`, `several` and `many` are
 ratios of peak memory. The program crates/trial_office, which makes the requests, has to be built; it
 doesn't count the opening of the file, and nor does the other side. BESIDE=PROGRAM measures beside another
-build of it instead of the statements. The arguments of `requests.py` name the cases that are run; with none,
-all are.
+build of it, time and memory, instead of the statements. The arguments of `requests.py` name the cases that are
+run; with none, all are.
 """
-from trial_office import BESIDE, DEPOSITS, FILES, PUT_DEPOSIT
-from trial_office import copy, filled, main, opened, ours, own_files, put_file, say, turns, watched
+from trial_office import DEPOSITS, FILES, PUT_DEPOSIT, RUNS
+from trial_office import copy, filled, main, opened, ours, own_files, put_file, turns, watched
 from shared.places import TRIAL_OFFICE
 from statements import scattered, theirs
 from stores import LONG, ROLES, naming, put_policy, stored
+from turns import BESIDE, other_side, say, say_memory
 
 MANY = 100_000
 
 
 def beside(name, count, asked, stated, most):
     """What the program takes for this number of requests, beside their statements or another build of the program."""
-    other = (lambda: asked(BESIDE)) if BESIDE else stated
-    first, second = turns(lambda: asked(TRIAL_OFFICE), other)
-    if BESIDE:
-        say(name, count, first, second, "the other program")
-    else:
-        say(name, count, first, second, "its statements through Python", most)
+    other, *named = other_side(asked, stated, "its statements through Python", most)
+    say(name, count, *turns(lambda: asked(TRIAL_OFFICE), other), *named)
 
 
 def reading(name, file, words, last, count, most=None):
@@ -88,9 +85,9 @@ def disposal(folder):
 def bag(folder):
     """Downloads of a bag of 10 KiB, the SHA-256 of each content taken on both sides: beside two statements for each
     file, as the office made them when the target was set, and beside one."""
-    at_many(folder, "bag by two statements a file", ("ask-bags", "bag_by_paths"), 10_000, 0.75)
     if not BESIDE:
-        at_many(folder, "bag", ("ask-bags", "bag"), 10_000)
+        at_many(folder, "bag by two statements a file", ("ask-bags", "bag_by_paths"), 10_000, 0.75)
+    at_many(folder, "bag", ("ask-bags", "bag"), 10_000)
 
 
 def whole_list(folder):
@@ -154,11 +151,8 @@ def revision(folder):
     changing(f"class of {MANY:,} closed on 5,000 days", file, ("ask-classes", "revise"), range(1, 3))
 
 
-def peak_of(folder, name, count):
-    """A download of a bag of 16 MiB in this number of payload files: peak memory beside the same program's
-    once it had opened the file."""
-    file = copy(filled(folder, 100), f"{name}.db")
-    size = 16 * 1024 * 1024
+def with_one(file, count, size):
+    """Leaves an office one deposit, of a bag of this size in this number of payload files."""
     tags = [it for it in FILES if it[0] != "data/record"]
     # What is left for the contents of the payload, with some room for the headers of the form.
     left = size - sum(len(path) + len(it) for path, it in tags) - 200 - 40 * count
@@ -174,13 +168,23 @@ def peak_of(folder, name, count):
         put_file(connection, 1, path, it)
     connection.execute("PRAGMA wal_checkpoint(TRUNCATE)").fetchall()
     connection.close()
-    _, opening = watched("ask-records", file, 0)
-    _, whole = watched("ask-bags", file, 1)
-    print(
-        f"{name}: {(whole - opening) / size:.2f} times 16 MiB above {opening / 2**20:.1f} MiB"
-        " (at most 3)",
-        flush=True,
-    )
+
+
+def peak_of(folder, name, count):
+    """A download of a bag of 16 MiB in this number of payload files: peak memory beside the same program's
+    once it had opened the file, or beside another build's."""
+    file, size = copy(filled(folder, 100), f"{name}.db"), 16 * 1024 * 1024
+    with_one(file, count, size)
+    opening = lambda program: watched("ask-records", file, 0, program=program)[1]
+    whole = lambda program: watched("ask-bags", file, 1, program=program)[1]
+    above = lambda program: whole(program) - opening(program)
+    if BESIDE:
+        say_memory(f"{name}, above the opening", above, TRIAL_OFFICE, RUNS)
+        say_memory(f"{name}, with the opening", whole, TRIAL_OFFICE, RUNS)
+    else:
+        base = opening(TRIAL_OFFICE)
+        times = (whole(TRIAL_OFFICE) - base) / size
+        print(f"{name}: {times:.2f} times 16 MiB above {base / 2**20:.1f} MiB (at most 3)", flush=True)
 
 
 def large(folder):

@@ -9,8 +9,9 @@ side. The arguments of `tables.py` name the cases that are run; with none, all a
 """
 import time
 
-from trial_office import DEPOSITS, copy, file_of, filled, main, opened, ours, put_bag, say, turns
+from trial_office import DEPOSITS, copy, file_of, filled, main, opened, ours, put_bag, turns
 from shared.comparing import fail
+from turns import say
 
 
 def their_deposits(file, count):

@@ -10,18 +10,15 @@ import sqlite3
 import subprocess
 import sys
 import tempfile
-from statistics import median
 
 from shared import days
 from shared.comparing import fail
 from shared.forms import bag
 from shared.places import TRIAL_OFFICE, needs_built
 from shared.stores import NEWEST
-from turns import chosen, say_machine, spreads
+from turns import chosen, say_machine
 from turns import turns as taking_turns
 
-# Another build of the program that is measured, where the environment names one: it takes the other side.
-BESIDE = os.environ.get("BESIDE")
 RUNS = int(os.environ.get("RUNS", "7"))
 DEPOSITS, HOLDS = NEWEST["deposit"], NEWEST["hold"]
 PUT_DEPOSIT = (
@@ -81,10 +78,10 @@ print(used.ru_maxrss * 1024)
 """
 
 
-def watched(*words):
-    """The microseconds that the program prints, and the most memory that it takes, in bytes. A small process starts
-    it, since a process counts as its own what the one that starts it holds."""
-    words = [sys.executable, "-c", WAIT, str(TRIAL_OFFICE), *map(str, words)]
+def watched(*words, program=TRIAL_OFFICE):
+    """The microseconds that the program prints, or another build of it, and the most memory that it takes, in bytes. A
+    small process starts it, since a process counts as its own what the one that starts it holds."""
+    words = [sys.executable, "-c", WAIT, str(program), *map(str, words)]
     found = subprocess.run(words, capture_output=True, text=True)
     if found.returncode != 0:
         fail(found.stderr)
@@ -193,14 +190,6 @@ def copy(file, name):
 def turns(first, second):
     """What runs that take turns gave."""
     return taking_turns(first, second, RUNS)
-
-
-def say(name, count, ones, others, other, most=None):
-    """Prints a case. One with no `most` is a figure."""
-    first, second = median(ones), median(others)
-    wanted = f"at most {most}" if most else "the figure"
-    each = f"{first / count:.1f} and {second / count:.1f} microseconds each; {spreads(ones, others)}"
-    print(f"{name}: {first / second:.2f} times {other} ({wanted}; {each})", flush=True)
 
 
 def main(cases):

@@ -1,4 +1,4 @@
-"""What the speed scripts share: runs that take turns, their spread, and what they ran on."""
+"""What the speed scripts share: runs that take turns, their spread, how they are printed, and what they ran on."""
 import os
 import platform
 import sqlite3
@@ -8,6 +8,13 @@ import sys
 import tempfile
 
 from shared.comparing import fail
+from shared.places import is_there
+
+# Another build of the program that is measured, where the environment names one: it takes the other side.
+BESIDE = os.environ.get("BESIDE")
+OTHER = "the other program"
+if BESIDE and not is_there(BESIDE):
+    fail(f"BESIDE names {BESIDE}, which isn't a program")
 
 
 def chosen(cases):
@@ -44,6 +51,26 @@ def spread(found):
 def spreads(ones, others):
     """The spread of both sides, as it is printed."""
     return f"spread {spread(ones):.0%} and {spread(others):.0%}"
+
+
+def other_side(asked, stated, named, most=None):
+    """What is measured beside a program that is asked, how it is called, and how many times as much the program may
+    take. It is what is stated; or another build of the program, which is asked the same, and has no bound."""
+    return (lambda: asked(BESIDE), OTHER, None) if BESIDE else (stated, named, most)
+
+
+def say(name, count, ones, others, other, most=None, unit="microseconds each"):
+    """Prints a case: the ratio of what two sides took, and what each took. One with no `most` is a figure."""
+    first, second = statistics.median(ones), statistics.median(others)
+    wanted = f"at most {most}" if most else "the figure"
+    each = f"{first / count:.1f} and {second / count:.1f} {unit}; {spreads(ones, others)}"
+    print(f"{name}: {first / second:.2f} times {other} ({wanted}; {each})", flush=True)
+
+
+def say_memory(name, asked, program, runs):
+    """Prints how much memory a program takes, in bytes, beside the other build of it."""
+    found = turns(lambda: asked(program), lambda: asked(BESIDE), runs)
+    say(name, 2**20, *found, OTHER, unit="MiB")
 
 
 def first_line(*words):
