@@ -1,8 +1,8 @@
 #!/usr/bin/env bash
 # Runs every command of README.md that follows `$ ` in a block of ```console, in the order of the page and in one shell,
 # in an empty folder with the examples. What each prints, on both outputs, must be the lines below it. A command that
-# ends with `&` has a minute to print its lines, and must end within a minute of the last command. The first look takes
-# some minutes.
+# ends with `&` has a minute to print its lines, and must end within a minute of the last command. It is `serve`, which
+# then says that it ended after its connections, and nothing else. Each of the two first looks takes some minutes.
 # Argument: the program; if left out, that of DEPOT, or the repository's own.
 set -eu
 top=$(readlink -f "$(dirname "$(readlink -f "$0")")/..")
@@ -30,6 +30,8 @@ page, room = Path(sys.argv[1]).read_text(encoding="utf-8"), sys.argv[2]
 MARK = "--- end of command ---"
 # How many seconds all commands together may take.
 PATIENCE = 1800
+# What `serve` says last.
+ENDED = "depot: serving ended after the connections that were asked for: "
 # Waits until a command in the background has printed this number of lines, and prints them.
 BEGUN = """begun() {
     local end=$((SECONDS + 60))
@@ -55,11 +57,12 @@ for block in re.findall(r"^ *```console\n(.*?)^ *```$", page, re.M | re.S):
         else:
             commands[-1][1].append(line)
 
-lines = [BEGUN, OVER]
+lines, served = [BEGUN, OVER], []
 for number, (command, wanted) in enumerate(commands):
     if command.endswith("&"):
         # What it prints goes to a file, so that nothing waits for its end to read it.
         said = f"{room}/said-{number}"
+        served.append((said, command, [*wanted, ENDED + command.split("--count ")[1].split()[0]]))
         command = f"over\n{{ {command}\n}} >{said} 2>&1\nbegun {said} {len(wanted)}"
     lines += [command, f"echo '{MARK}'"]
 lines.append("over")
@@ -79,14 +82,23 @@ try:
 except ProcessLookupError:
     pass
 
+
+
+def compare(command, wanted, found):
+    """Ends the script where a command printed other lines; empty ones don't count."""
+    said = [line.strip() for line in found.splitlines()]
+    if [line for line in said if line] != [line for line in wanted if line]:
+        sys.exit(f"$ {command}\nprinted\n{found}\nand this is wanted:\n" + "\n".join(wanted))
+
+
 *printed, left = [part.strip("\n").replace("\r", "") for part in found.split(MARK + "\n")]
 if len(printed) != len(commands):
     sys.exit(f"{len(commands)} commands are wanted, and the shell ended after {len(printed)}: {left}")
 for (command, wanted), found in zip(commands, printed):
-    said = [line.strip() for line in found.splitlines()]
-    if [line for line in said if line] != [line for line in wanted if line]:
-        sys.exit(f"$ {command}\nprinted\n{found}\nand the page has\n" + "\n".join(wanted))
+    compare(command, wanted, found)
 if left:
     sys.exit(f"a minute after the last command this went on: {left}")
+for said, command, wanted in served:
+    compare(command, wanted, Path(said).read_text(encoding="utf-8"))
 print(f"walkthrough: {len(commands)} commands of README.md print what the page says")
 SCRIPT
