@@ -1,36 +1,39 @@
 #!/usr/bin/env python3
-"""Speed of the whole program: `serve`, `replay` into a file, and the opening of a file.
+"""Speed of the whole program: `serve`, `replay` into a file, and the opening of a file; and the memory of that.
 
 `get` and `deposit` are requests through `depot serve`, beside the same through `serving.py` (http.server
 and sqlite3, WAL, synchronous FULL); the same client asks both, over a connection for each request, and their
 bodies are compared. The processor time of the servers, without their start, is compared too. `replay` is 2,000
 mixed requests into a file, beside the SQL statements alone that they make, in their order and in one transaction
 each, through Python's sqlite3; the start of the program, the opening of the file and its closing count on both
-sides. With BESIDE=PROGRAM another `depot` takes the other side of the three. `open` is the time of a request that
-changes nothing by `depot ask`, of files of several sizes with rows of 1 MiB, and of one with 100 MiB of bags of
-10 KiB: figures alone.
+sides. `open` is the time of a request that changes nothing by `depot ask`, of files of several sizes with rows of
+1 MiB, and of one with 100 MiB of bags of 10 KiB: figures alone. `pages` is the most memory of such a request, of a
+file of 512 MiB in pages of 4 KiB and of 64 KiB: as much of it as is above the length of the file, which an opening
+reads. With BESIDE=PROGRAM another `depot` takes the other side of all but `open`.
 Prints a ratio for each case: of the medians of runs that take turns (RUNS=n, 7 if left out). The programs
 `depot` and crates/trial_office have to be built. The arguments of `program.py` name the cases that are run;
 with none, all are.
 """
 import os
+import sqlite3
 import subprocess
 import sys
 import time
 from statistics import median
 
-from trial_office import END_HOLD, FILES, PUT_HOLD, SET_HOLDS
+from trial_office import END_HOLD, FILES, PUT_HOLD, RUNS, SET_HOLDS
 from trial_office import copy, filled, main, opened, put_file, turns
 from servers import asked, processor_time
 from shared.comparing import fail
 from shared.forms import form
 from shared.offices import replay as replayed
 from shared.offices import started
+from shared.peaks import watched
 from shared.places import DEPOT, TOP, needs_built
 from shared.requests import deposit_target, parts, record, records_in, request
 from statements import DAY as DAY_NUMBER
 from statements import DUE_ROW, HOLD, LIMITS, Statements
-from turns import BESIDE, other_side, say
+from turns import BESIDE, other_side, say, say_memory
 
 SERVING = TOP / "bench" / "serving.py"
 DAY = "2026-02-16"
@@ -183,23 +186,56 @@ def opens(file, rows):
     print(f"open: {median(found):.2f} seconds of a file of {size:.0f} MiB, {rows}", flush=True)
 
 
+def with_rows(folder, count):
+    """An office of 100 deposits with this number of rows of 1 MiB in the first."""
+    large = copy(filled(folder, 100), f"large-{count}.db")
+    connection = opened(large)
+    connection.execute("BEGIN")
+    for n in range(count):
+        put_file(connection, 1, f"data/large{n}", b"%04d" % n + b"r" * (2**20 - 4))
+    connection.execute("COMMIT")
+    connection.execute("PRAGMA wal_checkpoint(TRUNCATE)").fetchall()
+    connection.close()
+    return large
+
+
 def opening(folder):
     """Files of several sizes with rows of 1 MiB, and one with 100 MiB of bags of 10 KiB."""
-    file = filled(folder, 100)
     for size in (10, 50, 100):
-        large = copy(file, f"large-{size}.db")
-        connection = opened(large)
-        connection.execute("BEGIN")
-        for n in range(size):
-            put_file(connection, 1, f"data/large{n}", b"%04d" % n + b"r" * (2**20 - 4))
-        connection.execute("COMMIT")
-        connection.execute("PRAGMA wal_checkpoint(TRUNCATE)").fetchall()
-        connection.close()
-        opens(large, f"{size} rows of 1 MiB in one deposit")
+        opens(with_rows(folder, size), f"{size} rows of 1 MiB in one deposit")
     opens(filled(folder, 10_240), "10,240 deposits of 10 KiB with three files each, and as many holds")
 
 
-CASES = {"get": get, "deposit": deposit, "replay": replay, "open": opening}
+def in_pages(file, size):
+    """Writes the file anew in pages of this size."""
+    connection = sqlite3.connect(file)
+    for text in ("PRAGMA journal_mode = DELETE", f"PRAGMA page_size = {size}", "VACUUM"):
+        connection.execute(text).fetchall()
+    connection.close()
+
+
+def pages(folder):
+    """The memory of an opening above the length of the file, by the size of its pages."""
+    file = with_rows(folder, 512)
+    for size in (4_096, 65_536):
+        in_pages(file, size)
+        length = file.stat().st_size
+
+        def above(depot):
+            status, peak, _ = watched(depot, "ask", file, DAY)
+            if status != 0:
+                fail(f"ask ended with {status}")
+            return peak - length
+
+        name = f"pages of {size // 1024} KiB, above the length of the file"
+        if BESIDE:
+            say_memory(name, above, DEPOT, RUNS)
+        else:
+            found = median(above(DEPOT) for _ in range(3))
+            print(f"{name}, {length / 2**20:.0f} MiB: {found / 2**20:.0f} MiB (at most 150)", flush=True)
+
+
+CASES = {"get": get, "deposit": deposit, "replay": replay, "open": opening, "pages": pages}
 
 if __name__ == "__main__":
     needs_built(DEPOT)
