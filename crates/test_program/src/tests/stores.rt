@@ -158,8 +158,8 @@ static STORES: [Store; 15] = [
     },
 ];
 
-/// An office that SQL alters in its file: its tables are put into those of an older version, or a content gets
-/// other bytes.
+/// An office that SQL alters in its file: its tables are put into those of an older version, or a content is
+/// altered.
 struct Altered {
     version: u8,
     /// The runs that make it, with the tables of this version.
@@ -177,10 +177,27 @@ const TO_FOURTH: &str =
 const TO_THIRD: &str =
     "INSERT INTO hold (number, deposit, collection, matter, placed, released) SELECT number, deposit, collection, matter, placed, released FROM hold_4; DROP TABLE hold_4; UPDATE office SET version = 3";
 
+/// An office with three deposits that share a content, which has other bytes.
+const OTHER_BYTES: Altered = Altered {
+    version: 5,
+    made: &[
+        "policy,STORE,v/policy.toml||Accepted|~installed~|",
+        "replay,STORE|~days~|Accepted|~days answered~|",
+    ],
+    puts: &["UPDATE content SET bytes = x'616264' WHERE bytes = x'616263'"],
+    runs: [
+        "ask,STORE,2024-03-05|GET /deposits/1/bag~anna~|Accepted|~store failed~|",
+        "replay,STORE|REQ 2024-03-05 61\nGET /deposits/1/files/data/a~anna~\nREQ 2024-03-05 52\nGET /deposits/1/bag~anna~\nREQ 2024-03-05 61\nGET /deposits/2/files/data/a~anna~\nREQ 2024-03-05 52\nGET /deposits/2/bag~anna~\nREQ 2024-03-05 54\nGET /deposits/1/audit~anna~\nREQ 2024-03-05 54\nGET /deposits/2/audit~anna~\n|Accepted|ANS 124\n~store failed~\nANS 124\n~store failed~\nANS 124\n~store failed~\nANS 124\n~store failed~\nANS 158\n~ok~68~close~{\"deposit\":1,\"fault\":\"B17 manifest-sha256.txt data/a\",\"valid\":false}\nANS 158\n~ok~68~close~{\"deposit\":2,\"fault\":\"B17 manifest-sha256.txt data/a\",\"valid\":false}\n|",
+        "serve,--port,0,--count,3,STORE,2024-03-05|GET /deposits/3/files/data/a~anna~#GET /deposits/3/bag~anna~#GET /deposits/3/audit~anna~|Accepted|~store failed~#~store failed~#~ok~68~close~{\"deposit\":3,\"fault\":\"B17 manifest-sha256.txt data/a\",\"valid\":false}#|depot: connection 1: a reading was answered Store, 1 in a row\ndepot: connection 3: a reading succeeded again, after 2 in a row, the last answered Store\ndepot: serving ended after the connections that were asked for: 3\n",
+        "policy,STORE,v/policy.toml||Accepted|~installed~|",
+    ],
+};
+
 /// Offices with three deposits, and with a hold on one, one on a collection and a released one; in version 4 with
 /// one on a class, too. Holds of each kind go on, and are released; a new one on a class is placed. In version 5, this
-/// one, a content that all three share has other bytes: no download serves them, and an audit reads them.
-static ALTERED: [Altered; 3] = [
+/// one, a content that all three share has other bytes, or none, or another mark: no download serves it, and an audit
+/// reads the bytes that are there.
+static ALTERED: [Altered; 5] = [
     Altered {
         version: 3,
         made: &[
@@ -209,19 +226,22 @@ static ALTERED: [Altered; 3] = [
             "policy,STORE,v/policy.toml||Accepted|~installed~|",
         ],
     },
+    OTHER_BYTES,
     Altered {
-        version: 5,
-        made: &[
-            "policy,STORE,v/policy.toml||Accepted|~installed~|",
-            "replay,STORE|~days~|Accepted|~days answered~|",
+        puts: &["UPDATE content SET bytes = x'' WHERE bytes = x'616263'"],
+        ..OTHER_BYTES
+    },
+    Altered {
+        puts: &[
+            "UPDATE content SET mark = x'0000000000000000000000000000000000000000000000000000000000000000' WHERE bytes = x'616263'",
         ],
-        puts: &["UPDATE content SET bytes = x'616264' WHERE bytes = x'616263'"],
         runs: [
             "ask,STORE,2024-03-05|GET /deposits/1/bag~anna~|Accepted|~store failed~|",
-            "replay,STORE|REQ 2024-03-05 61\nGET /deposits/1/files/data/a~anna~\nREQ 2024-03-05 52\nGET /deposits/1/bag~anna~\nREQ 2024-03-05 61\nGET /deposits/2/files/data/a~anna~\nREQ 2024-03-05 52\nGET /deposits/2/bag~anna~\nREQ 2024-03-05 54\nGET /deposits/1/audit~anna~\nREQ 2024-03-05 54\nGET /deposits/2/audit~anna~\n|Accepted|ANS 124\n~store failed~\nANS 124\n~store failed~\nANS 124\n~store failed~\nANS 124\n~store failed~\nANS 158\n~ok~68~close~{\"deposit\":1,\"fault\":\"B17 manifest-sha256.txt data/a\",\"valid\":false}\nANS 158\n~ok~68~close~{\"deposit\":2,\"fault\":\"B17 manifest-sha256.txt data/a\",\"valid\":false}\n|",
-            "serve,--port,0,--count,3,STORE,2024-03-05|GET /deposits/3/files/data/a~anna~#GET /deposits/3/bag~anna~#GET /deposits/3/audit~anna~|Accepted|~store failed~#~store failed~#~ok~68~close~{\"deposit\":3,\"fault\":\"B17 manifest-sha256.txt data/a\",\"valid\":false}#|depot: connection 1: a reading was answered Store, 1 in a row\ndepot: connection 3: a reading succeeded again, after 2 in a row, the last answered Store\ndepot: serving ended after the connections that were asked for: 3\n",
+            "replay,STORE|REQ 2024-03-05 61\nGET /deposits/1/files/data/a~anna~\nREQ 2024-03-05 52\nGET /deposits/1/bag~anna~\nREQ 2024-03-05 61\nGET /deposits/2/files/data/a~anna~\nREQ 2024-03-05 52\nGET /deposits/2/bag~anna~\nREQ 2024-03-05 54\nGET /deposits/1/audit~anna~\nREQ 2024-03-05 54\nGET /deposits/2/audit~anna~\n|Accepted|ANS 124\n~store failed~\nANS 124\n~store failed~\nANS 124\n~store failed~\nANS 124\n~store failed~\nANS 166\n~ok~76~close~{\"bytes\":3,\"deposit\":1,\"files\":1,\"manifests\":1,\"valid\":true,\"version\":\"1.0\"}\nANS 166\n~ok~76~close~{\"bytes\":3,\"deposit\":2,\"files\":1,\"manifests\":1,\"valid\":true,\"version\":\"1.0\"}\n|",
+            "serve,--port,0,--count,3,STORE,2024-03-05|GET /deposits/3/files/data/a~anna~#GET /deposits/3/bag~anna~#GET /deposits/3/audit~anna~|Accepted|~store failed~#~store failed~#~ok~76~close~{\"bytes\":3,\"deposit\":3,\"files\":1,\"manifests\":1,\"valid\":true,\"version\":\"1.0\"}#|depot: connection 1: a reading was answered Store, 1 in a row\ndepot: connection 3: a reading succeeded again, after 2 in a row, the last answered Store\ndepot: serving ended after the connections that were asked for: 3\n",
             "policy,STORE,v/policy.toml||Accepted|~installed~|",
         ],
+        ..OTHER_BYTES
     },
 ];
 
@@ -445,8 +465,8 @@ fn run_each(rt: &HostRuntime, office: &Altered) -> Result<(), Fail> {
 
 #[test]
 fn offices_that_other_sql_altered(rt: HostRuntime) -> Result<(), Fail> {
-    begin(&rt, "v", &[("v/policy.toml", "~policy~")])?;
     for office in &ALTERED {
+        begin(&rt, "v", &[("v/policy.toml", "~policy~")])?;
         run_each(&rt, office)?;
     }
     fs::remove_dir_all(&rt, "v")?;
