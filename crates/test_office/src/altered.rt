@@ -920,7 +920,7 @@ pub(crate) static HOLDS: [Part; 15] = [
 /// A bag is served as deposited beside altered ones: the other deposit has the same files, and a
 /// content is reused only where its bytes and its mark are the same. The stock is what the sizes of the
 /// contents tell, where they are sizes. A deposit is taken in beside a hold that names two things.
-pub(crate) static BESIDE: [&[Part]; 5] = [
+pub(crate) static BESIDE: [&[Part]; 6] = [
     &[
         ("office", "1000000"),
         (
@@ -945,6 +945,34 @@ pub(crate) static BESIDE: [&[Part]; 5] = [
              deposit maps y10 A-3 > deposit 3\n\
              bag 3 > whole\n\
              bag 1 > Store",
+        ),
+    ],
+    // Content 2 has no bytes: it isn't found for those under its mark.
+    &[
+        ("office", "1000000"),
+        (
+            "asks",
+            "2024-03-01 anna\n\
+             deposit maps y1 A-1 > deposit 1\n\
+             deposit tax y10 A-2 > deposit 2",
+        ),
+        ("alters", "UPDATE content SET bytes = x'' WHERE id = 2"),
+        (
+            "asks altered",
+            "file 1 data/a > Store\n\
+             bag 1 > Store\n\
+             file 2 data/a > Store\n\
+             bag 2 > Store\n\
+             audit 1 > audit 1 invalid B17 manifest-sha256.txt data/a\n\
+             audit 2 > audit 2 invalid B17 manifest-sha256.txt data/a\n\
+             2024-03-01 anna\n\
+             deposit maps y10 A-3 > deposit 3\n\
+             bag 3 > whole\n\
+             bag 1 > Store",
+        ),
+        (
+            "steps",
+            "show|SELECT id, size FROM content ORDER BY id > 1|54;2|3;3|73;4|3;",
         ),
     ],
     // Content 2 is under no mark of its own: it isn't found for the same bytes.
