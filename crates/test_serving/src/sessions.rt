@@ -1,5 +1,5 @@
-//! Sessions that last several days, worked out by hand from `docs/HTTP.md`: one with holds on classes, after which
-//! stored bytes are altered, and one under a policy whose rules have days.
+//! Sessions that last several days, worked out by hand from `docs/HTTP.md`: one with holds on classes, after which a
+//! stored content is altered, and one under a policy whose rules have days.
 
 use crate::answers::{
     BAD_BODY, DENIED, DEPOSIT_1, DEPOSIT_2, DEPOSIT_3, HELD_1, HOLD_1, HOLD_2, HOLD_3, NO_CLASS,
@@ -157,13 +157,59 @@ static HOLDS: [Case; 26] = [
     },
 ];
 
-/// Gives a content that deposits 2 and 3 share other bytes, as many as it has; and gives it back its own.
-const ALTERS: &str = "UPDATE content SET bytes = x'616264' WHERE bytes = x'616263'";
+/// SQL that alters a content which deposits 2 and 3 share, SQL that takes this back, and what audits answer in between.
+struct Alteration {
+    alters: &'static str,
+    restores: &'static str,
+    audits: &'static [Case],
+}
 
-const RESTORES: &str = "UPDATE content SET bytes = x'616263' WHERE bytes = x'616264'";
+/// Other bytes, as many.
+const OTHER_BYTES: Alteration = Alteration {
+    alters: "UPDATE content SET bytes = x'616264' WHERE bytes = x'616263'",
+    restores: "UPDATE content SET bytes = x'616263' WHERE bytes = x'616264'",
+    audits: &[
+        Case {
+            day: "2030-01-04",
+            request: b"GET /deposits/2/audit HTTP/1.1\r\nDepot-Caller: anna\r\n\r\n",
+            answer: b"HTTP/1.1 200 OK\r\nContent-Type: application/json\r\nContent-Length: 68\r\nConnection: close\r\n\r\n{\"deposit\":2,\"fault\":\"B17 manifest-sha256.txt data/a\",\"valid\":false}",
+        },
+        Case {
+            day: "2030-01-04",
+            request: b"GET /deposits/3/audit HTTP/1.1\r\nDepot-Caller: anna\r\n\r\n",
+            answer: b"HTTP/1.1 200 OK\r\nContent-Type: application/json\r\nContent-Length: 68\r\nConnection: close\r\n\r\n{\"deposit\":3,\"fault\":\"B17 manifest-sha256.txt data/a\",\"valid\":false}",
+        },
+    ],
+};
 
-/// What is asked of deposits 2 and 3 then. The last file has a content that isn't altered.
-static DOWNLOADS: [Case; 7] = [
+/// Other bytes, none, and another mark.
+static ALTERATIONS: [Alteration; 3] = [
+    OTHER_BYTES,
+    Alteration {
+        alters: "UPDATE content SET bytes = x'' WHERE bytes = x'616263'",
+        restores: "UPDATE content SET bytes = x'616263' WHERE bytes = x''",
+        ..OTHER_BYTES
+    },
+    Alteration {
+        alters: "UPDATE content SET mark = x'0000000000000000000000000000000000000000000000000000000000000000' WHERE bytes = x'616263'",
+        restores: "UPDATE content SET mark = x'ba7816bf8f01cfea414140de5dae2223b00361a396177a9cb410ff61f20015ad' WHERE bytes = x'616263'",
+        audits: &[
+            Case {
+                day: "2030-01-04",
+                request: b"GET /deposits/2/audit HTTP/1.1\r\nDepot-Caller: anna\r\n\r\n",
+                answer: b"HTTP/1.1 200 OK\r\nContent-Type: application/json\r\nContent-Length: 76\r\nConnection: close\r\n\r\n{\"bytes\":3,\"deposit\":2,\"files\":1,\"manifests\":1,\"valid\":true,\"version\":\"1.0\"}",
+            },
+            Case {
+                day: "2030-01-04",
+                request: b"GET /deposits/3/audit HTTP/1.1\r\nDepot-Caller: anna\r\n\r\n",
+                answer: b"HTTP/1.1 200 OK\r\nContent-Type: application/json\r\nContent-Length: 76\r\nConnection: close\r\n\r\n{\"bytes\":3,\"deposit\":3,\"files\":1,\"manifests\":1,\"valid\":true,\"version\":\"1.0\"}",
+            },
+        ],
+    },
+];
+
+/// What is downloaded of deposits 2 and 3 then. The last file has a content that isn't altered.
+static DOWNLOADS: [Case; 5] = [
     Case {
         day: "2030-01-04",
         request: b"GET /deposits/2/files/data/a HTTP/1.1\r\nDepot-Caller: anna\r\n\r\n",
@@ -183,16 +229,6 @@ static DOWNLOADS: [Case; 7] = [
         day: "2030-01-04",
         request: b"GET /deposits/3/bag HTTP/1.1\r\nDepot-Caller: anna\r\n\r\n",
         answer: STORE_FAILED,
-    },
-    Case {
-        day: "2030-01-04",
-        request: b"GET /deposits/2/audit HTTP/1.1\r\nDepot-Caller: anna\r\n\r\n",
-        answer: b"HTTP/1.1 200 OK\r\nContent-Type: application/json\r\nContent-Length: 68\r\nConnection: close\r\n\r\n{\"deposit\":2,\"fault\":\"B17 manifest-sha256.txt data/a\",\"valid\":false}",
-    },
-    Case {
-        day: "2030-01-04",
-        request: b"GET /deposits/3/audit HTTP/1.1\r\nDepot-Caller: anna\r\n\r\n",
-        answer: b"HTTP/1.1 200 OK\r\nContent-Type: application/json\r\nContent-Length: 68\r\nConnection: close\r\n\r\n{\"deposit\":3,\"fault\":\"B17 manifest-sha256.txt data/a\",\"valid\":false}",
     },
     Case {
         day: "2030-01-04",
@@ -259,14 +295,28 @@ pub(crate) fn take_holds<S: Alter>(alloc: Global, office: &mut Office<S>) -> Res
     take(alloc, office, &HOLDS)
 }
 
-/// Requests to the office after that session, where a content is altered. It is as before in the end.
+/// Alters the content, puts the requests to the office, and takes the alteration back.
+fn take_alteration<S: Alter + Drop>(
+    alloc: Global,
+    office: Office<S>,
+    alteration: &Alteration,
+) -> Result<Office<S>, Fail> {
+    let mut office = altered(office, alteration.alters)?;
+    take(alloc, &mut office, &DOWNLOADS)?;
+    take(alloc, &mut office, alteration.audits)?;
+    altered(office, alteration.restores)
+}
+
+/// Requests to the office after that session, at each alteration of a content. It is as before in the end.
 pub(crate) fn take_altered<S: Alter + Drop>(
     alloc: Global,
     office: Office<S>,
 ) -> Result<Office<S>, Fail> {
-    let mut office = altered(office, ALTERS)?;
-    take(alloc, &mut office, &DOWNLOADS)?;
-    altered(office, RESTORES)
+    let mut office = office;
+    for alteration in &ALTERATIONS {
+        office = take_alteration(alloc, office, alteration)?;
+    }
+    Ok(office)
 }
 
 /// A session under a policy whose rules have days.
