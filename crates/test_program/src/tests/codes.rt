@@ -5,7 +5,7 @@
 //! error is told, with marks. A line that is no row says what the rows below it are about.
 
 /// The declaration, and the files of a bag.
-pub static DECLARATIONS: &str = r"
+pub(crate) static DECLARATIONS: &str = r"
 # Bag A; of version 0.97, with its digest in capitals; and with other line ends.
 BAGSET 1\n{bag} => valid 1.0 files 1 bytes 3 manifests 1\n
 BAGSET 1\n{declared-0.97}{payload}FILE 19 73\nmanifest-sha256.txtBA7816BF8F01CFEA414140DE5DAE2223B00361A396177A9CB410FF61F20015AD  data/a\n\nEND\n => valid 0.97 files 1 bytes 3 manifests 1\n
@@ -46,7 +46,7 @@ BAGSET 1\n{declared}{payload}FILE 13 0\nmanifest-.txt\nFILE 22 1\ntagmanifest-sh
 ";
 
 /// Manifests and what they list.
-pub static MANIFESTS: &str = r"
+pub(crate) static MANIFESTS: &str = r"
 # The lines of a manifest.
 BAGSET 1\n{declared}{payload}FILE 19 74\nmanifest-sha256.txt{abc}  data/a{ff}\n\nEND\n => invalid B6 manifest-sha256.txt L1\n => manifest-sha256.txt is not UTF-8 text (B6 L1)\n
 BAGSET 1\n{declared}{payload}FILE 19 5\nmanifest-sha256.txt{bom}{ff}\n\nEND\n => invalid B6 manifest-sha256.txt L1\n
@@ -100,7 +100,7 @@ BAGSET 1\n{declared}{listed}FILE 19 0\nmanifest-sha512.txt\nFILE 22 162\ntagmani
 ";
 
 /// The payload: what is missing, unlisted or other than its digest.
-pub static PAYLOADS: &str = r"
+pub(crate) static PAYLOADS: &str = r"
 # Files that are missing; the least path by what it is, and not by how it is printed.
 BAGSET 1\n{declared}{payload}FILE 19 146\nmanifest-sha256.txt{abc}  data/a\n{nothing}  data/b\n\nEND\n => invalid B11 manifest-sha256.txt data/b\n => manifest-sha256.txt lists data/b, but the bag has no such file (B11)\n
 BAGSET 1\n{declared}{payload}FILE 19 73\nmanifest-sha256.txt{nothing}  data/b\n\nEND\n => invalid B11 manifest-sha256.txt data/b\n
@@ -139,7 +139,7 @@ BAGSET 1\n{declared}{strange}FILE 19 94\nmanifest-sha256.txt{nothing}  data/ a%0
 ";
 
 /// What `bag-info.txt` has.
-pub static INFOS: &str = r"
+pub(crate) static INFOS: &str = r"
 # The lines of bag-info.txt; the first line at fault, whatever its code.
 BAGSET 1\nFILE 12 9\nbag-info.txtTitle: {ff}\n\n{bag} => invalid B13 I1\n => bag-info.txt is not UTF-8 text (B13 I1)\n
 BAGSET 1\nFILE 12 5\nbag-info.txt{bom}{ff}\n\n{bag} => invalid B13 I1\n
@@ -184,7 +184,7 @@ BAGSET 1\nFILE 12 18\nbag-info.txtPayload-Oxum: 3.1\n\n{declared}{payload}{misli
 ";
 
 /// Forms, and texts that are none.
-pub static ENTRIES: &str = r"
+pub(crate) static ENTRIES: &str = r"
 # The opening; what begins otherwise may look like another file.
 BAGSET 2\nEND\n => unreadable S1\n => this is no transfer form: it does not begin with the line BAGSET 1 (S1)\n
 BAGSETS => unreadable S1\n

@@ -9,7 +9,7 @@ use std::time::Duration;
 
 /// What becomes of the bytes that a stream is to take.
 #[derive(Clone, Copy, Debug, PartialEq, Eq)]
-pub enum Taking {
+pub(crate) enum Taking {
     /// It takes them.
     All,
     /// It takes none of a call.
@@ -42,10 +42,10 @@ impl Taking {
 
 /// Standard error of a run.
 #[derive(Drop)]
-pub struct Told {
+pub(crate) struct Told {
     /// What it is told.
-    pub said: Vec<u8>,
-    pub taking: Taking,
+    pub(crate) said: Vec<u8>,
+    pub(crate) taking: Taking,
 }
 
 impl Write for Told {
@@ -61,15 +61,15 @@ impl Write for Told {
 /// Standard output of a run. Once it holds the line that says where the program listens, and is
 /// flushed, that line is taken out, and peers connect, each of which sends its request.
 #[derive(Drop)]
-pub struct Output<'a> {
-    pub rt: &'a HostRuntime,
+pub(crate) struct Output<'a> {
+    pub(crate) rt: &'a HostRuntime,
     /// What is printed.
-    pub said: Vec<u8>,
-    pub taking: Taking,
+    pub(crate) said: Vec<u8>,
+    pub(crate) taking: Taking,
     /// What the peers send, with `#` between them.
-    pub peers: &'a str,
+    pub(crate) peers: &'a str,
     /// Their ends of the connections.
-    pub streams: Vec<TcpStream>,
+    pub(crate) streams: Vec<TcpStream>,
 }
 
 impl Output<'_> {
@@ -93,7 +93,7 @@ impl Output<'_> {
     }
 
     /// Adds to what is printed what each peer got, and `#` after it.
-    pub fn hear(&mut self) -> io::Result<()> {
+    pub(crate) fn hear(&mut self) -> io::Result<()> {
         for stream in self.streams.iter_mut() {
             stream.read_to_end(&mut self.said)?;
             self.said.push(b'#')?;

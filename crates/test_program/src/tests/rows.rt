@@ -7,14 +7,19 @@ use std::test::Fail;
 use test_bags::bytes_of;
 
 /// The words between the bars of a text.
-pub fn words_of(alloc: Global, text: &str) -> Result<Vec<&str>, AllocError> {
+pub(crate) fn words_of(alloc: Global, text: &str) -> Result<Vec<&str>, AllocError> {
     text.split('|').collect(alloc)
 }
 
 /// Whether a run on these words prints what a row says: a line, and what is printed to standard error. A
 /// row may leave out the latter where a bag is refused, and has none where nothing is told. Without a
 /// line, the words are invalid.
-pub fn prints(rt: &HostRuntime, words: &[&str], given: &[u8], row: &str) -> Result<bool, Fail> {
+pub(crate) fn prints(
+    rt: &HostRuntime,
+    words: &[&str],
+    given: &[u8],
+    row: &str,
+) -> Result<bool, Fail> {
     let (line, reason) = row.split_once(" => ").unwrap_or((row, ""));
     let came = came_of(rt, words, &Given::new(given))?;
     let is_refused = line.starts_with("invalid ") || line.starts_with("unreadable ");

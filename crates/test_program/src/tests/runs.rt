@@ -12,19 +12,19 @@ use std::test::Fail;
 
 /// What a run is given beside its words.
 #[derive(Clone, Copy)]
-pub struct Given<'a> {
-    pub input: &'a [u8],
+pub(crate) struct Given<'a> {
+    pub(crate) input: &'a [u8],
     /// How many bytes the input gives, one a call, before it fails.
-    pub gives: u64,
+    pub(crate) gives: u64,
     /// What the peers send, with `#` between them.
-    pub peers: &'a str,
-    pub output: Taking,
-    pub error: Taking,
+    pub(crate) peers: &'a str,
+    pub(crate) output: Taking,
+    pub(crate) error: Taking,
 }
 
 impl<'a> Given<'a> {
     /// An input of these bytes, and streams of which nothing fails.
-    pub fn new(input: &'a [u8]) -> Given<'a> {
+    pub(crate) fn new(input: &'a [u8]) -> Given<'a> {
         Given {
             input,
             gives: u64::MAX,
@@ -47,12 +47,12 @@ impl<'a> Given<'a> {
 
 /// What a run comes to.
 #[derive(Drop)]
-pub struct Came {
+pub(crate) struct Came {
     /// What is printed, and what each peer got, with `#` after it.
-    pub said: Vec<u8>,
+    pub(crate) said: Vec<u8>,
     /// What is printed to standard error.
-    pub told: Vec<u8>,
-    pub ending: Ending,
+    pub(crate) told: Vec<u8>,
+    pub(crate) ending: Ending,
 }
 
 impl Came {
@@ -66,7 +66,7 @@ impl Came {
 }
 
 /// Runs the program on these words.
-pub fn came_of(rt: &HostRuntime, words: &[&str], given: &Given<'_>) -> Result<Came, Fail> {
+pub(crate) fn came_of(rt: &HostRuntime, words: &[&str], given: &Given<'_>) -> Result<Came, Fail> {
     let alloc = rt.alloc();
     let mut streams = Streams {
         input: Counted::new(given.input()),
@@ -96,7 +96,7 @@ pub fn came_of(rt: &HostRuntime, words: &[&str], given: &Given<'_>) -> Result<Ca
 /// where it comes to something else. The text of a run says its words, each with `,` after it or none
 /// after the last, its input, how it ends, what is printed and what is printed to standard error, with `|`
 /// between these. Where it ends at `..`, more may follow.
-pub fn run_with(rt: &HostRuntime, text: &str, given: &Given<'_>) -> Result<(), Fail> {
+pub(crate) fn run_with(rt: &HostRuntime, text: &str, given: &Given<'_>) -> Result<(), Fail> {
     let text = meant(rt.alloc(), text)?;
     let (words, rest) = text.split_once('|').ok_or("no words")?;
     let (input, expected) = rest.split_once('|').ok_or("no input")?;
@@ -118,12 +118,12 @@ pub fn run_with(rt: &HostRuntime, text: &str, given: &Given<'_>) -> Result<(), F
 }
 
 /// Runs the program once, where nothing fails.
-pub fn run_one(rt: &HostRuntime, text: &str) -> Result<(), Fail> {
+pub(crate) fn run_one(rt: &HostRuntime, text: &str) -> Result<(), Fail> {
     run_with(rt, text, &Given::new(b""))
 }
 
 /// Runs these one after the other.
-pub fn run_all(rt: &HostRuntime, texts: &[&str]) -> Result<(), Fail> {
+pub(crate) fn run_all(rt: &HostRuntime, texts: &[&str]) -> Result<(), Fail> {
     for text in texts {
         run_one(rt, text)?;
     }
@@ -132,7 +132,7 @@ pub fn run_all(rt: &HostRuntime, texts: &[&str]) -> Result<(), Fail> {
 
 /// Makes the folder of a test, anew where an earlier run left one, with these files: their paths and
 /// what they hold.
-pub fn begin(rt: &HostRuntime, folder: &str, files: &[(&str, &str)]) -> Result<(), Fail> {
+pub(crate) fn begin(rt: &HostRuntime, folder: &str, files: &[(&str, &str)]) -> Result<(), Fail> {
     let _ = fs::remove_dir_all(rt, folder);
     for (path, text) in files {
         if let Some((above, _)) = path.rsplit_once('/') {

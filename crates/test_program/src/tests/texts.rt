@@ -129,7 +129,7 @@ static MEANINGS: [(&str, &str); 48] = [
 ];
 
 /// The text, with the texts in the place of their names.
-pub fn meant(alloc: Global, text: &str) -> Result<String, AllocError> {
+pub(crate) fn meant(alloc: Global, text: &str) -> Result<String, AllocError> {
     let mut whole = text.to_string(alloc)?;
     for (name, meaning) in &MEANINGS {
         whole = whole.replace(alloc, *name, meaning)?;

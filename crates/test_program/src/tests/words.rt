@@ -1,7 +1,7 @@
 //! Invalid arguments.
 
 /// Runs on them.
-pub static FAULTS: [&str; 42] = [
+pub(crate) static FAULTS: [&str; 42] = [
     // No subcommand is named, or none that there is; or it is asked for help.
     "||Misused||~uses~",
     "judge||Misused||depot has no subcommand judge\n~uses~",
