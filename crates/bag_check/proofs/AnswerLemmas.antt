@@ -1,9 +1,10 @@
 -- What an answer says, where it is what judging gives.
-use Rattle.bag_check.proofs.Common.{◌≡◌, ◌⊎◌, inl, inr, List, refl, sym, ap, subst, ◌∙◌, Option, Some, None, Result, Ok, Err, IfOk, IfErr, IsErrAnd, MatchResult, File, IsBag, Version, Report, Valid, report_of, Fault, FirstFault, judge, FailsAs, Gives, named_fault, NamesFirst, report_seen}
+use Rattle.bag_check.proofs.Common.{◌≡◌, ◌⊎◌, inl, inr, List, refl, sym, ap, subst, ◌∙◌, Some, None, Result, Ok, Err, IfOk, IfErr, IsErrAnd, MatchResult, File, IsBag, Version, Report, Valid, report_of, Fault, FirstFault, judge, Gives, named_fault, NamesFirst, report_seen}
 use Rattle.bag_check.specs.declared.fault.BagFault.{BagFault}
 use Rattle.bag_check.specs.declared.fault.BagFault.TheVariants as faults
 use Rattle.bag_text.specs.declared.report.BagReport.{BagReport}
 use Rattle.bag_check.proofs.JudgeLaws.{judged_valid, judged_fault, valid_judged, fault_judged}
+use Rattle.bag_text.proofs.CaseLemmas.{by_Option}
 
 -- an answer that gives what judging gives, as a word over the result
 abbrev pub Answered : List File → Result BagReport BagFault → Type 0
@@ -31,29 +32,22 @@ pub valid_is_accepted : (bag : List File) → IsBag bag → (result : Result Bag
 valid_is_accepted bag is (Ok report) answered v valid =
     let seen : Ok (report_of v bag) ≡ Ok (report_seen report) = given bag (Ok (report_of v bag)) (valid_judged bag is v valid) (Ok report) answered in cc
 valid_is_accepted bag is (Err fault) answered v valid =
-    by_name (named_fault fault) refl (given bag (Ok (report_of v bag)) (valid_judged bag is v valid) (Err fault) answered)
-  where
-    by_name : (name : Option Fault) → named_fault fault ≡ name → FailsAs {Y = Report} name (Ok (report_of v bag)) → fault ≡ faults.Memory
-    by_name None names e = only_memory fault names
-    by_name (Some first) names e = absurd cc
+    let given = given bag (Ok (report_of v bag)) (valid_judged bag is v valid) (Err fault) answered in
+    by_Option (named_fault fault) (λ names. only_memory fault names) (λ first names. let wrong = rw names at given in absurd cc)
 
 pub first_is_refused : (bag : List File) → IsBag bag → (result : Result BagReport BagFault) → Answered bag result → (first : Fault) → FirstFault bag first
     → IsErrAnd result (λ fault. (fault ≡ faults.Memory) ⊎ (named_fault fault ≡ Some first))
 first_is_refused bag is (Ok report) answered first comes =
     let seen : Err first ≡ Ok (report_seen report) = given bag (Err first) (fault_judged bag is first comes) (Ok report) answered in absurd cc
 first_is_refused bag is (Err fault) answered first comes =
-    by_name (named_fault fault) refl (given bag (Err first) (fault_judged bag is first comes) (Err fault) answered)
-  where
-    by_name : (name : Option Fault) → named_fault fault ≡ name → FailsAs {Y = Report} name (Err first)
-        → (fault ≡ faults.Memory) ⊎ (named_fault fault ≡ Some first)
-    by_name None names e = inl (only_memory fault names)
-    by_name (Some named) names e = let same : first ≡ named = cc in inr (names ∙ ap Some (sym same))
+    let given = given bag (Err first) (fault_judged bag is first comes) (Err fault) answered in
+    by_Option (named_fault fault)
+    (λ names. inl (only_memory fault names))
+    (λ named names. let same : first ≡ named = (let k = rw names at given in cc) in inr (names ∙ ap Some (sym same)))
 
 pub refused_is_first : (bag : List File) → IsBag bag → (result : Result BagReport BagFault) → Answered bag result
     → IfErr result (λ fault. (fault ≡ faults.Memory) ⊎ NamesFirst bag fault)
 refused_is_first bag is (Ok report) e = tt
-refused_is_first bag is (Err fault) e = by_name (named_fault fault) refl e
-  where
-    by_name : (name : Option Fault) → named_fault fault ≡ name → FailsAs {Y = Report} name (judge bag) → (fault ≡ faults.Memory) ⊎ NamesFirst bag fault
-    by_name None names e = inl (only_memory fault names)
-    by_name (Some first) names e = inr (first, names, judged_fault bag is first e)
+refused_is_first bag is (Err fault) e = by_Option (named_fault fault)
+    (λ names. inl (only_memory fault names))
+    (λ first names. inr (first, names, judged_fault bag is first (rw names at e)))

@@ -1,6 +1,7 @@
 -- Files of a bag by their paths.
-use Rattle.bag_check.proofs.Common.{cases_Bool, no_value, ◌≡◌, ℕ, ◌⊎◌, inl, inr, Bool, true, false, cond, List, [], ◌∷◌, map, filter, refl, sym, ap, subst, ◌∙◌, Option, Some, None, option_map, is_some, find, bytes_eq, codes, same_Some, Decides-eqb, bytes_eq-Decides, starts_is, comes_before, File, IsBag, Ascends, content_at, Holds, HasFile, IsPayload, is_payload, has_path, before_chain, Has, contains_has, has_contains, has_map, map_has, has_filter, filter_has}
+use Rattle.bag_check.proofs.Common.{cases_Bool, no_value, ◌≡◌, ℕ, inl, inr, Bool, true, false, List, [], ◌∷◌, map, filter, refl, sym, ap, subst, ◌∙◌, Some, None, bytes_eq, codes, same_Some, Decides-eqb, bytes_eq-Decides, starts_is, comes_before, File, IsBag, Ascends, content_at, Holds, HasFile, IsPayload, is_payload, has_path, before_chain, Has, contains_has, has_contains, has_map, map_has, has_filter, filter_has}
 use Rattle.bag_check.proofs.OrderLemmas.{apart, Up, Ascending, ascending_rest, later_path}
+use Rattle.bag_text.proofs.CaseLemmas.{by_Bool, by_Option}
 
 -- ---- a bag's paths
 
@@ -57,21 +58,15 @@ one_content bag is path c d h k =
 
 -- ---- looking a path up
 
--- the content of a file that is found
-abbrev content_in : Option File → Option (List ℕ)
-content_in o = option_map (λ f. f.content) o
-
 -- what is found at a path is a file of the list
 found_has : (files : List File) (path content : List ℕ) → content_at files path ≡ Some content → Has files (at path content)
 found_has [] path content e = absurd cc
-found_has (f ∷ fs) path content e = by_test (bytes_eq f.path path) refl e (λ e. found_has fs path content e)
-  where
-    by_test : (x : Bool) → bytes_eq f.path path ≡ x → content_in (cond x (Some f) (find (λ f. bytes_eq f.path path) fs)) ≡ Some content → (content_at fs path ≡ Some content → Has fs (at path content)) → (f ≡ at path content) ⊎ Has fs (at path content)
-    by_test true t e again =
-        let same : f.path ≡ path = (bytes_eq-Decides f.path path).0 t in
-        let is : f.content ≡ content = same_Some f.content content e in
-        inl (ap (λ (p : List ℕ). at p f.content) same ∙ ap (λ (c : List ℕ). at path c) is)
-    by_test false t e again = inr (again e)
+found_has (f ∷ fs) path content e = by_Bool (bytes_eq f.path path)
+    (λ t.
+    let same : f.path ≡ path = (bytes_eq-Decides f.path path).0 t in
+    let is : f.content ≡ content = same_Some f.content content (rw t at e) in
+    inl (ap (λ (p : List ℕ). at p f.content) same ∙ ap (λ (c : List ℕ). at path c) is))
+    (λ t. inr (found_has fs path content (rw t at e)))
 
 -- where nothing is found no file has the path
 none_found : (files : List File) (path content : List ℕ) → content_at files path ≡ None → Has files (at path content) → ⊥
@@ -93,19 +88,14 @@ no_content bag path e (content, holds) = none_found bag path content e (contains
 
 -- what stands at a path is found
 pub content_there : (bag : List File) → IsBag bag → (path content : List ℕ) → Holds bag path content → content_at bag path ≡ Some content
-content_there bag is path content holds = by_found (content_at bag path) refl
-  where
-    by_found : (o : Option (List ℕ)) → content_at bag path ≡ o → content_at bag path ≡ Some content
-    by_found None e = absurd (no_content bag path e (content, holds))
-    by_found (Some other) e = e ∙ ap (λ (c : List ℕ). Some c) (one_content bag is path other content (content_found bag path other e) holds)
+content_there bag is path content holds = by_Option (content_at bag path)
+    (λ e. absurd (no_content bag path e (content, holds)))
+    (λ other e. e ∙ ap (λ (c : List ℕ). Some c) (one_content bag is path other content (content_found bag path other e) holds))
 
 -- a path that is found has a file
 pub has_path_is : (bag : List File) (path : List ℕ) → has_path bag path ≡ true → HasFile bag path
-has_path_is bag path e = by_found (content_at bag path) refl e
-  where
-    by_found : (o : Option (List ℕ)) → content_at bag path ≡ o → is_some o ≡ true → HasFile bag path
-    by_found None is e = absurd cc
-    by_found (Some content) is e = (content, content_found bag path content is)
+has_path_is bag path e =
+    by_Option (content_at bag path) (λ is. let wrong = rw is at e in absurd cc) (λ content is. (content, content_found bag path content is))
 
 -- a path that isn't found has none
 pub no_path_is : (bag : List File) (path : List ℕ) → has_path bag path ≡ false → HasFile bag path → ⊥

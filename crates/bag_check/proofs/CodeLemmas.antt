@@ -1,5 +1,5 @@
 -- Reading and judging, item after item.
-use Rattle.bag_check.proofs.FirstLemmas.{inl, inr, cases_Bool, ◌≡◌, ℕ, zero, suc, ◌+◌, ◌*◌, ◌<◌, ◌≤◌, Bool, true, false, cond, not, ◌&&◌, ◌||◌, List, [], ◌∷◌, ◌++◌, length, slice_index_or as get_or, drop, map, filter, refl, sym, ap, ◌∙◌, arith, append_assoc, Option, Some, None, Result, Ok, Err, sum_by, is_some, option_and_then, codes, decimal, cow_str_bytes, list_any, count_by, AllByRecursion, append-nil, drop_more, length-map, and_parts, nat_tests, File, Fits, max_content, Version, entry_in, is_path_listed, manifest_of, Pair, CodePair, pair_in, pairs_of, Rule, Kind, Algorithm, is_payload, payload_of, manifest_name, algorithm_named, is_oxum, oxums_of, payload_files, payload_bytes, manifest_count, Report, Fault, UnsupportedAlgorithm, ManifestText, Breaks, rule_number, number_or, manifest_in, path_in, after_space, cause_or, text_or, ◌>>=◌, FailsAs, Named, Listed, named_of, with_manifest, manifests_in, listed_or_fault, listings_of, asks_for, first_unlisted, first_in, first_breach, obeyed_by, named_by, named_or_fault, version_declared, no_fetch, some_payload, listings_in, obeys, listing_rules, obeys_contents, judge, bind_ok, fronted, again_onto, nothing_onto, nat_lt, digits, nat_cmp, sum-map, sum_by-cons, percent_encode, Manifest, is_escaped, printed_text, printed_byte, all_read}
+use Rattle.bag_check.proofs.FirstLemmas.{inl, inr, cases_Bool, ◌≡◌, ℕ, zero, suc, ◌+◌, ◌*◌, ◌<◌, ◌≤◌, Bool, true, false, cond, not, ◌&&◌, ◌||◌, List, [], ◌∷◌, ◌++◌, length, slice_index_or as get_or, drop, map, filter, refl, sym, ap, ◌∙◌, arith, append_assoc, Option, Some, None, Result, Ok, Err, sum_by, is_some, option_and_then, codes, decimal, cow_str_bytes, list_any, count_by, AllByRecursion, append-nil, drop_more, length-map, and_parts, nat_tests, File, Fits, max_content, Version, entry_in, is_path_listed, manifest_of, Pair, CodePair, pair_in, pairs_of, Rule, is_payload, payload_of, manifest_name, algorithm_named, is_oxum, oxums_of, payload_files, payload_bytes, manifest_count, Report, Fault, UnsupportedAlgorithm, ManifestText, Breaks, rule_number, number_or, manifest_in, path_in, after_space, cause_or, text_or, ◌>>=◌, FailsAs, Named, Listed, named_of, with_manifest, manifests_in, listed_or_fault, listings_of, asks_for, first_unlisted, first_in, first_breach, obeyed_by, version_declared, no_fetch, some_payload, listings_in, obeys, listing_rules, obeys_contents, judge, bind_ok, fronted, again_onto, nothing_onto, nat_lt, digits, nat_cmp, sum-map, sum_by-cons, percent_encode, Manifest, is_escaped, printed_text, printed_byte, all_read}
 use Rattle.std.specs.Cmp.Lexicographic.{slice_cmp}
 use Rattle.std.specs.BTreeMap.{is_at}
 use Rattle.std.specs.Map.{lookup}
@@ -9,6 +9,7 @@ use Rattle.std.proofs.lemmas.List.Recursion.{is_count_by}
 use Rattle.percent_encoding.specs.declared.ascii_set.AsciiSet.{AsciiSet}
 use Rattle.percent_encoding.specs.AsciiSet.{should_percent_encode}
 use Rattle.bag_text.specs.declared.listing.Listing.{Listing}
+use Rattle.bag_text.proofs.CaseLemmas.{by_Bool, by_Option}
 
 -- ---- bytes that are printed as escapes
 
@@ -21,11 +22,10 @@ all_below test (suc n) = test n && all_below test n
 at_each : (test : ℕ → Bool) (n : ℕ) → all_below test n ≡ true → (k : ℕ) → k < n → test k ≡ true
 unfolding all_below
 at_each test zero h k lt = absurd (omega arith)
-at_each test (suc n) h k lt = by_place (nat_lt k n) refl (at_each test n (and_parts (test n) (all_below test n) h).1 k)
-  where
-    by_place : (b : Bool) → nat_lt k n ≡ b → (k < n → test k ≡ true) → test k ≡ true
-    by_place true e again = again (grind (arith, nat_tests))
-    by_place false e again = let is : n ≡ k = grind (arith, nat_tests) in ap test (sym is) ∙ (and_parts (test n) (all_below test n) h).0
+at_each test (suc n) h k lt =
+    let parts = and_parts (test n) (all_below test n) h in by_Bool (nat_lt k n)
+    (λ e. at_each test n parts.1 k (grind (arith, nat_tests)))
+    (λ e. let is : n ≡ k = grind (arith, nat_tests) in ap test (sym is) ∙ parts.0)
 
 -- whether two truths are one
 same : Bool → Bool → Bool
@@ -56,11 +56,9 @@ above b h = grind (arith, nat_tests)
 
 -- the set has just the bytes that are escaped
 pub escapes : (b : ℕ) → should_percent_encode escaped_set b ≡ is_escaped b
-escapes b = by_place (nat_lt b 128) refl
-  where
-    by_place : (x : Bool) → nat_lt b 128 ≡ x → should_percent_encode escaped_set b ≡ is_escaped b
-    by_place true e = same_is (should_percent_encode escaped_set b) (is_escaped b) (at_each (λ k. same (should_percent_encode escaped_set k) (is_escaped k)) 128 below b (grind (arith, nat_tests)))
-    by_place false e = above b (grind (arith, nat_tests))
+escapes b = by_Bool (nat_lt b 128)
+    (λ e. same_is (should_percent_encode escaped_set b) (is_escaped b) (at_each (λ k. same (should_percent_encode escaped_set k) (is_escaped k)) 128 below b (grind (arith, nat_tests))))
+    (λ e. above b (grind (arith, nat_tests)))
 
 -- what such a set encodes is what is printed
 pub encodes : (set : AsciiSet) → ((b : ℕ) → should_percent_encode set b ≡ is_escaped b) → (bs : List ℕ) → percent_encode set bs ≡ printed_text bs
@@ -257,14 +255,9 @@ few_payload (f ∷ fs) =
 -- each of them has at most the most bytes
 small_all : (fs : List File) → AllByRecursion Fits fs → sum_by size (payload_of fs) ≤ max_content * length fs
 small_all [] each = omega arith
-small_all (f ∷ fs) each = by_test (is_payload f.path) (small_all fs each.1)
-  where
-    small : length f.content ≤ max_content
-    small = each.0.small
-
-    by_test : (b : Bool) → sum_by size (payload_of fs) ≤ max_content * length fs → sum_by size (cond b (f ∷ payload_of fs) (payload_of fs)) ≤ max_content * suc (length fs)
-    by_test true h = rw (sum_by-cons size f (payload_of fs)) (omega arith)
-    by_test false h = omega arith
+small_all (f ∷ fs) each =
+    let small = each.0.small in let rest = small_all fs each.1 in
+    by_Bool (is_payload f.path) (λ is. rw (is, sum_by-cons size f (payload_of fs)) (omega arith)) (λ is. rw is (omega arith))
 
 -- the bytes of a payload are bounded
 pub small_payload : (fs : List File) → AllByRecursion Fits fs → payload_bytes fs ≤ max_content * length fs
@@ -274,26 +267,16 @@ small_payload fs each = rw (bytes_by fs) (small_all fs each)
 pub manifests_counted : (bag : List File) (ms : List Named) → manifests_in bag ≡ Ok ms → length ms ≡ manifest_count bag
 unfolding manifests_in
 manifests_counted [] ms e = let is : ms ≡ [] = cc in ap length is
-manifests_counted (f ∷ fs) ms e = by_name (manifest_name f.path) refl (λ rest h. manifests_counted fs rest h) e
-  where
-    by_rest : (o : Option Named) (r : Result (List Named) Fault) → (r >>= λ ns. Ok (with_manifest o ns)) ≡ Ok ms → ((rest : List Named) → r ≡ Ok rest → length rest ≡ manifest_count fs) → (rest : List Named) × (ms ≡ with_manifest o rest) × (length rest ≡ manifest_count fs)
-    by_rest o (Ok rest) e again = (rest, (let is : with_manifest o rest ≡ ms = cc in sym is), again rest refl)
-    by_rest o (Err x) e again = absurd cc
-
-    by_algorithm : (kind : Kind) (a : Option Algorithm) → manifest_count (f ∷ fs) ≡ suc (manifest_count fs) → ((rest : List Named) → manifests_in fs ≡ Ok rest → length rest ≡ manifest_count fs) → (named_by f kind a >>= λ found. manifests_in fs >>= λ ns. Ok (with_manifest found ns)) ≡ Ok ms → length ms ≡ manifest_count (f ∷ fs)
-    by_algorithm kind None counts again e = absurd cc
-    by_algorithm kind (Some a) counts again e =
-        let p = by_rest (Some (record { name = f.path; kind = kind; algorithm = a; text = f.content })) (manifests_in fs) e again in
-        ap length p.1 ∙ ap suc p.2 ∙ sym counts
-
-    by_name : (o : Option (Kind × List ℕ)) → manifest_name f.path ≡ o → ((rest : List Named) → manifests_in fs ≡ Ok rest → length rest ≡ manifest_count fs) → (named_or_fault f o >>= λ found. manifests_in fs >>= λ ns. Ok (with_manifest found ns)) ≡ Ok ms → length ms ≡ manifest_count (f ∷ fs)
-    by_name None is again e =
-        let p = by_rest None (manifests_in fs) e again in
-        let counts : manifest_count (f ∷ fs) ≡ manifest_count fs = rw is refl in
-        ap length p.1 ∙ p.2 ∙ sym counts
-    by_name (Some found) is again e =
-        let counts : manifest_count (f ∷ fs) ≡ suc (manifest_count fs) = rw is refl in
-        by_algorithm found.0 (algorithm_named found.1) counts again e
+manifests_counted (f ∷ fs) ms e =
+    let one = bind_ok (named_of f) (λ found. manifests_in fs >>= λ ns. Ok (with_manifest found ns)) ms e in
+    let two = bind_ok (manifests_in fs) (λ ns. Ok (with_manifest one.0 ns)) ms one.2 in
+    let is : ms ≡ with_manifest one.0 two.0 = (let k = two.2 in cc) in
+    let rest = manifests_counted fs two.0 two.1 in
+    by_Option (manifest_name f.path)
+    (λ name. let none : one.0 ≡ None = (let k = rw name at one.1 in cc) in rw (is, none, name) rest)
+    (λ name found. by_Option (algorithm_named name.1)
+    (λ a. let wrong = rw (found, a) at one.1 in absurd cc)
+    (λ a algorithm. let some : one.0 ≡ Some (record { name = f.path; kind = name.0; algorithm = a; text = f.content }) = (let k = rw (found, algorithm) at one.1 in cc) in rw (is, some, found) (ap suc rest)))
 
 -- and as many are read
 listings_counted : (bag : List File) (v : Version) (ls : List Listed) → listings_in v bag ≡ Ok ls → length ls ≡ manifest_count bag

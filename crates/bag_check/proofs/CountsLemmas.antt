@@ -1,5 +1,6 @@
 -- Reading the value of a `Payload-Oxum` gives the counts that it names.
-use Rattle.bag_check.proofs.FirstLemmas.{eqb-true, some_if, ◌≡◌, one-add, ℕ, ◌+◌, ◌≤◌, Bool, true, false, cond, not, eqb, ◌&&◌, List, [], ◌∷◌, ◌++◌, length, take, drop, refl, sym, ap, subst, ◌∙◌, arith, append_assoc, Option, Some, None, nat_le, list_all, is_ascii_digit, and_parts, and_from, nat_tests, take-append-drop, same_Some, number_from, IsNumber, NamesCounts, digit_len, digits_in, behind_digits, number_spelled, behind_stop, number_at_end, oxum_with_files, with_rest, with_bytes, counts_of, prefix_len-le-length, is_blank, AreBlanks, Stops, same_run, blanks_stop}
+use Rattle.bag_check.proofs.FirstLemmas.{eqb-true, some_if, ◌≡◌, one-add, ℕ, ◌≤◌, Bool, true, cond, not, eqb, ◌&&◌, List, [], ◌∷◌, ◌++◌, length, refl, sym, ap, ◌∙◌, arith, append_assoc, Option, Some, None, nat_le, list_all, is_ascii_digit, and_parts, and_from, nat_tests, take-append-drop, same_Some, number_from, IsNumber, NamesCounts, digit_len, digits_in, behind_digits, number_spelled, behind_stop, number_at_end, oxum_with_files, with_rest, with_bytes, counts_of, prefix_len-le-length, is_blank, AreBlanks, Stops, same_run, blanks_stop}
+use Rattle.bag_text.proofs.CaseLemmas.{by_Bool, by_Option}
 
 -- ---- the digits at the front
 
@@ -10,20 +11,14 @@ digits_fit t = prefix_len-le-length (λ b. not (not (is_ascii_digit b))) t
 -- they are digits
 pub digits_all : (t : List ℕ) → list_all is_ascii_digit (digits_in t) ≡ true
 digits_all [] = refl
-digits_all (b ∷ t) = by_first (is_ascii_digit b) refl (digit_len t) (digits_all t)
-  where
-    by_first : (x : Bool) → is_ascii_digit b ≡ x → (n : ℕ) → list_all is_ascii_digit (take n t) ≡ true → list_all is_ascii_digit (take (cond (not (not x)) (1 + n) 0) (b ∷ t)) ≡ true
-    by_first true is n again = ap (λ (k : ℕ). list_all is_ascii_digit (take k (b ∷ t))) (one-add n) ∙ and_from (is_ascii_digit b) (list_all is_ascii_digit (take n t)) is again
-    by_first false is n again = refl
+digits_all (b ∷ t) = by_Bool (is_ascii_digit b)
+    (λ is. rw (is, one-add) (and_from (is_ascii_digit b) (list_all is_ascii_digit (digits_in t)) is (digits_all t)))
+    (λ is. rw is refl)
 
 -- no digit follows them
 digits_stop : (t : List ℕ) → Stops is_ascii_digit (behind_digits t)
 digits_stop [] = tt
-digits_stop (b ∷ t) = by_first (is_ascii_digit b) refl (digit_len t) (digits_stop t)
-  where
-    by_first : (x : Bool) → is_ascii_digit b ≡ x → (n : ℕ) → Stops is_ascii_digit (drop n t) → Stops is_ascii_digit (drop (cond (not (not x)) (1 + n) 0) (b ∷ t))
-    by_first true is n again = subst (λ (k : ℕ). Stops is_ascii_digit (drop k (b ∷ t))) (sym (one-add n)) again
-    by_first false is n again = is
+digits_stop (b ∷ t) = by_Bool (is_ascii_digit b) (λ is. rw (is, one-add) (digits_stop t)) (λ is. rw is is)
 
 -- a text is its digits and what follows them
 cut : (t : List ℕ) → digits_in t ++ behind_digits t ≡ t
@@ -77,26 +72,20 @@ with_files_is bytes b f (Some files) e =
 
 -- a value of which counts are read names them
 pub counts_is : (value : List ℕ) (b f : ℕ) → counts_of value ≡ Some (b, f) → NamesCounts value b f
-counts_is value b f e = by_bytes (number_spelled (digits_in value)) refl e
-  where
-    by_rest : (bytes : ℕ) → number_spelled (digits_in value) ≡ Some bytes → (o : Option (List ℕ)) → behind_stop (behind_digits value) ≡ o → with_rest bytes o ≡ Some (b, f) → NamesCounts value b f
-    by_rest bytes first None stop e = absurd cc
-    by_rest bytes first (Some rest) stop e =
-        let both = with_files_is bytes b f (number_at_end rest) e in
-        let last = last_is rest f both.1 in
-        let behind : behind_digits value ≡ 46 ∷ (digits_in rest ++ behind_digits rest) = stop_is (behind_digits value) rest stop ∙ ap (λ (r : List ℕ). 46 ∷ r) (sym (cut rest)) in (
-          digits_in value,
-          digits_in rest,
-          behind_digits rest,
-          sym (cut value) ∙ ap (λ (r : List ℕ). digits_in value ++ r) behind ∙ sym (append_assoc (digits_in value) (46 ∷ digits_in rest) (behind_digits rest)),
-          last.0,
-          number_is (digits_in value) b (digits_all value) (first ∙ ap (λ (k : ℕ). Some k) both.0),
-          number_is (digits_in rest) f (digits_all rest) last.1,
-        )
-
-    by_bytes : (o : Option ℕ) → number_spelled (digits_in value) ≡ o → with_bytes o (behind_stop (behind_digits value)) ≡ Some (b, f) → NamesCounts value b f
-    by_bytes None first e = absurd cc
-    by_bytes (Some bytes) first e = by_rest bytes first (behind_stop (behind_digits value)) refl e
+counts_is value b f e = by_Option (number_spelled (digits_in value)) (λ none. let wrong = rw none at e in absurd cc) (λ bytes first. by_Option (behind_stop (behind_digits value))
+    (λ none. let wrong = rw (first, none) at e in absurd cc)
+    (λ rest stop.
+    let both = with_files_is bytes b f (number_at_end rest) (rw (first, stop) at e) in
+    let last = last_is rest f both.1 in
+    let behind : behind_digits value ≡ 46 ∷ (digits_in rest ++ behind_digits rest) = stop_is (behind_digits value) rest stop ∙ ap (λ (r : List ℕ). 46 ∷ r) (sym (cut rest)) in (
+      digits_in value,
+      digits_in rest,
+      behind_digits rest,
+      sym (cut value) ∙ ap (λ (r : List ℕ). digits_in value ++ r) behind ∙ sym (append_assoc (digits_in value) (46 ∷ digits_in rest) (behind_digits rest)),
+      last.0,
+      number_is (digits_in value) b (digits_all value) (first ∙ ap (λ (k : ℕ). Some k) both.0),
+      number_is (digits_in rest) f (digits_all rest) last.1,
+    )))
 
 -- the counts that a value names are read of it
 pub counts_again : (value : List ℕ) (b f : ℕ) → NamesCounts value b f → counts_of value ≡ Some (b, f)

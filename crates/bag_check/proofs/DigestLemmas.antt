@@ -1,6 +1,7 @@
 -- Where no checksum is wrong, each SHA-256 that a manifest lists of a file is that of its content.
-use Rattle.bag_check.proofs.FirstLemmas.{inl, inr, cases_Bool, not-false, ◌≡◌, ℕ, zero, suc, ◌<◌, Bool, false, not, List, [], ◌∷◌, map, length, slice_index_or, Bor, refl, sym, ap, subst, ◌∙◌, arith, Option, Some, None, Result, Ok, Contains, option_map, find, bytes_eq-Decides, ◌>>=◌, File, IsBag, content_at, files_of, Entries, Entry, HasEntry, entries_in, entry_in, is_owned, Has, contains_has, has_contains, has_map, bind_ok, Rule, ChecksumWrong, Fault, Listed, breaks_at, first_in, first_breach, is_wrong, obeys, obeys_contents, obeys_info, obeyed_by, or_breach, bytes_eq, sha256, Manifest, AreRightOf, ListsSha256, digests_of, content_there}
+use Rattle.bag_check.proofs.FirstLemmas.{inl, inr, cases_Bool, not-false, ◌≡◌, ℕ, zero, suc, ◌<◌, Bool, false, not, List, [], ◌∷◌, map, length, slice_index_or, Bor, refl, sym, ap, subst, ◌∙◌, arith, Option, Some, None, Result, Ok, Contains, option_map, find, bytes_eq-Decides, ◌>>=◌, File, IsBag, content_at, files_of, Entries, Entry, HasEntry, entries_in, entry_in, is_owned, Has, contains_has, has_contains, has_map, bind_ok, Rule, ChecksumWrong, Fault, Listed, breaks_at, first_in, first_breach, is_wrong, obeys, obeys_contents, obeys_info, obeyed_by, bytes_eq, sha256, Manifest, AreRightOf, ListsSha256, digests_of, content_there}
 use Rattle.bag_text.specs.declared.checksum.Checksum.TheVariants.{Sha256}
+use Rattle.bag_text.proofs.CaseLemmas.{by_Option}
 
 -- ---- no checksum is wrong where the contents are kept
 
@@ -19,12 +20,9 @@ fixity_kept bag ls done e =
 in_each : (bag : List File) (rule : Rule) (ls : List Listed) → first_breach bag rule ls ≡ None → (l : Listed) → Has ls l → first_in bag rule l ≡ None
 unfolding first_breach
 in_each bag rule [] none l h = absurd h
-in_each bag rule (k ∷ ls) none l h = by_first (first_in bag rule k) refl none h (λ none more. in_each bag rule ls none l more)
-  where
-    by_first : (o : Option (List ℕ)) → first_in bag rule k ≡ o → or_breach k.name o (first_breach bag rule ls) ≡ None → Has (k ∷ ls) l → (first_breach bag rule ls ≡ None → Has ls l → first_in bag rule l ≡ None) → first_in bag rule l ≡ None
-    by_first None is none (inl same) again = ap (first_in bag rule) (sym same) ∙ is
-    by_first None is none (inr more) again = again none more
-    by_first (Some path) is none h again = absurd cc
+in_each bag rule (k ∷ ls) none l h = by_Option (first_in bag rule k)
+    (λ is. elim h [ inl same ↦ ap (first_in bag rule) (sym same) ∙ is | inr more ↦ in_each bag rule ls (rw is at none) l more ])
+    (λ path is. let wrong = rw is at none in absurd cc)
 
 fails_each : (test : List ℕ × Entry → Bool) (es : Entries) → option_map (λ (e : List ℕ × Entry). e.0) (find test es) ≡ None → (x : List ℕ × Entry) → Has es x → test x ≡ false
 fails_each test [] none x h = absurd h

@@ -1,5 +1,5 @@
 -- Faults by their numbers, and that of a bag only one comes first.
-use Rattle.bag_check.proofs.Common.{◌≡◌, ℕ, ◌+◌, ◌<◌, ◌≤◌, ◌⊎◌, inl, inr, Bool, true, false, List, [], ◌∷◌, refl, sym, ap, subst, ◌∙◌, arith, eqb as nat_eq, list_any, false≢true, cases_order, same_Some, File, IsBag, Version, Algorithm, LineFault, InfoFault, declaration_of, manifest_of, info_of, info_fault, Kind, Rule, declaration_path, info_path, DeclaresVersion, HasManifest, word_of, Fault, NoDeclaration, Declaration, FetchNotSupported, UnsupportedAlgorithm, NoPayloadManifest, ManifestText, Breaks, InfoText, OxumForm, OxumTwice, OxumWrong, Stands, rule_number, fault_number, fault_name, fault_path, BreachBefore, ComesFirst, FirstFault, same_ok, same_err, declared_again, fault_is_refused, DeclFault}
+use Rattle.bag_check.proofs.Common.{◌≡◌, ℕ, ◌+◌, ◌<◌, ◌≤◌, inl, inr, Bool, true, false, List, [], ◌∷◌, refl, sym, ap, subst, ◌∙◌, arith, eqb as nat_eq, list_any, false≢true, cases_order, same_Some, File, IsBag, Version, Algorithm, LineFault, InfoFault, declaration_of, manifest_of, info_of, info_fault, Kind, Rule, declaration_path, info_path, DeclaresVersion, HasManifest, word_of, Fault, NoDeclaration, Declaration, FetchNotSupported, UnsupportedAlgorithm, NoPayloadManifest, ManifestText, Breaks, InfoText, OxumForm, OxumTwice, OxumWrong, Stands, rule_number, fault_number, fault_name, fault_path, BreachBefore, ComesFirst, FirstFault, same_ok, same_err, declared_again, fault_is_refused, DeclFault}
 use Rattle.bag_text.specs.Declaration.{declaration_fault}
 use Rattle.bag_check.specs.declared.rule.Rule.TheVariants as rules_of
 use Rattle.bag_check.proofs.OrderLemmas.{apart, one_first}
@@ -147,12 +147,10 @@ none_below_1 bag g lt s = absurd (omega (arith, (number_range g).0))
 
 -- where none stands below a number and none at it, none stands below the next
 pub none_more : (bag : List File) (n m : ℕ) → m ≡ n + 1 → NoneBelow bag n → NoneAt bag n → NoneBelow bag m
-none_more bag n m is below here g lt s = by_order (cases_order (fault_number g) n)
-  where
-    by_order : (fault_number g ≡ n) ⊎ ((fault_number g < n) ⊎ (n < fault_number g)) → ⊥
-    by_order (inl same) = here g same s
-    by_order (inr (inl less)) = below g less s
-    by_order (inr (inr more)) = absurd (omega (arith, more, lt, is))
+none_more bag n m is below here g lt s = elim (cases_order (fault_number g) n) [
+  | inl same ↦ here g same s
+  | inr other ↦ elim other [ inl less ↦ below g less s | inr more ↦ absurd (omega (arith, more, lt, is)) ]
+]
 
 -- the first of its number, where none of a lower one stands, is the one that is named
 pub named_first : (bag : List File) (f : Fault) → NoneBelow bag (fault_number f) → IsLeast bag f → FirstFault bag f
@@ -178,14 +176,12 @@ one_manifest bag is k l a b name t u (n, holds) (m, holds_too) =
 
 -- two faults of which neither comes first have one number, name and path
 neither_first : (f g : Fault) → (ComesFirst f g → ⊥) → (ComesFirst g f → ⊥) → (fault_number f ≡ fault_number g) × (fault_name f ≡ fault_name g) × (fault_path f ≡ fault_path g)
-neither_first f g not_f not_g = by_order (cases_order (fault_number f) (fault_number g))
-  where
-    by_order : (fault_number f ≡ fault_number g) ⊎ ((fault_number f < fault_number g) ⊎ (fault_number g < fault_number f)) → (fault_number f ≡ fault_number g) × (fault_name f ≡ fault_name g) × (fault_path f ≡ fault_path g)
-    by_order (inl same) =
-        let name : fault_name f ≡ fault_name g = one_first (fault_name f) (fault_name g) (λ h. not_f (inr (same, inl h))) (λ h. not_g (inr (sym same, inl h))) in
-        (same, name, one_first (fault_path f) (fault_path g) (λ h. not_f (inr (same, inr (name, h)))) (λ h. not_g (inr (sym same, inr (sym name, h)))))
-    by_order (inr (inl less)) = absurd (not_f (inl less))
-    by_order (inr (inr more)) = absurd (not_g (inl more))
+neither_first f g not_f not_g = elim (cases_order (fault_number f) (fault_number g)) [
+  | inl same ↦
+      let name : fault_name f ≡ fault_name g = one_first (fault_name f) (fault_name g) (λ h. not_f (inr (same, inl h))) (λ h. not_g (inr (sym same, inl h))) in
+      (same, name, one_first (fault_path f) (fault_path g) (λ h. not_f (inr (same, inr (name, h)))) (λ h. not_g (inr (sym same, inr (sym name, h)))))
+  | inr other ↦ elim other [ inl less ↦ absurd (not_f (inl less)) | inr more ↦ absurd (not_g (inl more)) ]
+]
 
 -- two declarations' faults of one bag are the same
 same_declaration : (bag : List File) → IsBag bag → (d e : DeclFault) → Stands bag (Declaration d) → Stands bag (Declaration e) → d ≡ e

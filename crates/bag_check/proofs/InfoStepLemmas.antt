@@ -1,6 +1,7 @@
 -- The step of judging that reads `bag-info.txt`: it names the first fault of that file, or none stands.
-use Rattle.bag_check.proofs.FirstLemmas.{inl, inr, not, eqb, true, or_cases, eqb-false, eqb-true, not-true, ne_eqb, or_right, true_from_ne_false, ◌≡◌, ℕ, ◌<◌, ◌≤◌, ◌⊎◌, Bool, false, cond, List, length, refl, sym, ap, subst, ◌∙◌, arith, Option, Some, None, Result, Ok, Err, is_some, nat_lt, Contains, ◌≢◌, list_any, false≢true, ltb-true, ltb-false, File, IsBag, content_at, Pair, SaysInfo, info_of, InfoFault, Version, info_said, info_fault, Holds, HasFile, info_path, DeclaresVersion, NamesCounts, oxums_of, payload_bytes, payload_files, InfoIsRight, Fault, InfoText, OxumForm, OxumTwice, OxumWrong, HasOxum, Stands, FirstFault, counts_of, ◌>>=◌, are_others, oxums_obeyed, or_info, info_obeyed, obeys_info, same_err, never_both, Has, contains_has, has_contains, any_has, none_has, one_content, content_found, no_content, at_13, at_14, at_15, at_16, Earlier, none_earlier, NoneBelow, none_more, named_first, one_info}
+use Rattle.bag_check.proofs.FirstLemmas.{inl, inr, not, eqb, true, or_cases, eqb-false, eqb-true, not-true, ne_eqb, or_right, true_from_ne_false, ◌≡◌, ℕ, ◌<◌, ◌≤◌, ◌⊎◌, Bool, false, cond, List, length, refl, sym, ap, subst, ◌∙◌, arith, Option, Some, Result, Ok, Err, is_some, nat_lt, Contains, ◌≢◌, list_any, false≢true, ltb-true, ltb-false, File, IsBag, content_at, Pair, SaysInfo, info_of, InfoFault, Version, info_said, info_fault, Holds, HasFile, info_path, DeclaresVersion, NamesCounts, oxums_of, payload_bytes, payload_files, InfoIsRight, Fault, InfoText, OxumForm, OxumTwice, OxumWrong, HasOxum, Stands, FirstFault, counts_of, are_others, oxums_obeyed, obeys_info, same_err, never_both, Has, contains_has, has_contains, any_has, none_has, one_content, content_found, no_content, at_13, at_14, at_15, at_16, Earlier, none_earlier, NoneBelow, none_more, named_first, one_info}
 use Rattle.bag_check.proofs.CountsLemmas.{counts_is, counts_again}
+use Rattle.bag_text.proofs.CaseLemmas.{by_Option, by_Result}
 
 -- ---- a bag-info.txt that is read
 
@@ -47,11 +48,8 @@ has_form value bytes files names e = false≢true (sym (ap (λ (o : Option (ℕ 
 
 -- a value that names none hasn't
 no_form : (value : List ℕ) → ((bytes files : ℕ) → NamesCounts value bytes files → ⊥) → is_formless value ≡ true
-no_form value none = by_counts (counts_of value) refl
-  where
-    by_counts : (o : Option (ℕ × ℕ)) → counts_of value ≡ o → not (is_some o) ≡ true
-    by_counts None e = refl
-    by_counts (Some (bytes, files)) e = absurd (none bytes files (counts_is value bytes files e))
+no_form value none =
+    by_Option (counts_of value) (λ e. rw e refl) (λ counts e. absurd (none counts.0 counts.1 (counts_is value counts.0 counts.1 e)))
 
 -- other counts than the payload's
 abbrev Differ : List File → ℕ → ℕ → Type 0
@@ -134,15 +132,11 @@ says_pairs bag text pairs is read = record { text = text; holds = content_found 
 
 -- where judging finds no fault of bag-info.txt none stands
 info_free : (bag : List File) → IsBag bag → (done : Unit {0}) → obeys_info bag ≡ Ok done → IsFree bag
-info_free bag is done e = by_content (content_at bag info_path) refl e
-  where
-    by_pairs : (text : List ℕ) → content_at bag info_path ≡ Some text → (r : Result (List Pair) InfoFault) → info_of text ≡ r → (or_info r >>= λ pairs. oxums_obeyed bag (oxums_of pairs)) ≡ Ok done → IsFree bag
-    by_pairs text found (Ok pairs) read e = values_free bag is pairs (says_pairs bag text pairs found read) done e
-    by_pairs text found (Err i) read e = absurd cc
-
-    by_content : (o : Option (List ℕ)) → content_at bag info_path ≡ o → info_obeyed bag o ≡ Ok done → IsFree bag
-    by_content None found e = free_without bag (no_content bag info_path found)
-    by_content (Some text) found e = by_pairs text found (info_of text) refl e
+info_free bag is done e = by_Option (content_at bag info_path)
+    (λ found. free_without bag (no_content bag info_path found))
+    (λ text found. by_Result (info_of text)
+    (λ pairs read. values_free bag is pairs (says_pairs bag text pairs found read) done (rw (found, read) at e))
+    (λ i read. let wrong = rw (found, read) at e in absurd cc))
 
 -- ---- the first fault of bag-info.txt
 
@@ -189,11 +183,10 @@ twice_stands bag v declares pairs read e = (v, declares, (read.text, pairs, read
 wrong_stands : (bag : List File) (v : Version) → DeclaresVersion bag v → (pairs : List Pair) → SaysPairs bag pairs → list_any (is_other bag) (oxums_of pairs) ≡ true → Stands bag OxumWrong
 wrong_stands bag v declares pairs read e =
     let found = any_has (is_other bag) (oxums_of pairs) e in
-    by_counts found.0 found.1 (counts_of found.0) refl found.2
-  where
-    by_counts : (value : List ℕ) → Has (oxums_of pairs) value → (o : Option (ℕ × ℕ)) → counts_of value ≡ o → are_others bag o ≡ true → Stands bag OxumWrong
-    by_counts value h None is e = absurd (false≢true e)
-    by_counts value h (Some (bytes, files)) is e = (v, declares, (value, bytes, files, an_oxum bag pairs read value h, counts_is value bytes files is, differ_is bag bytes files e))
+    let value = found.0 in
+    by_Option (counts_of value)
+    (λ is. let wrong = rw is at found.2 in absurd cc)
+    (λ counts is. (v, declares, (value, counts.0, counts.1, an_oxum bag pairs read value found.1, counts_is value counts.0 counts.1 is, differ_is bag counts.0 counts.1 (rw is at found.2))))
 
 -- the fault of the values that is named comes first
 values_err : (bag : List File) → IsBag bag → (v : Version) → DeclaresVersion bag v → (pairs : List Pair) → SaysPairs bag pairs → NoneBelow bag 14 → (f : Fault) → oxums_obeyed bag (oxums_of pairs) ≡ Err f → FirstFault bag f
@@ -211,40 +204,31 @@ values_err bag is v declares pairs read below f e = by_tests (list_any is_formle
 
 -- the fault of bag-info.txt that judging names comes first
 pub info_err : (bag : List File) → IsBag bag → (v : Version) → DeclaresVersion bag v → NoneBelow bag 13 → (f : Fault) → obeys_info bag ≡ Err f → FirstFault bag f
-info_err bag is v declares below f e = by_content (content_at bag info_path) refl e
-  where
-    by_pairs : (text : List ℕ) → content_at bag info_path ≡ Some text → (r : Result (List Pair) InfoFault) → info_of text ≡ r → (or_info r >>= λ pairs. oxums_obeyed bag (oxums_of pairs)) ≡ Err f → FirstFault bag f
-    by_pairs text found (Ok pairs) read e =
-        let says = says_pairs bag text pairs found read in
-        values_err bag is v declares pairs says (below_14 bag below (not_refused bag is pairs says)) f e
-    by_pairs text found (Err i) read e =
-        subst (FirstFault bag) (same_err {A = Unit {0}} (InfoText i) f (Err (InfoText i)) refl e)
-        (text_first bag below i (v, declares, (text, content_found bag info_path text found, (info_fault text i).0 read)))
-
-    by_content : (o : Option (List ℕ)) → content_at bag info_path ≡ o → info_obeyed bag o ≡ Err f → FirstFault bag f
-    by_content None found e = absurd cc
-    by_content (Some text) found e = by_pairs text found (info_of text) refl e
+info_err bag is v declares below f e = by_Option (content_at bag info_path)
+    (λ none. let wrong = rw none at e in absurd cc)
+    (λ text found. by_Result (info_of text)
+    (λ pairs read.
+    let says = says_pairs bag text pairs found read in
+    values_err bag is v declares pairs says (below_14 bag below (not_refused bag is pairs says)) f (rw (found, read) at e))
+    (λ i read.
+    subst (FirstFault bag) (same_err {A = Unit {0}} (InfoText i) f (Err (InfoText i)) refl (rw (found, read) at e))
+    (text_first bag below i (v, declares, (text, content_found bag info_path text found, (info_fault text i).0 read)))))
 
 -- ---- a bag in which no fault stands has a right bag-info.txt
 
 -- its bag-info.txt is right
 pub info_right : (bag : List File) (v : Version) → DeclaresVersion bag v → ((f : Fault) → Stands bag f → ⊥) → (text : List ℕ) → Holds bag info_path text → InfoIsRight bag text
-info_right bag v declares none text holds = by_reading (info_of text) refl
+info_right bag v declares none text holds = by_Result (info_of text)
+    (λ pairs e.
+    let says = (info_said text pairs).0 e in
+    let few = false_from_ne_true (nat_lt 1 (length (oxums_of pairs))) (λ more. none OxumTwice (v, declares, (text, pairs, holds, says, ltb-true 1 (length (oxums_of pairs)) more))) in
+    (pairs, says, ltb-false 1 (length (oxums_of pairs)) few, λ value has. named pairs says value has))
+    (λ i e. absurd (none (InfoText i) (v, declares, (text, holds, (info_fault text i).0 e))))
   where
-    by_length : (pairs : List Pair) → SaysInfo text pairs → (x : Bool) → nat_lt 1 (length (oxums_of pairs)) ≡ x → length (oxums_of pairs) ≤ 1
-    by_length pairs says true e = absurd (none OxumTwice (v, declares, (text, pairs, holds, says, ltb-true 1 (length (oxums_of pairs)) e)))
-    by_length pairs says false e = ltb-false 1 (length (oxums_of pairs)) e
-
-    by_counts : (pairs : List Pair) → SaysInfo text pairs → (value : List ℕ) → Contains (oxums_of pairs) value → (o : Option (ℕ × ℕ)) → counts_of value ≡ o → NamesCounts value (payload_bytes bag) (payload_files bag)
-    by_counts pairs says value has None e =
-        absurd (none OxumForm (v, declares, (value, (text, pairs, holds, says, has), λ bytes files names. has_form value bytes files names (ap (λ (o : Option (ℕ × ℕ)). not (is_some o)) e))))
-    by_counts pairs says value has (Some (bytes, files)) e =
-        let names = counts_is value bytes files e in
-        let same = same_counts bag bytes files (λ differ. none OxumWrong (v, declares, (value, bytes, files, (text, pairs, holds, says, has), names, differ))) in
-        subst (λ (b : ℕ). NamesCounts value b (payload_files bag)) same.0 (subst (λ (f : ℕ). NamesCounts value bytes f) same.1 names)
-
-    by_reading : (r : Result (List Pair) InfoFault) → info_of text ≡ r → InfoIsRight bag text
-    by_reading (Ok pairs) e =
-        let says = (info_said text pairs).0 e in
-        (pairs, says, by_length pairs says (nat_lt 1 (length (oxums_of pairs))) refl, λ value has. by_counts pairs says value has (counts_of value) refl)
-    by_reading (Err i) e = absurd (none (InfoText i) (v, declares, (text, holds, (info_fault text i).0 e)))
+    named : (pairs : List Pair) → SaysInfo text pairs → (value : List ℕ) → Contains (oxums_of pairs) value → NamesCounts value (payload_bytes bag) (payload_files bag)
+    named pairs says value has = by_Option (counts_of value)
+        (λ e. absurd (none OxumForm (v, declares, (value, (text, pairs, holds, says, has), λ bytes files names. has_form value bytes files names (ap (λ (o : Option (ℕ × ℕ)). not (is_some o)) e)))))
+        (λ counts e.
+        let names = counts_is value counts.0 counts.1 e in
+        let same = same_counts bag counts.0 counts.1 (λ differ. none OxumWrong (v, declares, (value, counts.0, counts.1, (text, pairs, holds, says, has), names, differ))) in
+        subst (λ (b : ℕ). NamesCounts value b (payload_files bag)) same.0 (subst (λ (f : ℕ). NamesCounts value counts.0 f) same.1 names))

@@ -5,6 +5,7 @@ use Rattle.bag_check.proofs.RuleLemmas.{AreListed, listed, lists_found, found_li
 use Rattle.bag_check.proofs.StepLemmas.{version_ok, version_err, below_3, fetch_ok, fetch_err, below_4, names_err, below_5, payload_err, below_6, are_listed, texts_err, below_7, Follow, rules_ok, rules_err}
 use Rattle.bag_check.proofs.InfoStepLemmas.{info_ok, info_err, info_right}
 use Rattle.bag_check.proofs.ValidLemmas.{none_stands}
+use Rattle.bag_text.proofs.CaseLemmas.{by_Bool, by_Result}
 
 -- what judging knows once the manifests are read
 record IsRead (bag : List File) (v : Version) (ms : List Named) (ls : List Listed) : Type 0 where
@@ -57,11 +58,10 @@ valid_from bag v ms ls r none = record {
     unless_left_out : (kind : Kind) (a : Algorithm) (name text path : List ℕ) → HasManifest bag kind a name text → ((ListsAt bag v kind name path → ⊥) → ⊥) → ListsAt bag v kind name path
     unless_left_out kind a name text path has not_left =
         let found = r.read.there kind a name text has in
-        by_test (listed name kind a found.0) found.2 refl refl (is_path_listed path found.0) refl
-      where
-        by_test : (l : Listed) → Has ls l → l.kind ≡ kind → l.name ≡ name → (x : Bool) → is_path_listed path l.entries ≡ x → ListsAt bag v kind name path
-        by_test l h same at true t = subst (λ (k : Kind). ListsAt bag v k name path) same (subst (λ (n : List ℕ). ListsAt bag v l.kind n path) at (found_lists bag v ls r.read l path h t))
-        by_test l h same at false t = absurd (not_left (λ lists. false≢true (sym t ∙ lists_found bag r.is v ls r.read l kind path h (subst (λ (n : List ℕ). ListsAt bag v kind n path) (sym at) lists))))
+        let l : Listed = listed name kind a found.0 in
+        by_Bool (is_path_listed path found.0)
+        (λ t. found_lists bag v ls r.read l path found.2 t)
+        (λ t. absurd (not_left (λ lists. false≢true (sym t ∙ lists_found bag r.is v ls r.read l kind path found.2 lists))))
 
     right : (kind : Kind) (a : Algorithm) (name text path checksum content : List ℕ) → HasManifest bag kind a name text → Lists v a text path checksum → Holds bag path content → (x : Bool) → matches_of content (checksum_of a checksum) ≡ x → digest a content ≡ checksum
     right kind a name text path checksum content has lists holds true t = matches_is a content checksum t
@@ -90,11 +90,10 @@ steps_ok bag v ms ls r done next listing contents f stands =
 
 -- the fault of bag-info.txt or of a checksum that judging names comes first
 contents_err : (bag : List File) (v : Version) (ms : List Named) (ls : List Listed) → IsRead bag v ms ls → NoneBelow bag 13 → (f : Fault) → obeys_contents bag ls ≡ Err f → FirstFault bag f
-contents_err bag v ms ls r below f e = by_first (bind_err (obeys_info bag) (λ _. obeys bag ls (rules_of.ChecksumWrong ∷ [])) f e)
-  where
-    by_first : (obeys_info bag ≡ Err f) ⊎ ((done : Unit {0}) × (obeys_info bag ≡ Ok done) × (obeys bag ls (rules_of.ChecksumWrong ∷ []) ≡ Err f)) → FirstFault bag f
-    by_first (inl e) = info_err bag r.is v r.declares below f e
-    by_first (inr (done, ok, e)) = rules_err bag r.is v r.declares ls r.read (rules_of.ChecksumWrong ∷ []) 17 18 checksum_number (info_ok bag r.is below done ok) f e
+contents_err bag v ms ls r below f e = elim (bind_err (obeys_info bag) (λ _. obeys bag ls (rules_of.ChecksumWrong ∷ [])) f e) [
+  | inl e ↦ info_err bag r.is v r.declares below f e
+  | inr ok ↦ rules_err bag r.is v r.declares ls r.read (rules_of.ChecksumWrong ∷ []) 17 18 checksum_number (info_ok bag r.is below ok.0 ok.1) f ok.2
+]
 
 -- ---- judging, step by step
 
@@ -195,29 +194,24 @@ judged_fault bag is f e = of_version (bind_err (version_declared bag) (after_ver
 
 -- A valid bag is judged without fault, with its report.
 pub valid_judged : (bag : List File) → IsBag bag → (v : Version) → Valid bag v → judge bag ≡ Ok (report_of v bag)
-valid_judged bag is v valid = by_answer (judge bag) refl
-  where
-    by_answer : (r : Result Report Fault) → judge bag ≡ r → judge bag ≡ Ok (report_of v bag)
-    by_answer (Ok report) e =
-        let found = judged_valid bag is report e in
-        let version : found.0 ≡ v = one_version bag is found.0 v found.1.complete.declares valid.complete.declares in
-        e ∙ ap (λ (x : Report). Ok x) (found.2 ∙ ap (λ (w : Version). report_of w bag) version)
-    by_answer (Err f) e = absurd (none_stands bag is v valid f (judged_fault bag is f e).0)
+valid_judged bag is v valid = by_Result (judge bag)
+    (λ report e.
+    let found = judged_valid bag is report e in
+    let version : found.0 ≡ v = one_version bag is found.0 v found.1.complete.declares valid.complete.declares in
+    e ∙ ap (λ (x : Report). Ok x) (found.2 ∙ ap (λ (w : Version). report_of w bag) version))
+    (λ f e. absurd (none_stands bag is v valid f (judged_fault bag is f e).0))
 
 -- The fault that comes first is the one that judging names.
 pub fault_judged : (bag : List File) → IsBag bag → (f : Fault) → FirstFault bag f → judge bag ≡ Err f
-fault_judged bag is f first = by_answer (judge bag) refl
-  where
-    by_answer : (r : Result Report Fault) → judge bag ≡ r → judge bag ≡ Err f
-    by_answer (Ok report) e =
-        let found = judged_valid bag is report e in
-        absurd (none_stands bag is found.0 found.1 f first.0)
-    by_answer (Err g) e = e ∙ ap (λ (x : Fault). Err x) (one_first_fault bag is g f (judged_fault bag is g e) first)
+fault_judged bag is f first = by_Result (judge bag)
+    (λ report e. let found = judged_valid bag is report e in absurd (none_stands bag is found.0 found.1 f first.0))
+    (λ g e. e ∙ ap (λ (x : Fault). Err x) (one_first_fault bag is g f (judged_fault bag is g e) first))
 
 -- A bag is valid exactly where no fault stands.
 pub valid_exactly : (bag : List File) → IsBag bag → ((v : Version) × Valid bag v) ↔ ((f : Fault) → Stands bag f → ⊥)
-valid_exactly bag is = (λ valid. none_stands bag is valid.0 valid.1, λ none. by_answer none (judge bag) refl)
-  where
-    by_answer : ((f : Fault) → Stands bag f → ⊥) → (r : Result Report Fault) → judge bag ≡ r → (v : Version) × Valid bag v
-    by_answer none (Ok report) e = let found = judged_valid bag is report e in (found.0, found.1)
-    by_answer none (Err f) e = absurd (none f (judged_fault bag is f e).0)
+valid_exactly bag is = (
+  λ valid. none_stands bag is valid.0 valid.1,
+  λ none. by_Result (judge bag)
+      (λ report e. let found = judged_valid bag is report e in (found.0, found.1))
+      (λ f e. absurd (none f (judged_fault bag is f e).0)),
+)

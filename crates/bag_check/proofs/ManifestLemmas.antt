@@ -3,6 +3,7 @@ use Rattle.bag_check.proofs.Common.{inl, inr, sym, ok_if, err_unless, err_throug
 use Rattle.bag_check.proofs.OrderLemmas.{apart, Up, Ascending, ascending_rest, later_path}
 use Rattle.bag_check.proofs.BagLemmas.{paths, up_skip, at}
 use Rattle.bag_check.proofs.NameLemmas.{kind_is, kind_again, name_is, no_name, one_name, algorithm_is, no_algorithm}
+use Rattle.bag_text.proofs.CaseLemmas.{by_Option}
 
 -- ---- what a file is
 
@@ -22,16 +23,11 @@ data NamedView (f : File) : Type 0 where
 
 -- each file is one of the three
 named_view : (f : File) → NamedView f
-named_view f = by_name (manifest_name f.path) refl
-  where
-    by_algorithm : (kind : Kind) (alg : List ℕ) → manifest_name f.path ≡ Some (kind, alg) → (o : Option Algorithm) → algorithm_named alg ≡ o → NamedView f
-    by_algorithm kind alg e None none = unsupported (kind, alg, name_is f.path kind alg e, no_algorithm alg none) (ap (named_or_fault f) e ∙ ap (named_by f kind) none)
-    by_algorithm kind alg e (Some a) some =
-        manifest kind a (subst (λ (x : List ℕ). IsManifestName kind x f.path) (algorithm_is alg a some) (name_is f.path kind alg e)) (ap (named_or_fault f) e ∙ ap (named_by f kind) some)
-
-    by_name : (o : Option (Kind × List ℕ)) → manifest_name f.path ≡ o → NamedView f
-    by_name None e = no_manifest (no_name f.path e) (ap (named_or_fault f) e)
-    by_name (Some (kind, alg)) e = by_algorithm kind alg e (algorithm_named alg) refl
+named_view f = by_Option (manifest_name f.path) (λ e. no_manifest (no_name f.path e) (ap (named_or_fault f) e)) (λ name e.
+    let is = name_is f.path name.0 name.1 e in
+    by_Option (algorithm_named name.1)
+    (λ none. unsupported (name.0, name.1, is, no_algorithm name.1 none) (ap (named_or_fault f) e ∙ ap (named_by f name.0) none))
+    (λ a some. manifest name.0 a (subst (λ (x : List ℕ). IsManifestName name.0 x f.path) (algorithm_is name.1 a some) is) (ap (named_or_fault f) e ∙ ap (named_by f name.0) some)))
 
 -- ---- the manifests among the files
 

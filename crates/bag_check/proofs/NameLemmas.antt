@@ -1,5 +1,6 @@
 -- The names of manifests: what computing gives is what the definitions say.
-use Rattle.bag_check.proofs.Common.{sym, some_if, ◌≡◌, ℕ, ◌+◌, ◌-◌, ◌<◌, Bool, true, false, cond, not, ◌&&◌, nat_lt as ltb, List, [], ◌∷◌, ◌++◌, length, take, drop, slice_index_or as get_or, refl, ap, subst, ◌∙◌, arith, append_assoc, length-append, Option, Some, None, bytes_eq, eqb as nat_eq, codes, ◌≢◌, list_any, starts_with, ends_with, same_Some, false≢true, and_parts, and_from, ltb-true, lt-ltb, not-true, not_from_false, Decides-eqb, take-append-drop, take-take, take_at, drop_at, length-take-le, length-drop, bytes_eq-Decides, starts_is, ends_is, Algorithm, Kind, Payload, Tag, IsTop, stem, IsManifestName, alg_behind, or_tag, manifest_name, is_kind, is_found_of, is_manifest_of, word_of, algorithm_named, Sha256, Sha512}
+use Rattle.bag_check.proofs.Common.{sym, some_if, ◌≡◌, ℕ, ◌+◌, ◌-◌, ◌<◌, Bool, true, cond, not, ◌&&◌, nat_lt as ltb, List, [], ◌∷◌, ◌++◌, length, take, drop, slice_index_or as get_or, refl, ap, subst, ◌∙◌, arith, append_assoc, length-append, Option, Some, None, bytes_eq, eqb as nat_eq, codes, ◌≢◌, list_any, starts_with, ends_with, same_Some, false≢true, and_parts, and_from, ltb-true, lt-ltb, not-true, not_from_false, Decides-eqb, take-append-drop, take-take, take_at, drop_at, length-take-le, length-drop, bytes_eq-Decides, starts_is, ends_is, Algorithm, Kind, Payload, Tag, IsTop, stem, IsManifestName, alg_behind, or_tag, manifest_name, is_kind, is_found_of, is_manifest_of, word_of, algorithm_named, Sha256, Sha512}
+use Rattle.bag_text.proofs.CaseLemmas.{by_Bool, by_Option}
 
 -- ---- what stands between the front and `.txt`
 
@@ -83,16 +84,15 @@ name_behind kind alg name n = record { is = n.is; some = n.some; top = n.top }
 
 -- what is found of a name is so
 pub name_is : (name : List ℕ) (kind : Kind) (alg : List ℕ) → manifest_name name ≡ Some (kind, alg) → IsManifestName kind alg name
-name_is name kind alg e = by_both (alg_behind (stem Payload) name) (alg_behind (stem Tag) name) refl refl e
-  where
-    by_both : (x y : Option (List ℕ)) → alg_behind (stem Payload) name ≡ x → alg_behind (stem Tag) name ≡ y → or_tag x y ≡ Some (kind, alg) → IsManifestName kind alg name
-    by_both (Some found) y is also e =
-        let same : (Payload, found) ≡ (kind, alg) = same_Some (Payload, found) (kind, alg) e in
-        subst (λ (x : Kind × List ℕ). IsManifestName x.0 x.1 name) same (behind_name Payload found name (behind_is (stem Payload) name found is))
-    by_both None (Some found) is also e =
-        let same : (Tag, found) ≡ (kind, alg) = same_Some (Tag, found) (kind, alg) e in
-        subst (λ (x : Kind × List ℕ). IsManifestName x.0 x.1 name) same (behind_name Tag found name (behind_is (stem Tag) name found also))
-    by_both None None is also e = absurd cc
+name_is name kind alg e = by_Option (alg_behind (stem Payload) name)
+    (λ none. by_Option (alg_behind (stem Tag) name)
+    (λ other. let wrong = rw (none, other) at e in absurd cc)
+    (λ found is.
+    let same : (Tag, found) ≡ (kind, alg) = same_Some (Tag, found) (kind, alg) (rw (none, is) at e) in
+    subst (λ (x : Kind × List ℕ). IsManifestName x.0 x.1 name) same (behind_name Tag found name (behind_is (stem Tag) name found is))))
+    (λ found is.
+    let same : (Payload, found) ≡ (kind, alg) = same_Some (Payload, found) (kind, alg) (rw is at e) in
+    subst (λ (x : Kind × List ℕ). IsManifestName x.0 x.1 name) same (behind_name Payload found name (behind_is (stem Payload) name found is)))
 
 -- no name is of both kinds: one begins with `m`, the other with `t`
 not_both : (name one two : List ℕ) → IsManifestName Payload one name → IsManifestName Tag two name → ⊥
@@ -105,12 +105,10 @@ not_both name one two p t =
 pub name_again : (name : List ℕ) (kind : Kind) (alg : List ℕ) → IsManifestName kind alg name → manifest_name name ≡ Some (kind, alg)
 name_again name Payload alg n = ap (λ (x : Option (List ℕ)). or_tag x (alg_behind (stem Tag) name)) (behind_again (stem Payload) name alg (name_behind Payload alg name n))
 name_again name Tag alg n =
-    ap (λ (x : Option (List ℕ)). or_tag x (alg_behind (stem Tag) name)) (no_payload (alg_behind (stem Payload) name) refl)
-    ∙ ap (or_tag None) (behind_again (stem Tag) name alg (name_behind Tag alg name n))
-  where
-    no_payload : (o : Option (List ℕ)) → alg_behind (stem Payload) name ≡ o → alg_behind (stem Payload) name ≡ None
-    no_payload None e = e
-    no_payload (Some found) e = absurd (not_both name found alg (behind_name Payload found name (behind_is (stem Payload) name found e)) n)
+    let no_payload : alg_behind (stem Payload) name ≡ None = by_Option (alg_behind (stem Payload) name)
+    (λ e. e)
+    (λ found e. absurd (not_both name found alg (behind_name Payload found name (behind_is (stem Payload) name found e)) n)) in
+    ap (λ (x : Option (List ℕ)). or_tag x (alg_behind (stem Tag) name)) no_payload ∙ ap (or_tag None) (behind_again (stem Tag) name alg (name_behind Tag alg name n))
 
 -- where nothing is found there is no manifest
 pub no_name : (name : List ℕ) → manifest_name name ≡ None → (kind : Kind) (alg : List ℕ) → IsManifestName kind alg name → ⊥
@@ -142,11 +140,9 @@ kind_again k l e = ap (is_kind k) e ∙ same_kind k
 
 -- a path that passes the test is the name of a manifest of this kind
 pub manifest_of_is : (kind : Kind) (path : List ℕ) → is_manifest_of kind path ≡ true → (alg : List ℕ) × IsManifestName kind alg path
-manifest_of_is kind path e = by_found (manifest_name path) refl e
-  where
-    by_found : (o : Option (Kind × List ℕ)) → manifest_name path ≡ o → is_found_of kind o ≡ true → (alg : List ℕ) × IsManifestName kind alg path
-    by_found None is e = absurd (false≢true e)
-    by_found (Some (other, alg)) is e = (alg, subst (λ (k : Kind). IsManifestName k alg path) (kind_is kind other e) (name_is path other alg is))
+manifest_of_is kind path e = by_Option (manifest_name path)
+    (λ is. let wrong = rw is at e in absurd cc)
+    (λ found is. (found.1, subst (λ (k : Kind). IsManifestName k found.1 path) (kind_is kind found.0 (rw is at e)) (name_is path found.0 found.1 is)))
 
 -- the name of a manifest of this kind passes the test
 pub manifest_of_again : (kind : Kind) (path alg : List ℕ) → IsManifestName kind alg path → is_manifest_of kind path ≡ true
@@ -161,12 +157,11 @@ algorithm_again Sha512 = refl
 
 -- an algorithm that is found has that word
 pub algorithm_is : (alg : List ℕ) (a : Algorithm) → algorithm_named alg ≡ Some a → alg ≡ word_of a
-algorithm_is alg a e = by_tests (bytes_eq alg (word_of Sha256)) (bytes_eq alg (word_of Sha512)) refl refl e
-  where
-    by_tests : (x y : Bool) → bytes_eq alg (word_of Sha256) ≡ x → bytes_eq alg (word_of Sha512) ≡ y → cond x (Some Sha256) (cond y (Some Sha512) None) ≡ Some a → alg ≡ word_of a
-    by_tests true y is also e = (bytes_eq-Decides alg (word_of Sha256)).0 is ∙ ap word_of (same_Some Sha256 a e)
-    by_tests false true is also e = (bytes_eq-Decides alg (word_of Sha512)).0 also ∙ ap word_of (same_Some Sha512 a e)
-    by_tests false false is also e = absurd cc
+algorithm_is alg a e = by_Bool (bytes_eq alg (word_of Sha256))
+    (λ is. (bytes_eq-Decides alg (word_of Sha256)).0 is ∙ ap word_of (same_Some Sha256 a (rw is at e)))
+    (λ other.
+    let read = some_if (bytes_eq alg (word_of Sha512)) (Some Sha512) a (rw other at e) in
+    (bytes_eq-Decides alg (word_of Sha512)).0 read.0 ∙ ap word_of (same_Some Sha512 a read.1))
 
 -- where none is found it is no algorithm's word
 pub no_algorithm : (alg : List ℕ) → algorithm_named alg ≡ None → (a : Algorithm) → alg ≢ word_of a

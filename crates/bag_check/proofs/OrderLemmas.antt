@@ -1,9 +1,10 @@
 -- The order of paths by bytes, and what comes first in an ascending list.
 use Rattle.bag_check.proofs.Common.{sym, ap, false≢true, ◌≡◌, ℕ, ◌⊎◌, inl, inr, Bool, true, false, cond, List, [], ◌∷◌, refl, subst, ◌∙◌, Option, Some, None, find, bytes_eq-Decides, comes_before, path_cmp, less, before_chain, Has, is_lt, is_eq, ordering_reverse}
 use Rattle.std.specs.declared.cmp.Ordering.{Ordering}
-use Rattle.std.specs.declared.cmp.Ordering.TheVariants.{Less, Equal, Greater}
+use Rattle.std.specs.declared.cmp.Ordering.TheVariants.{Less}
 use Rattle.std.proofs.lemmas.Cmp.{nat_list_cmp_total}
 use Rattle.std.proofs.lemmas.Map.Text.{is_eq-slice_cmp}
+use Rattle.bag_text.proofs.CaseLemmas.{by_Ordering}
 
 -- ---- the order by bytes
 
@@ -18,12 +19,10 @@ apart a h = never (path_cmp a a) (less (path_cmp a a) h) (nat_list_cmp_total.ant
 
 -- of two paths that aren't the same one comes before the other
 pub one_first : (a b : List ℕ) → (comes_before a b ≡ true → ⊥) → (comes_before b a ≡ true → ⊥) → a ≡ b
-one_first a b not_less not_greater = of_order (path_cmp a b) refl
-  where
-    of_order : (o : Ordering) → path_cmp a b ≡ o → a ≡ b
-    of_order Less e = absurd (not_less (ap is_lt e))
-    of_order Greater e = absurd (not_greater (ap is_lt (nat_list_cmp_total.antisymm b a ∙ ap ordering_reverse e)))
-    of_order Equal e = (bytes_eq-Decides a b).0 (sym (is_eq-slice_cmp a b) ∙ ap is_eq e)
+one_first a b not_less not_greater = by_Ordering (path_cmp a b)
+    (λ e. absurd (not_less (ap is_lt e)))
+    (λ e. (bytes_eq-Decides a b).0 (sym (is_eq-slice_cmp a b) ∙ ap is_eq e))
+    (λ e. absurd (not_greater (ap is_lt (nat_list_cmp_total.antisymm b a ∙ ap ordering_reverse e))))
 
 -- ---- ascending lists
 

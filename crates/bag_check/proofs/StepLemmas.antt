@@ -1,22 +1,17 @@
 -- Each step of judging a bag: it names the first fault of its number, or none of that number stands.
-use Rattle.bag_check.proofs.FirstLemmas.{ok_unless, err_if, ◌≡◌, ℕ, ◌+◌, ◌⊎◌, inl, inr, List, [], ◌∷◌, refl, sym, ap, subst, ◌∙◌, Option, Some, None, Result, Ok, Err, File, IsBag, content_at, Version, Algorithm, LineFault, declaration_of, Entries, manifest_of, Kind, Payload, Rule, Holds, HasFile, declaration_path, fetch_path, DeclaresVersion, IsManifestName, word_of, HasManifest, Fault, NoDeclaration, Declaration, FetchNotSupported, UnsupportedAlgorithm, NoPayloadManifest, ManifestText, Breaks, IsBroken, Stands, rule_number, BreachBefore, FirstFault, has_path, or_declaration, declared_by, version_declared, no_fetch, Named, manifests_in, some_payload, Listed, listings_of, first_breach, obeyed_by, obeys, bind_ok, bind_err, same_err, never_both, is_declared, declared_again, refused_again, refused_is_fault, fault_is_refused, Has, contains_has, has_contains, DeclFault, apart, Ascending, ascending_rest, at, bag_ascends, ascends_up, path_of_file, one_content, content_found, no_content, has_path_is, no_path_is, one_algorithm, at_1, at_2, at_3, at_4, at_5, at_6, at_rule, Earlier, none_earlier, NoneBelow, NoneAt, IsLeast, none_below_1, none_more, named_first, one_version, as_named, as_listed, read_of, names, Found, IsFirstUnsupported, first_unsupported, no_payload_manifest, AreRead, IsFirstRefused, first_refused}
+use Rattle.bag_check.proofs.FirstLemmas.{ok_unless, err_if, ◌≡◌, ℕ, ◌+◌, inl, inr, List, [], ◌∷◌, refl, sym, ap, subst, ◌∙◌, Option, Some, None, Ok, Err, File, IsBag, content_at, Version, Algorithm, LineFault, declaration_of, Entries, manifest_of, Kind, Payload, Rule, Holds, HasFile, declaration_path, fetch_path, DeclaresVersion, IsManifestName, word_of, HasManifest, Fault, NoDeclaration, Declaration, FetchNotSupported, UnsupportedAlgorithm, NoPayloadManifest, ManifestText, Breaks, IsBroken, Stands, rule_number, BreachBefore, FirstFault, has_path, or_declaration, declared_by, version_declared, no_fetch, Named, manifests_in, some_payload, Listed, listings_of, first_breach, obeyed_by, obeys, bind_ok, bind_err, same_err, never_both, is_declared, declared_again, refused_again, refused_is_fault, fault_is_refused, Has, contains_has, has_contains, DeclFault, apart, Ascending, ascending_rest, at, bag_ascends, ascends_up, path_of_file, one_content, content_found, no_content, has_path_is, no_path_is, one_algorithm, at_1, at_2, at_3, at_4, at_5, at_6, at_rule, Earlier, none_earlier, NoneBelow, NoneAt, IsLeast, none_below_1, none_more, named_first, one_version, as_named, as_listed, read_of, names, Found, IsFirstUnsupported, first_unsupported, no_payload_manifest, AreRead, IsFirstRefused, first_refused}
 use Rattle.bag_text.proofs.DeclarationLemmas as declaration
 use Rattle.bag_check.proofs.BreachLemmas.{Place, IsLeastBreach}
 use Rattle.bag_check.proofs.RuleLemmas.{AreListed, listed, broken_first}
+use Rattle.bag_text.proofs.CaseLemmas.{by_Option, by_Result}
 
 -- ---- the declaration
 
 -- the version that is found is declared
 pub version_ok : (bag : List File) (v : Version) → version_declared bag ≡ Ok v → DeclaresVersion bag v
-version_ok bag v e = by_content (content_at bag declaration_path) refl e
-  where
-    by_reading : (text : List ℕ) → content_at bag declaration_path ≡ Some text → (r : Result Version DeclFault) → declaration_of text ≡ r → or_declaration r ≡ Ok v → DeclaresVersion bag v
-    by_reading text is (Ok w) read e = (text, content_found bag declaration_path text is, is_declared text v (read ∙ cc))
-    by_reading text is (Err f) read e = absurd cc
-
-    by_content : (o : Option (List ℕ)) → content_at bag declaration_path ≡ o → declared_by o ≡ Ok v → DeclaresVersion bag v
-    by_content None is e = absurd cc
-    by_content (Some text) is e = by_reading text is (declaration_of text) refl e
+version_ok bag v e = by_Option (content_at bag declaration_path) (λ is. let wrong = rw is at e in absurd cc) (λ text is. by_Result (declaration_of text)
+    (λ w read. (text, content_found bag declaration_path text is, is_declared text v (read ∙ rw (is, read) at e)))
+    (λ f read. let wrong = rw (is, read) at e in absurd cc))
 
 -- where there is a bagit.txt it is not said to be missing
 none_at_1 : (bag : List File) → HasFile bag declaration_path → NoneAt bag 1
@@ -38,7 +33,11 @@ below_3 bag is v declares =
 
 -- the declaration's fault that is named comes first
 pub version_err : (bag : List File) (f : Fault) → version_declared bag ≡ Err f → FirstFault bag f
-version_err bag f e = by_content (content_at bag declaration_path) refl e
+version_err bag f e = by_Option (content_at bag declaration_path)
+    (λ is. subst (FirstFault bag) (same_err NoDeclaration f (declared_by None) refl (rw is at e)) (not_there (no_content bag declaration_path is)))
+    (λ text is. by_Result (declaration_of text)
+    (λ w read. let wrong = rw (is, read) at e in absurd cc)
+    (λ d read. subst (FirstFault bag) (same_err (Declaration d) f (or_declaration (Err d)) refl (rw (is, read) at e)) (refused text (content_found bag declaration_path text is) d read)))
   where
     not_there : (HasFile bag declaration_path → ⊥) → FirstFault bag NoDeclaration
     not_there none = named_first bag NoDeclaration (none_below_1 bag) (record { stands = none; first = λ g n s. at_1 (λ x. Earlier x NoDeclaration → ⊥) none_earlier g n })
@@ -47,14 +46,6 @@ version_err bag f e = by_content (content_at bag declaration_path) refl e
     refused text holds d read = named_first bag (Declaration d)
         (none_more bag 1 2 refl (none_below_1 bag) (none_at_1 bag (text, holds)))
         (record { stands = (text, holds, declaration.refused text d read); first = λ g n s. at_2 (λ x. Earlier x (Declaration d) → ⊥) (λ other. none_earlier) g n })
-
-    by_reading : (text : List ℕ) → content_at bag declaration_path ≡ Some text → (r : Result Version DeclFault) → declaration_of text ≡ r → or_declaration r ≡ Err f → FirstFault bag f
-    by_reading text is (Ok w) read e = absurd cc
-    by_reading text is (Err d) read e = subst (FirstFault bag) (same_err (Declaration d) f (or_declaration (Err d)) refl e) (refused text (content_found bag declaration_path text is) d read)
-
-    by_content : (o : Option (List ℕ)) → content_at bag declaration_path ≡ o → declared_by o ≡ Err f → FirstFault bag f
-    by_content None is e = subst (FirstFault bag) (same_err NoDeclaration f (declared_by None) refl e) (not_there (no_content bag declaration_path is))
-    by_content (Some text) is e = by_reading text is (declaration_of text) refl e
 
 -- ---- fetch.txt
 
@@ -233,10 +224,9 @@ rules_ok bag is v declares ls read (rule ∷ rules) n m follow below done e =
 pub rules_err : (bag : List File) → IsBag bag → (v : Version) → DeclaresVersion bag v → (ls : List Listed) → AreListed bag v ls → (rules : List Rule) (n m : ℕ) → Follow n rules m → NoneBelow bag n → (f : Fault) → obeys bag ls rules ≡ Err f → FirstFault bag f
 unfolding obeys
 rules_err bag is v declares ls read [] n m follow below f e = absurd cc
-rules_err bag is v declares ls read (rule ∷ rules) n m follow below f e =
-    by_first (bind_err (obeyed_by rule (first_breach bag rule ls)) (λ _. obeys bag ls rules) f e) (λ next e. rules_err bag is v declares ls read rules (n + 1) m follow.1 next f e)
-  where
-    by_first : (obeyed_by rule (first_breach bag rule ls) ≡ Err f) ⊎ ((done : Unit {0}) × (obeyed_by rule (first_breach bag rule ls) ≡ Ok done) × (obeys bag ls rules ≡ Err f)) → (NoneBelow bag (n + 1) → obeys bag ls rules ≡ Err f → FirstFault bag f) → FirstFault bag f
-    by_first (inl e) again = rule_err bag is v declares ls read rule f (subst (λ (k : ℕ). NoneBelow bag k) (sym follow.0) below) e
-    by_first (inr (done, ok, e)) again =
-        again (none_more bag n (n + 1) refl below (subst (λ (k : ℕ). NoneAt bag k) follow.0 (rule_ok bag is v declares ls read rule done ok))) e
+rules_err bag is v declares ls read (rule ∷ rules) n m follow below f e = elim (bind_err (obeyed_by rule (first_breach bag rule ls)) (λ _. obeys bag ls rules) f e) [
+  | inl e ↦ rule_err bag is v declares ls read rule f (subst (λ (k : ℕ). NoneBelow bag k) (sym follow.0) below) e
+  | inr ok ↦
+      let kept = subst (λ (k : ℕ). NoneAt bag k) follow.0 (rule_ok bag is v declares ls read rule ok.0 ok.1) in
+      rules_err bag is v declares ls read rules (n + 1) m follow.1 (none_more bag n (n + 1) refl below kept) f ok.2
+]

@@ -1,19 +1,17 @@
 -- Making a bag of a list of files.
-use Rattle.bag_text.proofs.FirstLemmas.{◌≡◌, ◌≢◌, ℕ, ◌+◌, ◌<◌, ◌≤◌, Bool, true, false, not, List, [], length, get_or, drop, map, refl, sym, ap, subst, ◌∙◌, arith, Option, Some, None, is_some, is_none, IfOk, IfErr, option_or, is_utf8, drop_more, at_drop_all, SetFault, Memory, is_good, path_fault, File, Ascends, IsBag, Answers, named_set_fault, ListFault, file_fault, fault_from, list_fault, Result, Ok, Err, PathFault, err_is}
+use Rattle.bag_text.proofs.FirstLemmas.{◌≡◌, ◌≢◌, ℕ, ◌+◌, ◌<◌, ◌≤◌, Bool, true, false, not, List, [], length, get_or, drop, map, refl, sym, ap, subst, ◌∙◌, arith, Option, Some, None, is_some, IfOk, IfErr, option_or, is_utf8, drop_more, at_drop_all, SetFault, Memory, is_good, path_fault, File, Ascends, IsBag, Answers, named_set_fault, ListFault, file_fault, fault_from, list_fault, Result, Ok, Err, PathFault, err_is}
 use Rattle.bag_text.specs.ListReading.{Makes}
 use Rattle.bag_text.proofs.ListLemmas.{from_none, list_fault_law, list_bag_law}
+use Rattle.bag_text.proofs.CaseLemmas.{by_Option}
 
 -- ---- one file after the other
 
 -- A text is a good path where no fault of a path stands.
 pub text_is_good : (path : List ℕ) (found : Option PathFault) (none : Bool) → is_utf8 path ≡ true → found ≡ path_fault path → is_some found ≡ not none → none ≡ is_good path
-text_is_good path found none utf8 e test = rw (utf8, ← e) (by_fault found none test)
-  where
-    by_fault : (found : Option PathFault) (none : Bool) → is_some found ≡ not none → none ≡ is_none found
-    by_fault (Some f) true h = absurd cc
-    by_fault (Some f) false h = refl
-    by_fault None true h = refl
-    by_fault None false h = absurd cc
+text_is_good path (Some f) true utf8 e test = absurd cc
+text_is_good path (Some f) false utf8 e test = rw (utf8, ← e) refl
+text_is_good path None true utf8 e test = rw (utf8, ← e) refl
+text_is_good path None false utf8 e test = absurd cc
 
 -- the faults of what is left, seen at its first file
 fault_more : {X : Type 0} (g : X → File) (place : ℕ) (before : List ℕ) (xs : List X) (i : ℕ) (x : X) → i < length xs
@@ -52,11 +50,8 @@ ascends files found e none = (from_none 0 [] files (omega arith) (sym e ∙ none
 
 -- a bag that was made is the list
 pub made : {X : Type 0} (view : X → List File) (files : List File) (x : X) → Makes view files (list_fault files) (Ok x) → (view x ≡ files) × IsBag files
-made view files x h = by_fault (list_fault files) refl h
-  where
-    by_fault : (found : Option SetFault) → list_fault files ≡ found → Makes view files found (Ok x) → (view x ≡ files) × IsBag files
-    by_fault (Some fault) is h = absurd cc
-    by_fault None is h = (h, (list_bag_law files).0 is)
+made view files x h =
+    by_Option (list_fault files) (λ is. (rw is at h, (list_bag_law files).0 is)) (λ fault is. let wrong = rw is at h in absurd cc)
 
 -- what was made is a bag
 pub made_bag : {X : Type 0} (view : X → List File) (files : List File) (x : X) → Makes view files (list_fault files) (Ok x) → IsBag (view x)
@@ -71,11 +66,8 @@ is_list files (Err fault) h = tt
 
 -- a bag is made, unless memory ran out
 pub is_made : (files : List File) (result : Result (List File) SetFault) → IsBag files → Makes (λ set. set) files (list_fault files) result → Answers named_set_fault result (Ok files)
-is_made files result bag h = by_result result (subst (λ (found : Option SetFault). Makes (λ set. set) files found result) ((list_bag_law files).1 bag) h)
-  where
-    by_result : (r : Result (List File) SetFault) → Makes (λ set. set) files None r → Answers named_set_fault r (Ok files)
-    by_result (Ok set) h = ap (λ (fs : List File). Ok fs) (sym h)
-    by_result (Err fault) h = subst (λ (f : SetFault). Answers named_set_fault (Err f) (Ok files)) (sym h) tt
+is_made files (Ok set) bag h = ap (λ (fs : List File). Ok fs) (sym (rw ((list_bag_law files).1 bag) at h))
+is_made files (Err fault) bag h = subst (λ (f : SetFault). Answers named_set_fault (Err f) (Ok files)) (sym (rw ((list_bag_law files).1 bag) at h)) tt
 
 -- a list with a fault is refused with it
 pub is_refused : (files : List File) (result : Result (List File) SetFault) (fault : SetFault) → ListFault files fault → Makes (λ set. set) files (list_fault files) result → result ≡ Err fault
@@ -84,8 +76,6 @@ is_refused files result fault stands h = subst (λ (found : Option SetFault). Ma
 -- what is refused has the fault that is named
 pub has_fault : (files : List File) (result : Result (List File) SetFault) → Makes (λ set. set) files (list_fault files) result → IfErr result (λ fault. fault ≢ Memory → ListFault files fault)
 has_fault files (Ok set) h = tt
-has_fault files (Err fault) h = by_fault (list_fault files) refl h
-  where
-    by_fault : (found : Option SetFault) → list_fault files ≡ found → Makes (λ set. set) files found (Err fault) → fault ≢ Memory → ListFault files fault
-    by_fault None is h = λ other. absurd (other h)
-    by_fault (Some named) is h = λ other. (list_fault_law files fault).0 (is ∙ sym (ap (λ (f : SetFault). Some f) (err_is fault named h)))
+has_fault files (Err fault) h = λ other. by_Option (list_fault files)
+    (λ is. absurd (other (rw is at h)))
+    (λ named is. (list_fault_law files fault).0 (is ∙ sym (ap (λ (f : SetFault). Some f) (err_is fault named (rw is at h)))))

@@ -1,5 +1,6 @@
 -- Blanks round a text.
 use Rattle.bag_text.proofs.Common.{inl, inr, cases_Bool, ◌≡◌, ℕ, Bool, true, false, cond, eqb, ◌&&◌, List, [], ◌∷◌, ◌++◌, length, map, refl, sym, ap, ◌∙◌, arith, and_parts, nat_tests, append-nil, is_blank, AreBlanks, skip_blanks, drop_last_blanks, trim_blanks}
+use Rattle.bag_text.proofs.CaseLemmas.{by_Bool}
 
 -- blanks in front of a text
 pub record HasFront (t rest : List ℕ) : Type 0 where
@@ -10,11 +11,9 @@ pub record HasFront (t rest : List ℕ) : Type 0 where
 -- what is skipped are blanks
 pub skipped : (t : List ℕ) → HasFront t (skip_blanks t)
 skipped [] = record { before = []; blanks = refl; is = refl }
-skipped (b ∷ t) = by_first (is_blank b) refl (skipped t)
-  where
-    by_first : (x : Bool) → is_blank b ≡ x → HasFront t (skip_blanks t) → HasFront (b ∷ t) (cond x (skip_blanks t) (b ∷ t))
-    by_first true e h = record { before = b ∷ h.before; blanks = rw e h.blanks; is = ap (λ (x : List ℕ). b ∷ x) h.is }
-    by_first false e h = record { before = []; blanks = refl; is = refl }
+skipped (b ∷ t) = by_Bool (is_blank b)
+    (λ e. let h = skipped t in rw e (record { before = b ∷ h.before; blanks = rw e h.blanks; is = ap (λ (x : List ℕ). b ∷ x) h.is }))
+    (λ e. rw e (record { before = []; blanks = refl; is = refl }))
 
 -- blanks at the end of a text
 pub record HasBack (t rest : List ℕ) : Type 0 where

@@ -51,14 +51,13 @@ clash_law files = (stands, found)
     stands (f, at, why) = any_holds (clash_at files) files f at.0 at.1 at.2 (is_so f why)
 
     why_so : (f : File) → clash_at files f ≡ true → (f.path ≡ codes "data") ⊎ ((g : File) × (rest : List ℕ) × Contains files g × (g.path ≡ f.path ++ 47 ∷ rest))
-    why_so f e = by_case (or_cases (bytes_eq f.path (codes "data")) (list_any (λ g. lies_under f.path g.path) files) e)
-      where
-        by_case : (bytes_eq f.path (codes "data") ≡ true) ⊎ (list_any (λ g. lies_under f.path g.path) files ≡ true) → (f.path ≡ codes "data") ⊎ ((g : File) × (rest : List ℕ) × Contains files g × (g.path ≡ f.path ++ 47 ∷ rest))
-        by_case (inl same) = inl ((bytes_eq-Decides f.path (codes "data")).0 same)
-        by_case (inr some) =
-            let at = any_found (λ g. lies_under f.path g.path) files some in
-            let rest = under_rest_of f.path at.0.path at.2 in
-            inr (at.0, rest.0, at.1, rest.1)
+    why_so f e = elim (or_cases (bytes_eq f.path (codes "data")) (list_any (λ g. lies_under f.path g.path) files) e) [
+      | inl same ↦ inl ((bytes_eq-Decides f.path (codes "data")).0 same)
+      | inr some ↦
+          let at = any_found (λ g. lies_under f.path g.path) files some in
+          let rest = under_rest_of f.path at.0.path at.2 in
+          inr (at.0, rest.0, at.1, rest.1)
+    ]
 
     found : clashes files ≡ true → Clashes files
     found e = let at = any_found (clash_at files) files e in (at.0, at.1, why_so at.0 at.2)

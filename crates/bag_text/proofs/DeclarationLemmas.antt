@@ -1,7 +1,8 @@
 -- What a text declares, and its first fault.
-use Rattle.bag_text.proofs.FirstLemmas.{same_Some, not-false, bind_ok, ok_unless, some_if, ◌≡◌, ℕ, ◌+◌, ◌≤◌, Bool, true, false, cond, eqb, ltb, not, ◌||◌, List, [], ◌∷◌, ◌++◌, length, map, take, drop, refl, sym, ap, ◌∙◌, arith, append_assoc, Option, Some, None, Result, Ok, Err, codes, bytes_eq, ok_or, ◌==◌, if◌then◌else◌, slice_get, option_and_then, ◌↔◌, IfOk, IfErr, option_map_or, is_utf8, bytes_eq-Decides, take-append-drop, drop_at, take-append_seam, nat_tests, is_blank, has_mark, trim_blanks, skip_blanks, drop_last_blanks, lines, ◌>>=◌, Version, V1_0, V0_97, to_ascii_lowercase, version_text, version_label, encoding_label, IsLabelled, Declares, after_label, is_version_text, is_supported, is_utf8_name, declaration_fault, version_declared, encoding_fault, exactly_two, declaration_of, trim_round, trimmed_round, map_skipped, map_dropped}
+use Rattle.bag_text.proofs.FirstLemmas.{same_Some, not-false, bind_ok, ok_if, ok_unless, some_if, ◌≡◌, ℕ, true, false, cond, eqb, not, List, [], ◌∷◌, ◌++◌, length, map, take, drop, refl, sym, ap, ◌∙◌, arith, append_assoc, Option, Some, None, Result, Ok, Err, codes, bytes_eq, ok_or, ◌==◌, if◌then◌else◌, slice_get, option_and_then, ◌↔◌, IfOk, IfErr, option_map_or, is_utf8, bytes_eq-Decides, take-append-drop, drop_at, take-append_seam, nat_tests, is_blank, has_mark, trim_blanks, skip_blanks, drop_last_blanks, lines, ◌>>=◌, Version, V1_0, V0_97, to_ascii_lowercase, version_text, version_label, encoding_label, IsLabelled, Declares, after_label, is_version_text, is_supported, is_utf8_name, declaration_fault, version_declared, encoding_fault, exactly_two, declaration_of, trim_round, trimmed_round, map_skipped, map_dropped}
 use Rattle.bag_text.specs.declared.declaration.DeclFault.{DeclFault}
-use Rattle.bag_text.specs.declared.declaration.DeclFault.TheVariants.{NotUtf8, ByteOrderMark, NotTwoLines, BadVersionLine, UnsupportedVersion, BadEncodingLine, UnsupportedEncoding}
+use Rattle.bag_text.specs.declared.declaration.DeclFault.TheVariants.{NotTwoLines, BadVersionLine, UnsupportedVersion, BadEncodingLine, UnsupportedEncoding}
+use Rattle.bag_text.proofs.CaseLemmas.{by_Bool, by_Result}
 
 -- four texts, one after another
 nested : (a b c d : List ℕ) → a ++ b ++ c ++ d ≡ a ++ (b ++ (c ++ d))
@@ -31,21 +32,7 @@ label_again label value line (before, after, first, last, is) =
 
 -- a letter's case says nothing of blanks
 lowered_blank : (b : ℕ) → is_blank (to_ascii_lowercase b) ≡ is_blank b
-lowered_blank b = by_low (ltb b 65) refl
-  where
-    not_blank : (n : ℕ) → 65 ≤ n → is_blank n ≡ false
-    not_blank n h = let first : eqb n 32 ≡ false = grind (arith, nat_tests) in let second : eqb n 9 ≡ false = grind (arith, nat_tests) in rw (first, second) refl
-
-    by_low : (x : Bool) → ltb b 65 ≡ x → is_blank (cond x b (cond (ltb b 91) (b + 32) b)) ≡ is_blank b
-    by_low true e = refl
-    by_low false e = by_high (ltb b 91)
-      where
-        high : 65 ≤ b
-        high = grind (arith, nat_tests, e)
-
-        by_high : (y : Bool) → is_blank (cond y (b + 32) b) ≡ is_blank b
-        by_high false = refl
-        by_high true = not_blank (b + 32) (omega (arith, high)) ∙ sym (not_blank b high)
+lowered_blank b = grind (arith, nat_tests)
 
 -- the blanks round the encoding are none of it
 encoding_trimmed : (value : List ℕ) → map to_ascii_lowercase value ≡ codes "utf-8" → map to_ascii_lowercase (trim_blanks value) ≡ codes "utf-8"
@@ -71,16 +58,11 @@ version_by o = do
 
 version_named : (o : Option (List ℕ)) (v : Version) → version_by o ≡ Ok v → o ≡ Some (version_text v)
 version_named None v e = absurd cc
-version_named (Some value) v e = by_first (bytes_eq value (codes "1.0")) refl e
-  where
-    by_second : (x : Bool) → bytes_eq value (codes "0.97") ≡ x → (y : Bool) → cond x (Ok V0_97) (cond y (Err UnsupportedVersion) (Err BadVersionLine)) ≡ Ok v → Some value ≡ Some (version_text v)
-    by_second true is y e = let now : v ≡ V0_97 = cc in rw (now, is_text value (codes "0.97") is) refl
-    by_second false is true e = absurd cc
-    by_second false is false e = absurd cc
-
-    by_first : (x : Bool) → bytes_eq value (codes "1.0") ≡ x → cond x (Ok V1_0) (cond (bytes_eq value (codes "0.97")) (Ok V0_97) (cond (is_version_text value) (Err UnsupportedVersion) (Err BadVersionLine))) ≡ Ok v → Some value ≡ Some (version_text v)
-    by_first true is e = let now : v ≡ V1_0 = cc in rw (now, is_text value (codes "1.0") is) refl
-    by_first false is e = by_second (bytes_eq value (codes "0.97")) refl (is_version_text value) e
+version_named (Some value) v e = by_Bool (bytes_eq value (codes "1.0"))
+    (λ is. let read = rw is at e in let now : v ≡ V1_0 = cc in rw (now, is_text value (codes "1.0") is) refl)
+    (λ one. by_Bool (bytes_eq value (codes "0.97"))
+    (λ is. let read = rw (one, is) at e in let now : v ≡ V0_97 = cc in rw (now, is_text value (codes "0.97") is) refl)
+    (λ two. by_Bool (is_version_text value) (λ is. let wrong = rw (one, two, is) at e in absurd cc) (λ is. let wrong = rw (one, two, is) at e in absurd cc)))
 
 version_again : (v : Version) → version_by (Some (version_text v)) ≡ Ok v
 version_again V1_0 = refl
@@ -106,12 +88,10 @@ record Encoded (o : Option (List ℕ)) : Type 0 where
 
 encoding_named : (o : Option (List ℕ)) → encoding_by o ≡ sound → Encoded o
 encoding_named None e = absurd cc
-encoding_named (Some value) e = by_empty (eqb (length value) 0) (is_utf8_name value) refl e
-  where
-    by_empty : (x y : Bool) → is_utf8_name value ≡ y → cond x (Err BadEncodingLine) (cond y sound (Err UnsupportedEncoding)) ≡ sound → Encoded (Some value)
-    by_empty true y is e = absurd cc
-    by_empty false false is e = absurd cc
-    by_empty false true is e = record { value = value; some = refl; is = is_text (map to_ascii_lowercase value) (codes "utf-8") is }
+encoding_named (Some value) e =
+    let some = ok_unless (eqb (length value) 0) BadEncodingLine (cond (is_utf8_name value) sound (Err UnsupportedEncoding)) tt e in
+    let named = ok_if (is_utf8_name value) sound UnsupportedEncoding tt some.1 in
+    record { value = value; some = refl; is = is_text (map to_ascii_lowercase value) (codes "utf-8") named.0 }
 
 encoding_again : (value : List ℕ) → map to_ascii_lowercase value ≡ codes "utf-8" → encoding_by (Some value) ≡ sound
 encoding_again [] e = absurd cc
@@ -181,32 +161,21 @@ version_rows o p =
 
 encoding_table : (v : Version) (o : Option (List ℕ)) → encoding_rows o ≡ fault_in (encoding_by o >>= λ _. Ok v)
 encoding_table v None = refl
-encoding_table v (Some value) = by_tests (eqb (length value) 0) (is_utf8_name value)
-  where
-    by_tests : (x y : Bool) → cond x (Some BadEncodingLine) (cond (not y) (Some UnsupportedEncoding) None) ≡ fault_in (cond x (Err BadEncodingLine) (cond y sound (Err UnsupportedEncoding)) >>= λ _. Ok v)
-    by_tests true y = refl
-    by_tests false true = refl
-    by_tests false false = refl
+encoding_table v (Some value) =
+    by_Bool (eqb (length value) 0) (λ x. rw x refl) (λ x. by_Bool (is_utf8_name value) (λ y. rw (x, y) refl) (λ y. rw (x, y) refl))
 
 version_table : (o p : Option (List ℕ)) → version_rows o p ≡ fault_in (version_by o >>= λ version. encoding_by p >>= λ _. Ok version)
 version_table None p = refl
-version_table (Some value) p =
-    by_tests (bytes_eq value (codes "1.0")) (bytes_eq value (codes "0.97")) (is_version_text value)
-    (λ e. ap is_version_text (is_text value (codes "1.0") e)) (λ e. ap is_version_text (is_text value (codes "0.97") e))
-  where
-    by_tests : (x y z : Bool) → (x ≡ true → z ≡ true) → (y ≡ true → z ≡ true)
-        → cond (not z) (Some BadVersionLine) (cond (not (x || y)) (Some UnsupportedVersion) (encoding_rows p))
-        ≡ fault_in (cond x (Ok V1_0) (cond y (Ok V0_97) (cond z (Err UnsupportedVersion) (Err BadVersionLine))) >>= λ version. encoding_by p >>= λ _. Ok version)
-    by_tests true y true h g = encoding_table V1_0 p
-    by_tests true y false h g = absurd (let wrong : false ≡ true = h refl in cc)
-    by_tests false true true h g = encoding_table V0_97 p
-    by_tests false true false h g = absurd (let wrong : false ≡ true = g refl in cc)
-    by_tests false false true h g = refl
-    by_tests false false false h g = refl
+version_table (Some value) p = by_Bool (bytes_eq value (codes "1.0"))
+    (λ x. rw (x, ap is_version_text (is_text value (codes "1.0") x)) (encoding_table V1_0 p))
+    (λ x. by_Bool (bytes_eq value (codes "0.97"))
+    (λ y. rw (x, y, ap is_version_text (is_text value (codes "0.97") y)) (encoding_table V0_97 p))
+    (λ y. by_Bool (is_version_text value) (λ z. rw (x, y, z) refl) (λ z. rw (x, y, z) refl)))
 
 -- The first row that stands is the fault of the reading.
 pub table : (text : List ℕ) → declaration_fault text ≡ fault_in (declaration_of text)
-table text = by_front (is_utf8 text) (has_mark text) (lines text)
+table text =
+    by_Bool (is_utf8 text) (λ x. by_Bool (has_mark text) (λ y. rw (x, y) refl) (λ y. rw (x, y) (by_lines (lines text)))) (λ x. rw x refl)
   where
     by_lines : (ls : List (List ℕ)) → cond (not (eqb (length ls) 2)) (Some NotTwoLines) (version_rows (option_and_then (after_label version_label) (slice_get ls 0)) (option_and_then (after_label encoding_label) (slice_get ls 1))) ≡ fault_in (exactly_two ls >>= λ pair. of_two pair.0 pair.1)
     by_lines [] = refl
@@ -214,22 +183,15 @@ table text = by_front (is_utf8 text) (has_mark text) (lines text)
     by_lines (a ∷ b ∷ c ∷ ls) = let more : eqb (length (a ∷ b ∷ c ∷ ls)) 2 ≡ false = grind (arith, nat_tests) in rw more refl
     by_lines (first ∷ second ∷ []) = version_table (after_label version_label first) (after_label encoding_label second)
 
-    by_front : (x y : Bool) (ls : List (List ℕ)) → cond (not x) (Some NotUtf8) (cond y (Some ByteOrderMark) (cond (not (eqb (length ls) 2)) (Some NotTwoLines) (version_rows (option_and_then (after_label version_label) (slice_get ls 0)) (option_and_then (after_label encoding_label) (slice_get ls 1))))) ≡ fault_in (cond (not x) (Err NotUtf8) (cond y (Err ByteOrderMark) (exactly_two ls >>= λ pair. of_two pair.0 pair.1)))
-    by_front false y ls = refl
-    by_front true true ls = refl
-    by_front true false ls = by_lines ls
-
 -- A refusal is the first row that stands.
 pub refused : (text : List ℕ) (f : DeclFault) → declaration_of text ≡ Err f → declaration_fault text ≡ Some f
 refused text f e = table text ∙ ap fault_in e
 
 -- The first row that stands is the refusal.
 pub refused_again : (text : List ℕ) (f : DeclFault) → declaration_fault text ≡ Some f → declaration_of text ≡ Err f
-refused_again text f e = by_result (declaration_of text) (sym (table text) ∙ e)
-  where
-    by_result : (r : Result Version DeclFault) → fault_in r ≡ Some f → r ≡ Err f
-    by_result (Ok v) e = absurd cc
-    by_result (Err g) e = let same : g ≡ f = cc in rw same refl
+refused_again text f e =
+    let fault = sym (table text) ∙ e in
+    by_Result (declaration_of text) (λ v is. let wrong = rw is at fault in absurd cc) (λ g is. is ∙ ap Err (same_Some g f (rw is at fault)))
 
 -- A text declares a version exactly where reading answers it.
 pub declares : (text : List ℕ) (v : Version) → (declaration_of text ≡ Ok v) ↔ Declares text v

@@ -1,6 +1,7 @@
 -- The faults of reading are those of the table.
-use Rattle.bag_text.proofs.FirstLemmas.{err_through, never_both, ◌≡◌, ℕ, inl, inr, Bool, true, false, cond, eqb, List, [], ◌∷◌, ◌++◌, refl, sym, ap, subst, ◌∙◌, arith, append_assoc, lit<, lit≤, decimal, append-nil, Flaw, Short, Bad, ◌>>=◌, EndOrHead, End, Entry, literal_at, number_at, header_at, end_or_head_at, Head, header, ending, max_content, max_path, BeginsWith, IsProperBeginning, HasSizes, IsEndOrHeader, Result, Ok, Err, number_ok, number_again, number_short, number_bad, HeadFits, file_word, after_word, steps, spelled, literal_ok, literal_again, literal_ends, literal_bad}
+use Rattle.bag_text.proofs.FirstLemmas.{err_through, never_both, ◌≡◌, ℕ, inl, inr, eqb, List, [], ◌∷◌, ◌++◌, refl, sym, ap, subst, ◌∙◌, arith, append_assoc, lit<, lit≤, decimal, append-nil, Flaw, Short, Bad, ◌>>=◌, EndOrHead, End, Entry, literal_at, number_at, header_at, end_or_head_at, Head, header, ending, max_content, max_path, BeginsWith, IsProperBeginning, HasSizes, IsEndOrHeader, Result, Ok, Err, number_ok, number_again, number_short, number_bad, HeadFits, file_word, after_word, steps, spelled, literal_ok, literal_again, literal_ends, literal_bad}
 use Rattle.bag_text.proofs.FormLemmas.{place_header}
+use Rattle.bag_text.proofs.CaseLemmas.{by_Bool}
 
 -- ---- headers that end too soon, and bad ones
 
@@ -80,23 +81,18 @@ unplaced t p e f g = never_both p f (end_or_head_at t) e g
 place_bad : (t more : List ℕ) → end_or_head_at t ≡ Err Bad → end_or_head_at (t ++ more) ≡ Err Bad
 unfolding end_or_head_at
 place_bad [] more e = absurd cc
-place_bad (b ∷ t) more e = by_first (eqb b 69) e
-  where
-    by_first : (x : Bool) → cond x (literal_at ending (b ∷ t) >>= λ rest. Ok (End rest)) (header_at (b ∷ t) >>= λ head. Ok (Entry head)) ≡ Err Bad
-        → cond x (literal_at ending (b ∷ (t ++ more)) >>= λ rest. Ok (End rest)) (header_at (b ∷ (t ++ more)) >>= λ head. Ok (Entry head)) ≡ Err Bad
-    by_first true e = rw (literal_bad ending (b ∷ t) more (err_through (literal_at ending (b ∷ t)) (λ rest. End rest) Bad e)) refl
-    by_first false e = rw (header_bad (b ∷ t) more (err_through (header_at (b ∷ t)) (λ head. Entry head) Bad e)) refl
+place_bad (b ∷ t) more e = by_Bool (eqb b 69)
+    (λ is. rw is (rw (literal_bad ending (b ∷ t) more (err_through (literal_at ending (b ∷ t)) (λ rest. End rest) Bad (rw is at e))) refl))
+    (λ is. rw is (rw (header_bad (b ∷ t) more (err_through (header_at (b ∷ t)) (λ head. Entry head) Bad (rw is at e))) refl))
 
 pub place_end : (rest : List ℕ) → end_or_head_at (ending ++ rest) ≡ Ok (End rest)
 unfolding end_or_head_at literal_at
 place_end rest = refl
 
 nothing_stands : (t : List ℕ) (f : Flaw) → end_or_head_at t ≡ Err f → BeginsWith IsEndOrHeader t → ⊥
-nothing_stands t f e (front, rest, what, is) = by_kind what
-  where
-    by_kind : IsEndOrHeader front → ⊥
-    by_kind (inl end) = unplaced t (End rest) (ap end_or_head_at (is ∙ ap (λ (x : List ℕ). x ++ rest) end) ∙ place_end rest) f e
-    by_kind (inr h) = unplaced t (Entry (record { path_len = h.0; content_len = h.1; rest = rest })) (ap end_or_head_at (is ∙ ap (λ (x : List ℕ). x ++ rest) h.3) ∙ place_header h.0 h.1 rest (fit h.0 h.1 h.2)) f e
+nothing_stands t f e (front, rest, inl end, is) = unplaced t (End rest) (ap end_or_head_at (is ∙ ap (λ (x : List ℕ). x ++ rest) end) ∙ place_end rest) f e
+nothing_stands t f e (front, rest, inr h, is) =
+    unplaced t (Entry (record { path_len = h.0; content_len = h.1; rest = rest })) (ap end_or_head_at (is ∙ ap (λ (x : List ℕ). x ++ rest) h.3) ∙ place_header h.0 h.1 rest (fit h.0 h.1 h.2)) f e
 
 -- a fault of what stands there is the one of the table
 pub bad_place : (t : List ℕ) → end_or_head_at t ≡ Err Bad → (BeginsWith IsEndOrHeader t → ⊥) × (IsProperBeginning IsEndOrHeader t → ⊥)
@@ -105,11 +101,9 @@ bad_place t e = (nothing_stands t Bad e, λ proper. nothing_stands (t ++ proper.
 completes : (t : List ℕ) → end_or_head_at t ≡ Err Short → (more : List ℕ) × IsEndOrHeader (t ++ more)
 unfolding end_or_head_at
 completes [] e = (ending, inl refl)
-completes (b ∷ t) e = by_first (eqb b 69) e
-  where
-    by_first : (x : Bool) → cond x (literal_at ending (b ∷ t) >>= λ rest. Ok (End rest)) (header_at (b ∷ t) >>= λ head. Ok (Entry head)) ≡ Err Short → (more : List ℕ) × IsEndOrHeader (b ∷ t ++ more)
-    by_first true e = let w = literal_ends ending (b ∷ t) (err_through (literal_at ending (b ∷ t)) (λ rest. End rest) Short e) in (w.0, inl w.1)
-    by_first false e = let h = header_short (b ∷ t) (err_through (header_at (b ∷ t)) (λ head. Entry head) Short e) in (h.2, inr (h.0, h.1, sized h.0 h.1 h.3, h.4))
+completes (b ∷ t) e = by_Bool (eqb b 69)
+    (λ is. let w = literal_ends ending (b ∷ t) (err_through (literal_at ending (b ∷ t)) (λ rest. End rest) Short (rw is at e)) in (w.0, inl w.1))
+    (λ is. let h = header_short (b ∷ t) (err_through (header_at (b ∷ t)) (λ head. Entry head) Short (rw is at e)) in (h.2, inr (h.0, h.1, sized h.0 h.1 h.3, h.4)))
 
 pub short_place : (t : List ℕ) → end_or_head_at t ≡ Err Short → IsProperBeginning IsEndOrHeader t
 short_place t e =

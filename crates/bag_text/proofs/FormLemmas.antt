@@ -1,6 +1,8 @@
 -- What is read is a transfer form, and a transfer form is read.
-use Rattle.bag_text.proofs.FirstLemmas.{and_parts, bind_ok, ok_if, ok_unless, never_both, ◌≡◌, ℕ, zero, suc, ◌+◌, ◌-◌, ◌<◌, ◌≤◌, Bool, true, false, cond, eqb, ltb, not, List, [], ◌∷◌, ◌++◌, length, get_or, take, drop, refl, sym, ap, subst, ◌∙◌, arith, append_assoc, IfOk, Option, Some, None, is_none, is_utf8, flat_map, AllByRecursion, nat_tests, not-false, eqb-true, ltb-false, le-ltb, append-nil, take_at, drop_at, take-append-drop, length-append, length-take, length-drop, drop_more, Flaw, Short, Bad, SetFault, BadEntry, Truncated, OutOfOrder, BadPath, TrailingBytes, PathClash, path_fault, ◌>>=◌, Gives, EndOrHead, End, Entry, literal_at, header_at, end_or_head_at, file_at, result_at, entry_at, files_at, after_opening, set_of, named_set_fault, File, Head, header, entry, opening, ending, set_text, max_content, max_files, Ascends, clashes, Fits, IsBag, max_path, is_good, comes_before, Result, Ok, Err, ok_is, InBounds, HeadFits, literal_ok, literal_again, header_ok, header_again}
+use Rattle.bag_text.proofs.FirstLemmas.{and_parts, rows_none, bind_ok, ok_if, ok_unless, never_both, ◌≡◌, ℕ, zero, suc, ◌+◌, ◌-◌, ◌<◌, ◌≤◌, true, false, cond, eqb, ltb, not, List, [], ◌∷◌, ◌++◌, length, get_or, take, drop, refl, sym, ap, subst, ◌∙◌, arith, append_assoc, IfOk, Option, Some, None, is_none, is_utf8, flat_map, AllByRecursion, nat_tests, not-false, eqb-true, ltb-false, le-ltb, append-nil, take_at, drop_at, take-append-drop, length-append, length-take, length-drop, drop_more, Flaw, Short, Bad, SetFault, BadEntry, Truncated, OutOfOrder, BadPath, TrailingBytes, PathClash, path_fault, ◌>>=◌, Gives, EndOrHead, End, Entry, literal_at, header_at, end_or_head_at, file_at, result_at, entry_at, files_at, after_opening, set_of, named_set_fault, File, Head, header, entry, opening, ending, set_text, max_content, max_files, Ascends, clashes, Fits, IsBag, max_path, is_good, comes_before, Result, Ok, Err, ok_is, InBounds, HeadFits, literal_ok, literal_again, header_ok, header_again}
 use Rattle.bag_text.specs.TransferReading.{entry_of}
+use Rattle.bag_text.proofs.CaseLemmas.{by_Bool}
+use Rattle.bag_text.proofs.ResultLemmas.{is_nothing}
 
 -- a file with its bytes in place
 pub record Stands (before rest : List ℕ) (head : Head) (f : File) (behind : List ℕ) : Type 0 where
@@ -45,22 +47,9 @@ file_again offset before f behind good after =
 -- ---- a good path has a length that a header can name
 
 pub path_fits : (path : List ℕ) → is_good path ≡ true → InBounds 1 max_path (length path)
-path_fits path e = record { low = by_empty (eqb (length path) 0) refl; high = by_long (ltb max_path (length path)) refl }
-  where
-    both : is_none (path_fault path) ≡ true
-    both = (and_parts (is_utf8 path) (is_none (path_fault path)) e).1
-
-    by_empty : (x : Bool) → eqb (length path) 0 ≡ x → 1 ≤ length path
-    by_empty true is = let e2 = rw is at both in absurd cc
-    by_empty false is = grind (arith, nat_tests)
-
-    by_long : (x : Bool) → ltb max_path (length path) ≡ x → length path ≤ max_path
-    by_long true is = by_either (eqb (length path) 0) refl
-      where
-        by_either : (x : Bool) → eqb (length path) 0 ≡ x → length path ≤ max_path
-        by_either true also = let e2 = rw also at both in absurd cc
-        by_either false also = let e2 = rw (also, is) at both in absurd cc
-    by_long false is = grind (arith, nat_tests)
+path_fits path e =
+    let rows = rows_none path (is_nothing (path_fault path) (and_parts (is_utf8 path) (is_none (path_fault path)) e).1) in
+    record { low = grind (arith, nat_tests, rows.some); high = ltb-false max_path (length path) rows.short }
 
 -- ---- the entry that a text begins with
 
@@ -109,21 +98,19 @@ pub record IsPlace (t : List ℕ) (p : EndOrHead) : Type 0 where
 pub place_ok : (t : List ℕ) (p : EndOrHead) → end_or_head_at t ≡ Ok p → IsPlace t p
 unfolding end_or_head_at
 place_ok [] p e = absurd cc
-place_ok (b ∷ t) p e = by_first (eqb b 69) e
-  where
-    by_first : (x : Bool) → cond x (literal_at ending (b ∷ t) >>= λ rest. Ok (End rest)) (header_at (b ∷ t) >>= λ head. Ok (Entry head)) ≡ Ok p → IsPlace (b ∷ t) p
-    by_first true e =
-        let read = bind_ok (literal_at ending (b ∷ t)) (λ rest. Ok (End rest)) p e in
-        subst (λ (p : EndOrHead). IsPlace (b ∷ t) p) (ok_is (End read.0) p read.2) (record {
-          at_end = λ other same. literal_ok ending (b ∷ t) other (read.1 ∙ (let k : read.0 ≡ other = cc in rw k refl));
-          at_entry = λ head same. absurd cc;
-        })
-    by_first false e =
-        let read = bind_ok (header_at (b ∷ t)) (λ head. Ok (Entry head)) p e in
-        subst (λ (p : EndOrHead). IsPlace (b ∷ t) p) (ok_is (Entry read.0) p read.2) (record {
-          at_end = λ rest same. absurd cc;
-          at_entry = λ other same. header_ok (b ∷ t) other (read.1 ∙ (let k : read.0 ≡ other = cc in rw k refl));
-        })
+place_ok (b ∷ t) p e = by_Bool (eqb b 69)
+    (λ is.
+    let read = bind_ok (literal_at ending (b ∷ t)) (λ rest. Ok (End rest)) p (rw is at e) in
+    subst (λ (p : EndOrHead). IsPlace (b ∷ t) p) (ok_is (End read.0) p read.2) (record {
+      at_end = λ other same. literal_ok ending (b ∷ t) other (read.1 ∙ (let k : read.0 ≡ other = cc in rw k refl));
+      at_entry = λ head same. absurd cc;
+    }))
+    (λ is.
+    let read = bind_ok (header_at (b ∷ t)) (λ head. Ok (Entry head)) p (rw is at e) in
+    subst (λ (p : EndOrHead). IsPlace (b ∷ t) p) (ok_is (Entry read.0) p read.2) (record {
+      at_end = λ rest same. absurd cc;
+      at_entry = λ other same. header_ok (b ∷ t) other (read.1 ∙ (let k : read.0 ≡ other = cc in rw k refl));
+    }))
 
 -- what stands at an entry's place, from what the entry is
 pub record IsEntry (before t : List ℕ) (o : Option (File × List ℕ)) : Type 0 where

@@ -18,26 +18,20 @@ module _ (t : List ℕ) where
   -- what the text says is read, memory aside
   pub info_reads : (r : Result BagInfo InfoFault) → Gives named_info_fault pairs_in r (info_of t) → (pairs : List Pair) → SaysInfo t pairs → MatchResult r (λ info. pairs_in info ≡ pairs) (λ fault. fault ≡ Memory)
   info_reads (Ok info) g pairs is = same_ok (pairs_in info) pairs (info_of t) g ((info_said t pairs).1 is)
-  info_reads (Err fault) g pairs is = by_fault (fails fault (info_of t) g)
-    where
-      by_fault : (fault ≡ Memory) ⊎ (info_of t ≡ Err fault) → fault ≡ Memory
-      by_fault (inl e) = e
-      by_fault (inr e) = absurd (never_both pairs fault (info_of t) ((info_said t pairs).1 is) e)
+  info_reads (Err fault) g pairs is = elim (fails fault (info_of t) g) [
+    | inl e ↦ e
+    | inr e ↦ absurd (never_both pairs fault (info_of t) ((info_said t pairs).1 is) e)
+  ]
 
   -- a refusal names the first fault, memory aside
   pub info_refused : (r : Result BagInfo InfoFault) → Gives named_info_fault pairs_in r (info_of t) → IfErr r (λ fault. (fault ≡ Memory) ⊎ InfoFaultIs t fault)
   info_refused (Ok info) g = tt
-  info_refused (Err fault) g = by_fault (fails fault (info_of t) g)
-    where
-      by_fault : (fault ≡ Memory) ⊎ (info_of t ≡ Err fault) → (fault ≡ Memory) ⊎ InfoFaultIs t fault
-      by_fault (inl e) = inl e
-      by_fault (inr e) = inr ((info_fault t fault).0 e)
+  info_refused (Err fault) g = elim (fails fault (info_of t) g) [ inl e ↦ inl e | inr e ↦ inr ((info_fault t fault).0 e) ]
 
   -- the first fault is the answer, memory aside
   pub info_first : (r : Result BagInfo InfoFault) → Gives named_info_fault pairs_in r (info_of t) → (fault : InfoFault) → InfoFaultIs t fault → (r ≡ Err fault) ⊎ (r ≡ Err Memory)
   info_first (Ok info) g fault is = absurd (never_both (pairs_in info) fault (info_of t) g ((info_fault t fault).1 is))
-  info_first (Err other) g fault is = by_fault (fails other (info_of t) g)
-    where
-      by_fault : (other ≡ Memory) ⊎ (info_of t ≡ Err other) → (◌≡◌ {A = Result BagInfo InfoFault} (Err other) (Err fault)) ⊎ (◌≡◌ {A = Result BagInfo InfoFault} (Err other) (Err Memory))
-      by_fault (inl e) = inr (ap (λ (f : InfoFault). Err f) e)
-      by_fault (inr e) = inl (ap (λ (f : InfoFault). Err f) (same_err other fault (info_of t) e ((info_fault t fault).1 is)))
+  info_first (Err other) g fault is = elim (fails other (info_of t) g) [
+    | inl e ↦ inr (ap (λ (f : InfoFault). Err f) e)
+    | inr e ↦ inl (ap (λ (f : InfoFault). Err f) (same_err other fault (info_of t) e ((info_fault t fault).1 is)))
+  ]

@@ -1,7 +1,8 @@
 -- What `bag-info.txt` says, and its first fault.
-use Rattle.bag_text.proofs.FirstLemmas.{inl, inr, cases_Bool, false_from_ne_true, true_from_ne_false, false≢true, not-false, eqb-true, bind_ok, ok_unless, ok_is, never_both, ◌≡◌, one-add, ℕ, suc, ◌+◌, Bool, true, false, cond, eqb, not, ◌||◌, List, [], ◌∷◌, ◌++◌, length, take, drop, refl, sym, ap, subst, ◌∙◌, arith, append_assoc, ◌≢◌, Result, Ok, Err, ◌↔◌, list_any, list_all, position_or_len, flat_map, is_utf8, append-nil, and_parts, or_parts, nat_tests, list_any-append, is_blank, AreBlanks, has_mark, begins_with, skip_blanks, drop_last_blanks, lines, InfoFault, NoColon, EmptyLabel, StrayContinuation, Pair, begins_blank, is_colon, IsPairLine, AreGroups, SaysInfo, filled_lines, InfoFaultIs, ◌>>=◌, label_of, value_of, pair_of, extend_last, add_info_line, pairs_from, info_of, skipped, dropped, skip_front, drop_back, not_empty}
+use Rattle.bag_text.proofs.FirstLemmas.{inl, inr, cases_Bool, false_from_ne_true, true_from_ne_false, false≢true, not-false, eqb-true, bind_ok, ok_unless, ok_is, never_both, ◌≡◌, one-add, ℕ, suc, ◌+◌, true, false, cond, eqb, not, List, [], ◌∷◌, ◌++◌, length, take, drop, refl, sym, ap, subst, ◌∙◌, arith, append_assoc, ◌≢◌, Result, Ok, Err, ◌↔◌, list_any, list_all, position_or_len, flat_map, is_utf8, append-nil, and_parts, or_parts, nat_tests, list_any-append, is_blank, AreBlanks, has_mark, begins_with, skip_blanks, drop_last_blanks, lines, InfoFault, NoColon, EmptyLabel, StrayContinuation, Pair, begins_blank, is_colon, IsPairLine, AreGroups, SaysInfo, filled_lines, InfoFaultIs, ◌>>=◌, label_of, value_of, pair_of, extend_last, add_info_line, pairs_from, info_of, skipped, dropped, skip_front, drop_back, not_empty}
 use Rattle.bag_text.specs.declared.bag_info.InfoFault.TheVariants.{NotUtf8, ByteOrderMark, Memory}
 use Rattle.bag_text.specs.BagInfo.{IsReached}
+use Rattle.bag_text.proofs.CaseLemmas.{by_Bool, by_Result}
 
 -- ---- a line that is a pair
 
@@ -33,11 +34,9 @@ pub record HasColon (line : List ℕ) : Type 0 where
 
 pub has_colon : (line : List ℕ) → list_any is_colon line ≡ true → HasColon line
 has_colon [] e = absurd cc
-has_colon (b ∷ line) e = by_first (is_colon b) refl e (λ e. has_colon line e)
-  where
-    by_first : (x : Bool) → is_colon b ≡ x → (x || list_any is_colon line) ≡ true → (list_any is_colon line ≡ true → HasColon line) → HasColon (b ∷ line)
-    by_first true is e again = let colon : b ≡ 58 = grind (arith, nat_tests, is) in record { front = []; back = line; is = ap (λ (x : ℕ). x ∷ line) colon; no_colon = refl }
-    by_first false is e again = let h = again e in record { front = b ∷ h.front; back = h.back; is = ap (λ (x : List ℕ). b ∷ x) h.is; no_colon = rw is h.no_colon }
+has_colon (b ∷ line) e = by_Bool (is_colon b)
+    (λ is. let colon : b ≡ 58 = eqb-true b 58 is in record { front = []; back = line; is = ap (λ (x : ℕ). x ∷ line) colon; no_colon = refl })
+    (λ isnt. let h = has_colon line (rw isnt at e) in record { front = b ∷ h.front; back = h.back; is = ap (λ (x : List ℕ). b ∷ x) h.is; no_colon = rw isnt h.no_colon })
 
 -- blanks have no colon
 blanks_no_colon : (t : List ℕ) → AreBlanks t → list_any is_colon t ≡ false
@@ -266,7 +265,9 @@ going_again n init p [] [] (r ∷ rest) others is blank groups = absurd cc
 going_again n init p [] [] [] [] is blank groups = no_lines_left n (init ++ p ∷ []) ∙ ap (λ (q : Pair). Ok (init ++ q ∷ [])) (sym (longer_none p))
 going_again n init p [] [] [] (q ∷ others) is blank groups = absurd (let wrong = groups.4 in cc)
 going_again n init p (line ∷ ls) more rest others is blank groups =
-    unfolded_lines n (init ++ p ∷ []) line ls ∙ by_blank (list_all is_blank line) refl more rest others is blank groups (λ init p more rest others is blank groups. going_again (n + 1) init p ls more rest others is blank groups)
+    unfolded_lines n (init ++ p ∷ []) line ls ∙ by_Bool (list_all is_blank line)
+    (λ e. with_line n ls (add_blank n (init ++ p ∷ []) line e) ∙ going_again (n + 1) init p ls more rest others (rw e at is) blank groups)
+    (λ e. by_line e more rest others (rw e at is) blank groups (λ init p more rest others is blank groups. going_again (n + 1) init p ls more rest others is blank groups))
   where
     Again : Type 0
     Again = (init : List Pair) (p : Pair) (more rest : List (List ℕ)) (others : List Pair) → filled_lines ls ≡ more ++ rest → list_all begins_blank more ≡ true → AreGroups rest others → pairs_from (n + 1) (init ++ p ∷ []) ls ≡ Ok (init ++ longer p more ∷ others)
@@ -292,15 +293,13 @@ going_again n init p (line ∷ ls) more rest others is blank groups =
         ∙ ap (λ (v : List ℕ). Ok (init ++ p ∷ at q.label v ∷ others)) (sym says)
         ∙ ap (λ (x : Pair). Ok (init ++ x ∷ q ∷ others)) (sym (longer_none p))
 
-    by_blank : (x : Bool) → list_all is_blank line ≡ x → (more rest : List (List ℕ)) (others : List Pair) → cond (not x) (line ∷ filled_lines ls) (filled_lines ls) ≡ more ++ rest → list_all begins_blank more ≡ true → AreGroups rest others → Again → (add_info_line n (init ++ p ∷ []) line >>= λ now. pairs_from (n + 1) now ls) ≡ Ok (init ++ longer p more ∷ others)
-    by_blank true e more rest others is blank groups again = with_line n ls (add_blank n (init ++ p ∷ []) line e) ∙ again init p more rest others is blank groups
-    by_blank false e more rest others is blank groups again = by_line e more rest others is blank groups again
-
 -- lines that fall into groups are read
 groups_again : (n : ℕ) (ls : List (List ℕ)) (pairs : List Pair) → AreGroups (filled_lines ls) pairs → pairs_from n [] ls ≡ Ok pairs
 groups_again n [] [] groups = no_lines_left n []
 groups_again n [] (q ∷ others) groups = absurd (let wrong = groups.4 in cc)
-groups_again n (line ∷ ls) pairs groups = unfolded_lines n [] line ls ∙ by_blank (list_all is_blank line) refl pairs groups (λ groups. groups_again (n + 1) ls pairs groups)
+groups_again n (line ∷ ls) pairs groups = unfolded_lines n [] line ls ∙ by_Bool (list_all is_blank line)
+    (λ e. with_line n ls (add_blank n [] line e) ∙ groups_again (n + 1) ls pairs (rw e at groups))
+    (λ e. by_line e pairs (rw e at groups))
   where
     by_line : list_all is_blank line ≡ false → (pairs : List Pair) → AreGroups (line ∷ filled_lines ls) pairs → (add_info_line n [] line >>= λ now. pairs_from (n + 1) now ls) ≡ Ok pairs
     by_line full [] groups = absurd (let wrong : line ∷ filled_lines ls ≡ [] = groups in cc)
@@ -311,10 +310,6 @@ groups_again n (line ∷ ls) pairs groups = unfolded_lines n [] line ls ∙ by_b
         with_line n ls (add_other n [] line full (pair_again line q.label value here).not_blank ∙ added_again n [] line q.label value here)
         ∙ going_again (n + 1) [] (at q.label value) ls more left others tail begins groups
         ∙ ap (λ (v : List ℕ). Ok (at q.label v ∷ others)) (sym says)
-
-    by_blank : (x : Bool) → list_all is_blank line ≡ x → (pairs : List Pair) → AreGroups (cond (not x) (line ∷ filled_lines ls) (filled_lines ls)) pairs → (AreGroups (filled_lines ls) pairs → pairs_from (n + 1) [] ls ≡ Ok pairs) → (add_info_line n [] line >>= λ now. pairs_from (n + 1) now ls) ≡ Ok pairs
-    by_blank true e pairs groups again = with_line n ls (add_blank n [] line e) ∙ again groups
-    by_blank false e pairs groups again = by_line e pairs groups
 
 -- ---- the text
 
@@ -357,25 +352,25 @@ record StopsAt (n : ℕ) (before : List Pair) (ls : List (List ℕ)) (f : InfoFa
 
 stops : (n : ℕ) (before : List Pair) (ls : List (List ℕ)) (f : InfoFault) → pairs_from n before ls ≡ Err f → StopsAt n before ls f
 stops n before [] f e = let wrong = sym (no_lines_left n before) ∙ e in absurd cc
-stops n before (line ∷ ls) f e = by_line (add_info_line n before line) refl (sym (unfolded_lines n before line ls) ∙ e) (λ now e. stops (n + 1) now ls f e)
-  where
-    by_line : (r : Result (List Pair) InfoFault) → add_info_line n before line ≡ r → (r >>= λ now. pairs_from (n + 1) now ls) ≡ Err f → ((now : List Pair) → pairs_from (n + 1) now ls ≡ Err f → StopsAt (n + 1) now ls f) → StopsAt n before (line ∷ ls) f
-    by_line (Err g) is e again =
-        let here : n + 0 ≡ n = omega arith in
-        let same : g ≡ f = cc in
-        record { front = []; line = line; back = ls; now = before; is = refl; read = no_lines_left n before; fault = ap (λ (k : ℕ). add_info_line k before line) here ∙ is ∙ ap (λ (h : InfoFault). Err h) same }
-    by_line (Ok now) is e again =
-        let later = again now e in
-        let place : n + length (line ∷ later.front) ≡ n + 1 + length later.front = omega arith in
-        record {
-          front = line ∷ later.front;
-          line = later.line;
-          back = later.back;
-          now = later.now;
-          is = ap (λ (x : List (List ℕ)). line ∷ x) later.is;
-          read = unfolded_lines n before line later.front ∙ ap (λ (r : Result (List Pair) InfoFault). r >>= λ now. pairs_from (n + 1) now later.front) is ∙ later.read;
-          fault = ap (λ (k : ℕ). add_info_line k later.now later.line) place ∙ later.fault;
-        }
+stops n before (line ∷ ls) f e =
+    let read = sym (unfolded_lines n before line ls) ∙ e in
+    by_Result (add_info_line n before line)
+    (λ now is.
+    let later = stops (n + 1) now ls f (rw is at read) in
+    let place : n + length (line ∷ later.front) ≡ n + 1 + length later.front = omega arith in
+    record {
+      front = line ∷ later.front;
+      line = later.line;
+      back = later.back;
+      now = later.now;
+      is = ap (λ (x : List (List ℕ)). line ∷ x) later.is;
+      read = unfolded_lines n before line later.front ∙ ap (λ (r : Result (List Pair) InfoFault). r >>= λ now. pairs_from (n + 1) now later.front) is ∙ later.read;
+      fault = ap (λ (k : ℕ). add_info_line k later.now later.line) place ∙ later.fault;
+    })
+    (λ g is.
+    let here : n + 0 ≡ n = omega arith in
+    let same : g ≡ f = (let failed = rw is at read in cc) in
+    record { front = []; line = line; back = ls; now = before; is = refl; read = no_lines_left n before; fault = ap (λ (k : ℕ). add_info_line k before line) here ∙ is ∙ ap (λ (h : InfoFault). Err h) same })
 
 stops_again : (n : ℕ) (before : List Pair) (front : List (List ℕ)) (line : List ℕ) (back : List (List ℕ)) (now : List Pair) (f : InfoFault) → pairs_from n before front ≡ Ok now → add_info_line (n + length front) now line ≡ Err f → pairs_from n before (front ++ line ∷ back) ≡ Err f
 stops_again n before [] line back now f read fault =
@@ -411,38 +406,25 @@ row text f g e h = let same : g ≡ f = cc in subst (InfoFaultIs text) same h
 
 -- the fault of a line that is reached is a row of the table
 reached_fault : (text : List ℕ) (pairs : List Pair) (number : ℕ) (line : List ℕ) (f : InfoFault) → IsReached text pairs number line → add_info_line number pairs line ≡ Err f → InfoFaultIs text f
-reached_fault text pairs number line f reached e = by_begin (begins_blank line) refl
+reached_fault text pairs number line f reached e = by_Bool (begins_blank line) (λ is. stray pairs reached is e) (λ is.
+    let read = sym (add_other number pairs line reached.full is) ∙ e in
+    by_Bool (list_any is_colon line)
+    (λ colon. by_Bool (eqb (length (label_of line)) 0)
+    (λ none. row text f (EmptyLabel number) (rw (colon, none) at read) (pairs, line, reached, label_missing line is colon (empty_test (label_of line) none)))
+    (λ some. let wrong = rw (colon, some) at read in absurd cc))
+    (λ colon. row text f (NoColon number) (rw colon at read) (pairs, line, reached, is, colon)))
   where
     stray : (pairs : List Pair) → IsReached text pairs number line → begins_blank line ≡ true → add_info_line number pairs line ≡ Err f → InfoFaultIs text f
     stray [] reached is e = row text f (StrayContinuation number) (sym (add_stray number line reached.full is) ∙ e) (line, reached, is)
     stray (a ∷ ps) reached is e = let wrong = sym (add_longer number a ps line reached.full is) ∙ e in absurd cc
 
-    by_label : begins_blank line ≡ false → list_any is_colon line ≡ true → (x : Bool) → eqb (length (label_of line)) 0 ≡ x → (cond x (Err (EmptyLabel number)) (Ok (at (label_of line) (value_of line))) >>= λ pair. Ok (pairs ++ pair ∷ [])) ≡ Err f → InfoFaultIs text f
-    by_label is colon false none e = absurd cc
-    by_label is colon true none e = row text f (EmptyLabel number) e (pairs, line, reached, label_missing line is colon (empty_test (label_of line) none))
-
-    by_colon : begins_blank line ≡ false → (x : Bool) → list_any is_colon line ≡ x → (cond (not x) (Err (NoColon number)) (cond (eqb (length (label_of line)) 0) (Err (EmptyLabel number)) (Ok (at (label_of line) (value_of line)))) >>= λ pair. Ok (pairs ++ pair ∷ [])) ≡ Err f → InfoFaultIs text f
-    by_colon is false colon e = row text f (NoColon number) e (pairs, line, reached, is, colon)
-    by_colon is true colon e = by_label is colon (eqb (length (label_of line)) 0) refl e
-
-    by_begin : (x : Bool) → begins_blank line ≡ x → InfoFaultIs text f
-    by_begin true is = stray pairs reached is e
-    by_begin false is = by_colon is (list_any is_colon line) refl (sym (add_other number pairs line reached.full is) ∙ e)
-
 is_fault : (text : List ℕ) (f : InfoFault) → info_of text ≡ Err f → InfoFaultIs text f
-is_fault text f e = by_utf8 (is_utf8 text) refl
-  where
-    by_full : is_utf8 text ≡ true → has_mark text ≡ false → (h : StopsAt 1 [] (lines text) f) → (x : Bool) → list_all is_blank h.line ≡ x → InfoFaultIs text f
-    by_full utf8 unmarked h true is = let wrong = sym (add_blank (1 + length h.front) h.now h.line is) ∙ h.fault in absurd cc
-    by_full utf8 unmarked h false is = reached_fault text h.now (1 + length h.front) h.line f (record { utf8 = utf8; unmarked = unmarked; before = h.front; after = h.back; is = h.is; place = omega arith; said = groups_read 1 h.front h.now h.read; full = is }) h.fault
-
-    by_mark : is_utf8 text ≡ true → (x : Bool) → has_mark text ≡ x → InfoFaultIs text f
-    by_mark utf8 true is = row text f ByteOrderMark (sym (marked text utf8 is) ∙ e) (utf8, is)
-    by_mark utf8 false is = let h = stops 1 [] (lines text) f (sym (info_lines text utf8 is) ∙ e) in by_full utf8 is h (list_all is_blank h.line) refl
-
-    by_utf8 : (x : Bool) → is_utf8 text ≡ x → InfoFaultIs text f
-    by_utf8 false is = row text f NotUtf8 (sym (not_utf8 text is) ∙ e) is
-    by_utf8 true is = by_mark is (has_mark text) refl
+is_fault text f e = by_Bool (is_utf8 text)
+    (λ utf8. by_Bool (has_mark text) (λ is. row text f ByteOrderMark (sym (marked text utf8 is) ∙ e) (utf8, is)) (λ unmarked.
+    let h = stops 1 [] (lines text) f (sym (info_lines text utf8 unmarked) ∙ e) in
+    let full = false_from_ne_true (list_all is_blank h.line) (λ is. let wrong = sym (add_blank (1 + length h.front) h.now h.line is) ∙ h.fault in absurd cc) in
+    reached_fault text h.now (1 + length h.front) h.line f (record { utf8 = utf8; unmarked = unmarked; before = h.front; after = h.back; is = h.is; place = omega arith; said = groups_read 1 h.front h.now h.read; full = full }) h.fault))
+    (λ is. row text f NotUtf8 (sym (not_utf8 text is) ∙ e) is)
 
 -- a line that is reached and at fault is where reading stops
 reached_again : (text : List ℕ) (pairs : List Pair) (number : ℕ) (line : List ℕ) (f : InfoFault) → IsReached text pairs number line → add_info_line number pairs line ≡ Err f → info_of text ≡ Err f

@@ -1,9 +1,10 @@
 -- Reading the lines of `bag-info.txt`.
-use Rattle.bag_text.proofs.FirstLemmas.{inl, inr, cases_Bool, some_if, ok_unless, ok_is, ◌≡◌, one-add, ℕ, suc, zero, ◌+◌, ◌-◌, ◌<◌, ◌≤◌, Bool, true, false, cond, eqb, not, ◌||◌, List, [], ◌∷◌, ◌++◌, length, take, drop, refl, sym, ap, subst, ◌∙◌, ◌⊎◌, arith, append_assoc, Option, Some, None, Result, Ok, Err, Contains, list_any, list_all, position_or_len, AllByRecursion, option_to_list, is_utf8, IsCharBoundary, cow_str_bytes, IsUtf8-from_is_utf8, is_utf8-from_IsUtf8, IsUtf8-take, IsUtf8-drop, IsCharBoundary-after_ascii, prefix_len-le-length, append-nil, map_push, nil_from_length, same_Some, list_any-append, and_parts, or_parts, or_right, eqb-true, get_or-append_seam, take-append_seam, drop-append-add, take-length, is_blank, AreBlanks, skip_blanks, drop_last_blanks, is_end, lines, LF, CR, CRLF, end_bytes, EndsBefore, AreLines, InfoFault, NoColon, EmptyLabel, StrayContinuation, Pair, is_colon, begins_blank, ◌>>=◌, FailsAs, label_of, value_of, colon_cut, pair_of, extend_last, add_info_line, pairs_from, named_info_fault, CodePair, pair_in, pairs_of, has_line_feed, IsOwnedIfContinued, AreMarked, length-append, IsUtf8, fails_on, dropped}
+use Rattle.bag_text.proofs.FirstLemmas.{nat_tests, inl, inr, cases_Bool, some_if, ok_unless, ok_is, ◌≡◌, one-add, ℕ, suc, zero, ◌+◌, ◌-◌, ◌<◌, ◌≤◌, Bool, true, false, cond, eqb, not, ◌||◌, List, [], ◌∷◌, ◌++◌, length, take, drop, refl, sym, ap, subst, ◌∙◌, ◌⊎◌, arith, append_assoc, Option, Some, None, Result, Ok, Err, Contains, list_any, list_all, position_or_len, AllByRecursion, option_to_list, is_utf8, IsCharBoundary, cow_str_bytes, IsUtf8-from_is_utf8, is_utf8-from_IsUtf8, IsUtf8-take, IsUtf8-drop, IsCharBoundary-after_ascii, prefix_len-le-length, append-nil, map_push, nil_from_length, same_Some, list_any-append, and_parts, or_parts, or_right, get_or-append_seam, take-append_seam, drop-append-add, take-length, is_blank, AreBlanks, skip_blanks, drop_last_blanks, is_end, lines, LF, CR, CRLF, end_bytes, EndsBefore, AreLines, InfoFault, NoColon, EmptyLabel, StrayContinuation, Pair, is_colon, begins_blank, ◌>>=◌, FailsAs, label_of, value_of, colon_cut, pair_of, extend_last, add_info_line, pairs_from, named_info_fault, CodePair, pair_in, pairs_of, has_line_feed, IsOwnedIfContinued, AreMarked, length-append, IsUtf8, fails_on, dropped}
 use Rattle.bag_text.specs.Lines.{End}
 use Rattle.std.proofs.lemmas.List.Elements.{Contains-append_left, Contains-push_cases}
 use Rattle.bag_text.proofs.LineLemmas.{no_lines, are_lines}
 use Rattle.bag_text.proofs.InfoLemmas.{cut_again, has_colon, extended, some_pairs, unfolded_lines, no_lines_left}
+use Rattle.bag_text.proofs.CaseLemmas.{by_Bool}
 
 -- ---- the first colon
 
@@ -14,11 +15,9 @@ colon_fits line = prefix_len-le-length (λ b. not (is_colon b)) line
 -- where nothing stands from the first colon on, there is none
 pub no_colon_left : (line : List ℕ) → drop (position_or_len is_colon line) line ≡ [] → list_any is_colon line ≡ false
 no_colon_left [] e = refl
-no_colon_left (a ∷ line) e = by_first (is_colon a) refl (position_or_len is_colon line) e (λ e. no_colon_left line e)
-  where
-    by_first : (x : Bool) → is_colon a ≡ x → (n : ℕ) → drop (cond (not x) (1 + n) 0) (a ∷ line) ≡ [] → (drop n line ≡ [] → list_any is_colon line ≡ false) → (x || list_any is_colon line) ≡ false
-    by_first true is n e again = absurd cc
-    by_first false is n e again = again (ap (λ (k : ℕ). drop k (a ∷ line)) (sym (one-add n)) ∙ e)
+no_colon_left (a ∷ line) e = by_Bool (is_colon a)
+    (λ is. let wrong = rw is at e in absurd cc)
+    (λ isnt. rw isnt (no_colon_left line (rw (isnt, one-add) at e)))
 
 -- what stands from the first colon on begins with it
 pub colon_left : (line : List ℕ) (b : ℕ) (after : List ℕ) → drop (position_or_len is_colon line) line ≡ b ∷ after → (list_any is_colon line ≡ true) × (drop (position_or_len is_colon line + 1) line ≡ after)
@@ -66,11 +65,7 @@ cut_text a b c e small =
 
 -- a blank is an ASCII character
 blank_is_ascii : (b : ℕ) → is_blank b ≡ true → b < 128
-blank_is_ascii b e = by_space (eqb b 32) refl e
-  where
-    by_space : (x : Bool) → eqb b 32 ≡ x → (x || eqb b 9) ≡ true → b < 128
-    by_space true is e = let same = eqb-true b 32 is in omega (arith, same)
-    by_space false is e = let same = eqb-true b 9 e in omega (arith, same)
+blank_is_ascii b e = grind (arith, nat_tests)
 
 -- a text without its first blanks is text
 pub skipped_text : (t : List ℕ) → is_utf8 t ≡ true → is_utf8 (skip_blanks t) ≡ true
@@ -196,19 +191,15 @@ none_marked now is other in_now = let place = (subst (λ (x : List CodePair). Co
 
 -- pairs of which the last is another
 pub marked_last : (old init now : List CodePair) (last : Option CodePair) (kept next : CodePair) → old ≡ init ++ option_to_list last → last ≡ Some kept → now ≡ init ++ next ∷ [] → IsOwnedIfContinued next → AreMarked old → AreMarked now
-marked_last old init now last kept next is some now-is marked all other in_now = by_place (Contains-push_cases init next other (subst (λ (x : List CodePair). Contains x other) now-is in_now))
-  where
-    by_place : Contains init other ⊎ (next ≡ other) → IsOwnedIfContinued other
-    by_place (inl before) = all other (subst (λ (x : List CodePair). Contains x other) (sym (last_is old init last kept is some)) (Contains-append_left init (kept ∷ []) other before))
-    by_place (inr same) = subst IsOwnedIfContinued same marked
+marked_last old init now last kept next is some now-is marked all other in_now = elim (Contains-push_cases init next other (subst (λ (x : List CodePair). Contains x other) now-is in_now)) [
+  | inl before ↦ all other (subst (λ (x : List CodePair). Contains x other) (sym (last_is old init last kept is some)) (Contains-append_left init (kept ∷ []) other before))
+  | inr same ↦ subst IsOwnedIfContinued same marked
+]
 
 -- pairs and one more
 pub marked_more : (old now : List CodePair) (next : CodePair) → now ≡ old ++ next ∷ [] → IsOwnedIfContinued next → AreMarked old → AreMarked now
-marked_more old now next now-is marked all other in_now = by_place (Contains-push_cases old next other (subst (λ (x : List CodePair). Contains x other) now-is in_now))
-  where
-    by_place : Contains old other ⊎ (next ≡ other) → IsOwnedIfContinued other
-    by_place (inl before) = all other before
-    by_place (inr same) = subst IsOwnedIfContinued same marked
+marked_more old now next now-is marked all other in_now =
+    elim (Contains-push_cases old next other (subst (λ (x : List CodePair). Contains x other) now-is in_now)) [ inl before ↦ all other before | inr same ↦ subst IsOwnedIfContinued same marked ]
 
 -- a value of one line has no LF
 no_feed : (t : List ℕ) → list_any is_end t ≡ false → has_line_feed t ≡ false

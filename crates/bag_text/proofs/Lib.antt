@@ -1,4 +1,5 @@
 pub mod Common
+pub mod CaseLemmas
 pub mod ResultLemmas
 pub mod ElementLemmas
 pub mod LineLemmas

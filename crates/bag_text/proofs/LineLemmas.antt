@@ -1,7 +1,8 @@
 -- The first line of a text.
-use Rattle.bag_text.proofs.Common.{cases_Bool, cond_both, ◌≡◌, one-add, ℕ, subst, ◌<◌, ◌≤◌, Bool, true, false, cond, eqb, ltb, ◌&&◌, ◌||◌, not, List, [], ◌∷◌, ◌++◌, length, drop, refl, sym, ap, ◌∙◌, arith, ◌≢◌, ◌⊎◌, inl, inr, append_assoc, list_any, onto_first, position_or_len, position, Some, None, ltb-false, eqb-true, or_parts, prefix_len-le-length, length-drop, is_end, lines, LF, CR, CRLF, end_bytes, EndsBefore, AreLines, begins_with, unwrap_or}
+use Rattle.bag_text.proofs.Common.{nat_tests, cases_Bool, cond_both, ◌≡◌, one-add, ℕ, subst, ◌<◌, ◌≤◌, Bool, true, false, cond, eqb, ltb, ◌&&◌, not, List, [], ◌∷◌, ◌++◌, length, drop, refl, sym, ap, ◌∙◌, arith, ◌≢◌, ◌⊎◌, inl, inr, append_assoc, list_any, onto_first, position_or_len, position, ltb-false, eqb-true, or_parts, prefix_len-le-length, length-drop, is_end, lines, LF, CR, CRLF, end_bytes, EndsBefore, AreLines, begins_with, unwrap_or}
 use Rattle.bag_text.specs.Lines.{End}
 use Rattle.bag_text.specs.LineReading.{first_line, after_first_line, after_end_of}
+use Rattle.bag_text.proofs.CaseLemmas.{by_Bool}
 
 pub fits : (t : List ℕ) → position_or_len is_end t ≤ length t
 fits t = prefix_len-le-length (λ b. not (is_end b)) t
@@ -38,12 +39,10 @@ in_line b t e = unfolded b t ∙ rw (e, (or_parts (eqb b 10) (eqb b 13) e).1) re
 
 pub lines_step : (t : List ℕ) → 0 < length t → lines t ≡ first_line t ∷ lines (after_first_line t)
 lines_step [] h = absurd (omega arith)
-lines_step (b ∷ t) h = by_first (is_end b) refl t (λ k. lines_step t k)
-  where
-    by_first : (x : Bool) → is_end b ≡ x → (t : List ℕ) → (0 < length t → lines t ≡ first_line t ∷ lines (after_first_line t)) → lines (b ∷ t) ≡ first_line (b ∷ t) ∷ lines (after_first_line (b ∷ t))
-    by_first true e t step = rw e (at_end b t e)
-    by_first false e [] step = rw e (in_line b [] e ∙ rw lines_nil refl)
-    by_first false e (c ∷ t) step = rw (e, one-add (position_or_len is_end (c ∷ t))) (in_line b (c ∷ t) e ∙ ap (onto_first b) (step (omega arith)))
+lines_step (b ∷ []) h = by_Bool (is_end b) (λ e. rw e (at_end b [] e)) (λ e. rw e (in_line b [] e ∙ rw lines_nil refl))
+lines_step (b ∷ c ∷ t) h = by_Bool (is_end b)
+    (λ e. rw e (at_end b (c ∷ t) e))
+    (λ e. rw (e, one-add (position_or_len is_end (c ∷ t))) (in_line b (c ∷ t) e ∙ ap (onto_first b) (lines_step (c ∷ t) (omega arith))))
 
 pub shorter : (t : List ℕ) → 0 < length t → length (after_first_line t) < length t
 shorter t h = by_rest (drop (position_or_len is_end t) t) refl
@@ -56,11 +55,9 @@ shorter t h = by_rest (drop (position_or_len is_end t) t) refl
         omega arith
 
 pub found_or_len : (p : ℕ → Bool) (t : List ℕ) → unwrap_or (position p t) (length t) ≡ position_or_len p t
-found_or_len p t = by_test (ltb (position_or_len p t) (length t)) refl
-  where
-    by_test : (x : Bool) → ltb (position_or_len p t) (length t) ≡ x → unwrap_or (cond x (Some (position_or_len p t)) None) (length t) ≡ position_or_len p t
-    by_test true e = refl
-    by_test false e = let all : length t ≤ position_or_len p t = ltb-false _ _ e in omega (arith, prefix_len-le-length (λ b. not (p b)) t)
+found_or_len p t = by_Bool (ltb (position_or_len p t) (length t))
+    (λ e. rw e refl)
+    (λ e. let all : length t ≤ position_or_len p t = ltb-false _ _ e in rw e (omega (arith, prefix_len-le-length (λ b. not (p b)) t)))
 
 pub no_lines : (t : List ℕ) → length t ≡ 0 → lines t ≡ []
 no_lines [] e = lines_nil
@@ -113,20 +110,17 @@ onto b t (l ∷ ls) e (no_end, rest) = (rw e no_end, of_end rest)
 
 -- an end, and the lines of what stands after it
 behind_end : (b : ℕ) (t : List ℕ) (ls : List (List ℕ)) → is_end b ≡ true → AreLines (after_end_of (b ∷ t)) ls → AreLines (b ∷ t) ([] ∷ ls)
-behind_end b t ls e is = (refl, inr (by_cr (eqb b 13) refl is))
+behind_end b t ls e is = (
+  refl,
+  inr (by_Bool (eqb b 13)
+      (λ h. by_lf (eqb-true b 13 h) t (begins_with 10 t) refl (rw h at is))
+      (λ h. let lf : b ≡ 10 = grind (arith, nat_tests) in (LF, t, rw lf refl, tt, rw h at is))),
+)
   where
-    lf_alone : (x y : Bool) → (x || y) ≡ true → y ≡ false → x ≡ true
-    lf_alone true y h g = refl
-    lf_alone false y h g = absurd cc
-
     by_lf : b ≡ 13 → (t : List ℕ) (x : Bool) → begins_with 10 t ≡ x → AreLines (cond x (drop 1 t) t) ls → (e : End) × (rest : List ℕ) × (b ∷ t ≡ end_bytes e ++ rest) × EndsBefore e rest × AreLines rest ls
     by_lf cr [] true h is = absurd cc
     by_lf cr (c ∷ t) true h is = let lf : c ≡ 10 = eqb-true c 10 h in (CRLF, t, rw (cr, lf) refl, tt, is)
     by_lf cr t false h is = (CR, t, rw cr refl, h, is)
-
-    by_cr : (x : Bool) → eqb b 13 ≡ x → AreLines (cond (x && begins_with 10 t) (drop 1 t) t) ls → (e : End) × (rest : List ℕ) × (b ∷ t ≡ end_bytes e ++ rest) × EndsBefore e rest × AreLines rest ls
-    by_cr true h is = by_lf (eqb-true b 13 h) t (begins_with 10 t) refl is
-    by_cr false h is = let lf : b ≡ 10 = eqb-true b 10 (lf_alone (eqb b 10) (eqb b 13) e h) in (LF, t, rw lf refl, tt, is)
 
 -- one byte more
 one_more : (b : ℕ) (t : List ℕ) → AreLines t (lines t) → AreLines (drop 1 t) (lines (drop 1 t)) → AreLines (b ∷ t) (lines (b ∷ t))

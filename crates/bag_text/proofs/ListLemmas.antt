@@ -1,5 +1,6 @@
 -- The fault of a list of files that is computed is the one of the table, and none stands exactly in a bag.
-use Rattle.bag_text.proofs.FirstLemmas.{false_from_ne_true, some_if, ◌≡◌, ℕ, ◌+◌, ◌<◌, ◌≤◌, Bool, true, false, cond, ltb, leb, not, List, [], ◌∷◌, ◌++◌, length, refl, sym, ap, subst, ◌∙◌, arith, Option, Some, None, option_or, AllByRecursion, nat_tests, same_Some, SetFault, BadEntry, OutOfOrder, BadPath, TooManyFiles, PathClash, is_good, comes_before, File, max_content, max_files, Ascends, clashes, Fits, IsBag, last_path, IsFront, FileFault, ListFault, file_fault, fault_from, clash_fault, list_fault, ◌↔◌}
+use Rattle.bag_text.proofs.FirstLemmas.{false_from_ne_true, some_if, ◌≡◌, ℕ, ◌+◌, ◌<◌, ◌≤◌, Bool, true, false, cond, ltb, leb, not, List, [], ◌∷◌, ◌++◌, length, refl, sym, ap, subst, ◌∙◌, arith, Option, Some, None, AllByRecursion, nat_tests, same_Some, SetFault, BadEntry, OutOfOrder, BadPath, TooManyFiles, PathClash, is_good, comes_before, File, max_content, max_files, Ascends, clashes, Fits, IsBag, last_path, IsFront, FileFault, ListFault, file_fault, fault_from, list_fault, ◌↔◌}
+use Rattle.bag_text.proofs.CaseLemmas.{by_Option}
 
 abbrev pub some : SetFault → Option SetFault
 some f = Some f
@@ -71,14 +72,12 @@ pub record AreFine (place : ℕ) (before : List ℕ) (files : List File) : Type 
 pub from_none : (place : ℕ) (before : List ℕ) (files : List File) → place ≤ max_files → fault_from place before files ≡ None → AreFine place before files
 unfolding fault_from
 from_none place before [] few e = record { few = omega arith; each = tt; up = tt }
-from_none place before (f ∷ fs) few e = by_file (file_fault place before f) refl e (λ room e'. from_none (place + 1) f.path fs (omega arith) e')
-  where
-    by_file : (r : Option SetFault) → file_fault place before f ≡ r → option_or r (fault_from (place + 1) f.path fs) ≡ None → (place < max_files → fault_from (place + 1) f.path fs ≡ None → AreFine (place + 1) f.path fs) → AreFine place before (f ∷ fs)
-    by_file (Some g) is e again = absurd cc
-    by_file None is e again =
-        let fine = file_none place before f is in
-        let later = again fine.room e in
-        record { few = (let k = later.few in omega arith); each = (fine.fits, later.each); up = (fine.after, later.up) }
+from_none place before (f ∷ fs) few e = by_Option (file_fault place before f)
+    (λ is.
+    let fine = file_none place before f is in
+    let later = from_none (place + 1) f.path fs (let k = fine.room in omega arith) (rw is at e) in
+    record { few = (let k = later.few in omega arith); each = (fine.fits, later.each); up = (fine.after, later.up) })
+    (λ g is. let wrong = rw is at e in absurd cc)
 
 from_fine : (place : ℕ) (before : List ℕ) (files : List File) → AreFine place before files → fault_from place before files ≡ None
 unfolding fault_from
@@ -100,32 +99,31 @@ pub record FaultAt (place : ℕ) (before : List ℕ) (files : List File) (g : Se
 from_some : (place : ℕ) (before : List ℕ) (files : List File) (g : SetFault) → place ≤ max_files → fault_from place before files ≡ Some g → FaultAt place before files g
 unfolding fault_from
 from_some place before [] g few e = absurd cc
-from_some place before (f ∷ fs) g few e = by_file (file_fault place before f) refl e (λ room e'. from_some (place + 1) f.path fs g (omega arith) e')
-  where
-    by_file : (r : Option SetFault) → file_fault place before f ≡ r → option_or r (fault_from (place + 1) f.path fs) ≡ Some g → (place < max_files → fault_from (place + 1) f.path fs ≡ Some g → FaultAt (place + 1) f.path fs g) → FaultAt place before (f ∷ fs) g
-    by_file (Some h) is e again =
-        let same : place + 0 ≡ place = omega arith in
-        record {
-          front = [];
-          file = f;
-          rest = fs;
-          is = refl;
-          fine = record { few = omega arith; each = tt; up = tt };
-          fault = subst (λ (n : ℕ). FileFault n before f g) (sym same) (file_some place before f g (is ∙ e));
-        }
-    by_file None is e again =
-        let fine = file_none place before f is in
-        let later = again fine.room e in
-        let k = later.fine.few in
-        let same : place + 1 + length later.front ≡ place + length (f ∷ later.front) = omega arith in
-        record {
-          front = f ∷ later.front;
-          file = later.file;
-          rest = later.rest;
-          is = ap (λ (t : List File). f ∷ t) later.is;
-          fine = record { few = omega arith; each = (fine.fits, later.fine.each); up = (fine.after, later.fine.up) };
-          fault = subst (λ (n : ℕ). FileFault n (last_path f.path later.front) later.file g) same later.fault;
-        }
+from_some place before (f ∷ fs) g few e = by_Option (file_fault place before f)
+    (λ is.
+    let fine = file_none place before f is in
+    let later = from_some (place + 1) f.path fs g (let k = fine.room in omega arith) (rw is at e) in
+    let k = later.fine.few in
+    let same : place + 1 + length later.front ≡ place + length (f ∷ later.front) = omega arith in
+    record {
+      front = f ∷ later.front;
+      file = later.file;
+      rest = later.rest;
+      is = ap (λ (t : List File). f ∷ t) later.is;
+      fine = record { few = omega arith; each = (fine.fits, later.fine.each); up = (fine.after, later.fine.up) };
+      fault = subst (λ (n : ℕ). FileFault n (last_path f.path later.front) later.file g) same later.fault;
+    })
+    (λ h is.
+    let same : place + 0 ≡ place = omega arith in
+    let here : file_fault place before f ≡ Some g = is ∙ rw is at e in
+    record {
+      front = [];
+      file = f;
+      rest = fs;
+      is = refl;
+      fine = record { few = omega arith; each = tt; up = tt };
+      fault = subst (λ (n : ℕ). FileFault n before f g) (sym same) (file_some place before f g here);
+    })
 
 from_stands : (place : ℕ) (before : List ℕ) (front : List File) (file : File) (rest : List File) (g : SetFault) → AreFine place before front → FileFault (place + length front) (last_path before front) file g → fault_from place before (front ++ file ∷ rest) ≡ Some g
 unfolding fault_from
@@ -155,13 +153,11 @@ of_file files PathClash at = absurd at.fault
 of_file files g at = (at.front, at.file, at.rest, at.is, front_of at.front at.fine, subst (λ (place : ℕ). FileFault place (last_path [] at.front) at.file g) (from_zero (length at.front)) at.fault)
 
 list_some : (files : List File) (g : SetFault) → list_fault files ≡ Some g → ListFault files g
-list_some files g e = by_files (fault_from 0 [] files) refl e
-  where
-    by_files : (r : Option SetFault) → fault_from 0 [] files ≡ r → option_or r (clash_fault files) ≡ Some g → ListFault files g
-    by_files (Some h) is e = of_file files g (from_some 0 [] files g (omega arith) (is ∙ e))
-    by_files None is e =
-        let clash = some_if (clashes files) (Some PathClash) g e in
-        subst (λ (g : SetFault). ListFault files g) (same_Some PathClash g clash.1) (front_of files (from_none 0 [] files (omega arith) is), clash.0)
+list_some files g e = by_Option (fault_from 0 [] files)
+    (λ is.
+    let clash = some_if (clashes files) (Some PathClash) g (rw is at e) in
+    subst (λ (g : SetFault). ListFault files g) (same_Some PathClash g clash.1) (front_of files (from_none 0 [] files (omega arith) is), clash.0))
+    (λ h is. of_file files g (from_some 0 [] files g (omega arith) (is ∙ rw is at e)))
 
 listed_stands : (files : List File) (g : SetFault) (front : List File) (f : File) (rest : List File) → files ≡ front ++ f ∷ rest → IsFront front → FileFault (length front) (last_path [] front) f g → list_fault files ≡ Some g
 listed_stands files g front f rest is fine h =
@@ -178,14 +174,12 @@ pub list_fault_law : (files : List File) (fault : SetFault) → (list_fault file
 list_fault_law files fault = (list_some files fault, list_stands files fault)
 
 list_none : (files : List File) → list_fault files ≡ None → IsBag files
-list_none files e = by_files (fault_from 0 [] files) refl e
-  where
-    by_files : (r : Option SetFault) → fault_from 0 [] files ≡ r → option_or r (clash_fault files) ≡ None → IsBag files
-    by_files (Some h) is e = absurd cc
-    by_files None is e =
-        let front = front_of files (from_none 0 [] files (omega arith) is) in
-        let apart = false_from_ne_true (clashes files) (λ clash. let wrong = rw clash at e in absurd cc) in
-        record { few = front.few; each = front.each; ascending = front.ascending; apart = apart }
+list_none files e = by_Option (fault_from 0 [] files)
+    (λ is.
+    let front = front_of files (from_none 0 [] files (omega arith) is) in
+    let apart = false_from_ne_true (clashes files) (λ clash. let wrong = rw (is, clash) at e in absurd cc) in
+    record { few = front.few; each = front.each; ascending = front.ascending; apart = apart })
+    (λ h is. let wrong = rw is at e in absurd cc)
 
 bag_stands : (files : List File) → IsBag files → list_fault files ≡ None
 bag_stands files bag = rw (from_fine 0 [] files (fine_of files (record { few = bag.few; each = bag.each; ascending = bag.ascending })), bag.apart) refl

@@ -1,7 +1,8 @@
 -- The entries of a manifest, line after line.
-use Rattle.bag_text.proofs.FirstLemmas.{cases_Bool, ◌≡◌, ℕ, zero, suc, ◌+◌, ◌-◌, ◌<◌, ◌≤◌, Bool, true, false, cond, List, [], ◌∷◌, ◌++◌, length, refl, sym, ap, subst, ◌∙◌, ◌⊎◌, inl, inr, arith, Some, is_some, slice_get, AllByRecursion, Ordering, Less, Equal, Greater, nat_cmp, match_ordering, is_eq, is_lt, ordering_reverse, slice_cmp, insert_entry, is_at, lookup, cases_lt, bytes_eq-Decides, same_Some, slice_get_within, length_push, comes_before, AscendingPaths, Entries, is_path_listed, map, nat_list_cmp_total, is_eq-slice_cmp, Has, slice_get-append, slice_get_last}
+use Rattle.bag_text.proofs.FirstLemmas.{cases_Bool, ◌≡◌, ℕ, zero, suc, ◌+◌, ◌-◌, ◌<◌, ◌≤◌, true, false, List, [], ◌∷◌, ◌++◌, length, refl, sym, ap, subst, ◌∙◌, ◌⊎◌, inl, inr, arith, Some, slice_get, AllByRecursion, Ordering, nat_cmp, is_eq, is_lt, ordering_reverse, slice_cmp, insert_entry, cases_lt, bytes_eq-Decides, same_Some, slice_get_within, length_push, comes_before, AscendingPaths, Entries, is_path_listed, map, nat_list_cmp_total, is_eq-slice_cmp, Has, slice_get-append, slice_get_last}
 use Rattle.bag_text.specs.ManifestReading.{Entry}
 use Rattle.bag_text.proofs.OrderLemmas.{less}
+use Rattle.bag_text.proofs.CaseLemmas.{by_Bool, by_Ordering}
 
 -- ---- places in a list of lines
 
@@ -37,17 +38,13 @@ at_last xs line ys = let n : length xs + 1 - 1 ≡ length xs = omega arith in (o
 
 -- a line of a list with one more is of the list, or that one
 pub at_push : (xs : List (List ℕ)) (last : List ℕ) (n : ℕ) (line : List ℕ) → At (xs ++ last ∷ []) n line → At xs n line ⊎ ((n ≡ length xs + 1) × (last ≡ line))
-at_push xs last n line at = by_order (cases_lt n (length xs + 1))
-  where
-    all : length (xs ++ last ∷ []) ≡ length xs + 1
-    all = length_push xs last
-
-    by_order : (n < length xs + 1) ⊎ (length xs + 1 ≤ n) → At xs n line ⊎ ((n ≡ length xs + 1) × (last ≡ line))
-    by_order (inl lt) = inl (at_back xs (last ∷ []) n line lt at)
-    by_order (inr le) =
-        let within = at_within (xs ++ last ∷ []) n line at in
-        let is : n ≡ length xs + 1 = omega (arith, all) in
-        inr (is, at_same (xs ++ last ∷ []) n last line (subst (λ (m : ℕ). At (xs ++ last ∷ []) m last) (sym is) (at_last xs last [])) at)
+at_push xs last n line at = elim (cases_lt n (length xs + 1)) [
+  | inl lt ↦ inl (at_back xs (last ∷ []) n line lt at)
+  | inr le ↦
+      let within = at_within (xs ++ last ∷ []) n line at in
+      let is : n ≡ length xs + 1 = omega (arith, length_push xs last) in
+      inr (is, at_same (xs ++ last ∷ []) n last line (subst (λ (m : ℕ). At (xs ++ last ∷ []) m last) (sym is) (at_last xs last [])) at)
+]
 
 -- ---- looking a path up
 
@@ -66,11 +63,9 @@ itself p = is_eq-slice_cmp p p ∙ (bytes_eq-Decides p p).1 refl
 -- a listed path has an entry
 pub listed_has : (path : List ℕ) (es : Entries) → is_path_listed path es ≡ true → (entry : Entry) × Has es (path, entry)
 listed_has path [] e = absurd cc
-listed_has path (f ∷ es) e = by_test (is_eq (order path f.0)) refl e (λ h. listed_has path es h)
-  where
-    by_test : (x : Bool) → is_eq (order path f.0) ≡ x → is_some (cond x (Some f.1) (lookup (is_at (order path)) es)) ≡ true → (is_path_listed path es ≡ true → (entry : Entry) × Has es (path, entry)) → (entry : Entry) × Has (f ∷ es) (path, entry)
-    by_test true is e again = (f.1, inl (ap (λ (p : List ℕ). (p, f.1)) (sym (same_path path f.0 is))))
-    by_test false is e again = let found = again e in (found.0, inr found.1)
+listed_has path (f ∷ es) e = by_Bool (is_eq (order path f.0))
+    (λ is. (f.1, inl (ap (λ (p : List ℕ). (p, f.1)) (sym (same_path path f.0 is)))))
+    (λ is. let found = listed_has path es (rw is at e) in (found.0, inr found.1))
 
 -- an entry's path is listed
 pub has_listed : (path : List ℕ) (entry : Entry) (es : Entries) → Has es (path, entry) → is_path_listed path es ≡ true
@@ -90,34 +85,29 @@ put es path entry = insert_entry order es path entry
 -- the new entry is there
 pub put_new : (es : Entries) (path : List ℕ) (entry : Entry) → is_path_listed path es ≡ false → Has (put es path entry) (path, entry)
 put_new [] path entry new = inl refl
-put_new (f ∷ es) path entry new = by_order (order path f.0) new (λ h. put_new es path entry h)
-  where
-    by_order : (o : Ordering) → is_some (cond (is_eq o) (Some f.1) (lookup (is_at (order path)) es)) ≡ false → (is_path_listed path es ≡ false → Has (put es path entry) (path, entry)) → Has (match_ordering o ((path, entry) ∷ f ∷ es) ((f.0, entry) ∷ es) (f ∷ put es path entry)) (path, entry)
-    by_order Less new again = inl refl
-    by_order Equal new again = absurd cc
-    by_order Greater new again = inr (again new)
+put_new (f ∷ es) path entry new = by_Ordering (order path f.0)
+    (λ is. rw is (inl refl))
+    (λ is. let wrong = rw is at new in absurd cc)
+    (λ is. rw is (inr (put_new es path entry (rw is at new))))
 
 -- the other entries stay
 pub put_old : (es : Entries) (path : List ℕ) (entry : Entry) (x : List ℕ × Entry) → is_path_listed path es ≡ false → Has es x → Has (put es path entry) x
 put_old [] path entry x new h = absurd h
-put_old (f ∷ es) path entry x new h = by_order (order path f.0) new h (λ n k. put_old es path entry x n k)
-  where
-    by_order : (o : Ordering) → is_some (cond (is_eq o) (Some f.1) (lookup (is_at (order path)) es)) ≡ false → Has (f ∷ es) x → (is_path_listed path es ≡ false → Has es x → Has (put es path entry) x) → Has (match_ordering o ((path, entry) ∷ f ∷ es) ((f.0, entry) ∷ es) (f ∷ put es path entry)) x
-    by_order Less new h again = inr h
-    by_order Equal new h again = absurd cc
-    by_order Greater new (inl e) again = inl e
-    by_order Greater new (inr h) again = inr (again new h)
+put_old (f ∷ es) path entry x new h = by_Ordering (order path f.0)
+    (λ is. rw is (inr h))
+    (λ is. let wrong = rw is at new in absurd cc)
+    (λ is. rw is (elim h [ inl e ↦ inl e | inr h ↦ inr (put_old es path entry x (rw is at new) h) ]))
 
 -- each entry is the new one or was there
 pub put_cases : (es : Entries) (path : List ℕ) (entry : Entry) (x : List ℕ × Entry) → is_path_listed path es ≡ false → Has (put es path entry) x → ((path, entry) ≡ x) ⊎ Has es x
 put_cases [] path entry x new h = h
-put_cases (f ∷ es) path entry x new h = by_order (order path f.0) new h (λ n k. put_cases es path entry x n k)
-  where
-    by_order : (o : Ordering) → is_some (cond (is_eq o) (Some f.1) (lookup (is_at (order path)) es)) ≡ false → Has (match_ordering o ((path, entry) ∷ f ∷ es) ((f.0, entry) ∷ es) (f ∷ put es path entry)) x → (is_path_listed path es ≡ false → Has (put es path entry) x → ((path, entry) ≡ x) ⊎ Has es x) → ((path, entry) ≡ x) ⊎ Has (f ∷ es) x
-    by_order Less new h again = h
-    by_order Equal new h again = absurd cc
-    by_order Greater new (inl e) again = inr (inl e)
-    by_order Greater new (inr h) again = elim (again new h) [ inl e ↦ inl e | inr h ↦ inr (inr h) ]
+put_cases (f ∷ es) path entry x new h = by_Ordering (order path f.0)
+    (λ is. rw is at h)
+    (λ is. let wrong = rw is at new in absurd cc)
+    (λ is. elim (rw is at h) [
+      | inl e ↦ inr (inl e)
+      | inr h ↦ elim (put_cases es path entry x (rw is at new) h) [ inl e ↦ inl e | inr h ↦ inr (inr h) ]
+    ])
 
 -- ---- the paths ascend
 
@@ -137,21 +127,15 @@ later_still p q (r ∷ rs) e all = (ap is_lt (nat_list_cmp_total.trans p q r (le
 -- what holds of a new path and of all others
 all_put : (P : List ℕ → Type 0) (es : Entries) (path : List ℕ) (entry : Entry) → P path → AllByRecursion P (paths_in es) → AllByRecursion P (paths_in (put es path entry))
 all_put P [] path entry one all = (one, tt)
-all_put P (f ∷ es) path entry one all = by_order (order path f.0) (all_put P es path entry one all.1)
-  where
-    by_order : (o : Ordering) → AllByRecursion P (paths_in (put es path entry)) → AllByRecursion P (paths_in (match_ordering o ((path, entry) ∷ f ∷ es) ((f.0, entry) ∷ es) (f ∷ put es path entry)))
-    by_order Less again = (one, all)
-    by_order Equal again = all
-    by_order Greater again = (all.0, again)
+all_put P (f ∷ es) path entry one all =
+    by_Ordering (order path f.0) (λ is. rw is (one, all)) (λ is. rw is all) (λ is. rw is (all.0, all_put P es path entry one all.1))
 
 -- the paths still ascend
 pub put_ascends : (es : Entries) (path : List ℕ) (entry : Entry) → is_path_listed path es ≡ false → AscendingPaths (paths_in es) → AscendingPaths (paths_in (put es path entry))
 put_ascends [] path entry new up = (tt, tt)
-put_ascends (f ∷ es) path entry new up = by_order (order path f.0) refl new (λ n. put_ascends es path entry n up.1)
-  where
-    by_order : (o : Ordering) → order path f.0 ≡ o → is_some (cond (is_eq o) (Some f.1) (lookup (is_at (order path)) es)) ≡ false → (is_path_listed path es ≡ false → AscendingPaths (paths_in (put es path entry))) → AscendingPaths (paths_in (match_ordering o ((path, entry) ∷ f ∷ es) ((f.0, entry) ∷ es) (f ∷ put es path entry)))
-    by_order Less is new again = let first : IsLater path f.0 = ap is_lt is in ((first, later_still path f.0 (paths_in es) first up.0), up)
-    by_order Equal is new again = absurd cc
-    by_order Greater is new again =
-        let first : IsLater f.0 path = ap is_lt (nat_list_cmp_total.antisymm f.0 path ∙ ap ordering_reverse is) in
-        (all_put (IsLater f.0) es path entry first up.0, again new)
+put_ascends (f ∷ es) path entry new up = by_Ordering (order path f.0)
+    (λ is. let first : IsLater path f.0 = ap is_lt is in rw is ((first, later_still path f.0 (paths_in es) first up.0), up))
+    (λ is. let wrong = rw is at new in absurd cc)
+    (λ is.
+    let first : IsLater f.0 path = ap is_lt (nat_list_cmp_total.antisymm f.0 path ∙ ap ordering_reverse is) in
+    rw is (all_put (IsLater f.0) es path entry first up.0, put_ascends es path entry (rw is at new) up.1))

@@ -1,5 +1,5 @@
 -- What is read of a manifest's text is what its lines list, and a refusal is its first fault.
-use Rattle.bag_text.proofs.FirstLemmas.{cases_Bool, ◌≡◌, ℕ, suc, ◌-◌, ◌<◌, Bool, true, false, cond, List, [], ◌∷◌, length, refl, sym, ap, subst, ◌∙◌, ◌⊎◌, inl, inr, arith, Option, Some, None, Result, Ok, Err, IfOk, IfErr, IfSome, is_ok, is_some, ◌↔◌, option_map, Contains, result_ok, is_utf8, nat_cmp, is_eq, slice_cmp, is_at, lookup, cow_str_bytes, IsBorrowedStr, false≢true, true≢false, cases_order, same_Some, slice_get_within, slice_get_read, get_or_from_slice_get, decode_sized, FromHexError, Version, Algorithm, Checksum, LineFault, BadChecksum, NoPath, ListedTwice, AreBlanks, has_mark, begins_with, lines, GoodPath, is_good, Spells, decode, has_coded, size_of, checksum_of, IsEntry, LineIs, as_manifest, ListsOn, LineLists, Lists, IsManifest, AscendingPaths, sum_text, path_text, IsReached, ManifestFault, FailsAs, Gives, Entries, checksum_in, path_spelled, entry_of, manifest_of, is_owned, entry_in, entries_in, paths_of, HasEntry, HasPath, listing_at, named_line_fault, map, Global, CowStr, Sha256, Sha512, Listing, never_both, same_err, good_read, spells_decoded, spelled_is_decoded, Has, contains_has, has_contains, has_map, map_has, NotUtf8, ByteOrderMark}
+use Rattle.bag_text.proofs.FirstLemmas.{false_from_ne_true, cases_Bool, ◌≡◌, ℕ, suc, ◌-◌, ◌<◌, Bool, true, false, List, [], ◌∷◌, length, refl, sym, ap, subst, ◌∙◌, ◌⊎◌, inl, inr, arith, Option, Some, None, Result, Ok, Err, IfOk, IfErr, IfSome, is_ok, is_some, ◌↔◌, Contains, is_utf8, nat_cmp, is_eq, slice_cmp, is_at, lookup, cow_str_bytes, IsBorrowedStr, false≢true, true≢false, cases_order, same_Some, slice_get_within, slice_get_read, get_or_from_slice_get, decode_sized, Version, Algorithm, Checksum, LineFault, BadChecksum, NoPath, ListedTwice, AreBlanks, has_mark, begins_with, lines, GoodPath, is_good, Spells, decode, has_coded, size_of, checksum_of, IsEntry, LineIs, as_manifest, ListsOn, LineLists, Lists, IsManifest, AscendingPaths, sum_text, path_text, IsReached, ManifestFault, FailsAs, Gives, Entries, checksum_in, path_spelled, entry_of, manifest_of, is_owned, entry_in, entries_in, paths_of, HasEntry, HasPath, listing_at, named_line_fault, map, Global, CowStr, Sha256, Sha512, Listing, never_both, same_err, good_read, spells_decoded, spelled_is_decoded, Has, contains_has, has_contains, has_map, map_has, NotUtf8, ByteOrderMark}
 use Rattle.bag_text.specs.declared.listing.LineFault.TheVariants.{BadPath, Memory}
 use Rattle.bag_text.specs.ManifestReading.{Entry}
 use Rattle.std.specs.declared.borrow.CowStr.TheVariants as text
@@ -7,6 +7,7 @@ use Rattle.bag_text.specs.declared.listing.Manifest.{Manifest}
 use Rattle.bag_text.proofs.ManifestLineLemmas.{reads_bad_checksum, reads_no_path, reads_bad_path, entry_reads}
 use Rattle.bag_text.proofs.ManifestEntryLemmas.{At, at_same, same_path, itself}
 use Rattle.bag_text.proofs.ManifestReadLemmas.{IsSomeEntry, one_path_a_line, IsOutcome, manifest_outcome}
+use Rattle.bag_text.proofs.CaseLemmas.{by_Bool, by_Option, by_Result}
 
 -- a text spells a path exactly where it is decoded to it
 pub spells_iff : (v : Version) (s p : List ℕ) → Spells v s p ↔ (decode v s ≡ p)
@@ -27,29 +28,20 @@ record LineRow (v : Version) (a : Algorithm) (text : List ℕ) (fault : LineFaul
 
 -- where no checksum stands, none is read
 no_checksum : (a : Algorithm) (digits : List ℕ) → is_ok (decode_sized digits (size_of a)) ≡ false → checksum_in a digits ≡ None
-no_checksum a digits e = of_result (decode_sized digits (size_of a)) e
-  where
-    of_result : (r : Result (List ℕ) FromHexError) → is_ok r ≡ false → option_map (checksum_of a) (result_ok r) ≡ None
-    of_result (Ok bytes) e = absurd cc
-    of_result (Err f) e = refl
+no_checksum a digits e =
+    by_Result (decode_sized digits (size_of a)) (λ bytes is. let wrong = rw is at e in absurd cc) (λ f is. rw is refl)
 
 -- where a checksum stands, one is read
 a_checksum : (a : Algorithm) (digits : List ℕ) → is_ok (decode_sized digits (size_of a)) ≡ true → (c : Checksum) × (checksum_in a digits ≡ Some c)
-a_checksum a digits e = of_result (decode_sized digits (size_of a)) e
-  where
-    of_result : (r : Result (List ℕ) FromHexError) → is_ok r ≡ true → (c : Checksum) × (option_map (checksum_of a) (result_ok r) ≡ Some c)
-    of_result (Ok bytes) e = (checksum_of a bytes, refl)
-    of_result (Err f) e = absurd cc
+a_checksum a digits e =
+    by_Result (decode_sized digits (size_of a)) (λ bytes is. (checksum_of a bytes, rw is refl)) (λ f is. let wrong = rw is at e in absurd cc)
 
 -- what spells no good path is not read
 no_path_of : (v : Version) (spelled : List ℕ) → (begins_with 42 spelled ≡ true) ⊎ ((path : List ℕ) × Spells v spelled path × (GoodPath path → ⊥)) → path_spelled v spelled ≡ None
 no_path_of v spelled (inl star) = rw star refl
-no_path_of v spelled (inr (path, spells, bad)) = by_tests (begins_with 42 spelled) (is_good (decode v spelled)) refl
-  where
-    by_tests : (star good : Bool) → is_good (decode v spelled) ≡ good → cond star None (cond {A = Option (List ℕ × Bool)} good (Some (decode v spelled, has_coded v spelled)) None) ≡ None
-    by_tests true good g = refl
-    by_tests false true g = absurd (bad (good_read path (subst (λ (p : List ℕ). is_good p ≡ true) (spelled_is_decoded v spelled path spells) g)))
-    by_tests false false g = refl
+no_path_of v spelled (inr (path, spells, bad)) =
+    let none = false_from_ne_true (is_good (decode v spelled)) (λ g. bad (good_read path (subst (λ (p : List ℕ). is_good p ≡ true) (spelled_is_decoded v spelled path spells) g))) in
+    by_Bool (begins_with 42 spelled) (λ star. rw star refl) (λ star. rw (star, none) refl)
 
 -- a fault of the table is of a line that is reached
 as_row : (v : Version) (a : Algorithm) (text : List ℕ) (fault : LineFault) → is_utf8 text ≡ true → has_mark text ≡ false → ManifestFault v a text fault → LineRow v a text fault
@@ -86,17 +78,15 @@ same_row v a text number line f g (listed_again first path one two is lt lists e
 
 -- a text has one first fault
 two_rows : (v : Version) (a : Algorithm) (text : List ℕ) (f g : LineFault) → LineRow v a text f → LineRow v a text g → f ≡ g
-two_rows v a text f g x y = by_order (cases_order x.number y.number)
+two_rows v a text f g x y = elim (cases_order x.number y.number) [
+  | inl same ↦
+      let line : x.line ≡ y.line = at_same (lines text) y.number x.line y.line (subst (λ (n : ℕ). LineIs text n x.line) same x.reached.is) y.reached.is in
+      same_row v a text y.number y.line f g (subst (λ (l : List ℕ). RowAt v a text y.number l f) line (subst (λ (n : ℕ). RowAt v a text n x.line f) same x.row)) y.row
+  | inr other ↦ elim other [ inl lt ↦ absurd (earlier f g x y lt) | inr lt ↦ absurd (earlier g f y x lt) ]
+]
   where
     earlier : (f g : LineFault) (x : LineRow v a text f) (y : LineRow v a text g) → x.number < y.number → ⊥
     earlier f g x y lt = no_row v a text f x (y.reached.before.each x.number x.line lt x.reached.is) (λ first path one two before l m. y.reached.before.once first x.number path one two before lt l m)
-
-    by_order : (x.number ≡ y.number) ⊎ ((x.number < y.number) ⊎ (y.number < x.number)) → f ≡ g
-    by_order (inr (inl lt)) = absurd (earlier f g x y lt)
-    by_order (inr (inr lt)) = absurd (earlier g f y x lt)
-    by_order (inl same) =
-        let line : x.line ≡ y.line = at_same (lines text) y.number x.line y.line (subst (λ (n : ℕ). LineIs text n x.line) same x.reached.is) y.reached.is in
-        same_row v a text y.number y.line f g (subst (λ (l : List ℕ). RowAt v a text y.number l f) line (subst (λ (n : ℕ). RowAt v a text n x.line f) same x.row)) y.row
 
 -- ---- the text
 
@@ -107,32 +97,28 @@ read_is_manifest v a text es e =
     let outcome = subst (λ (r : Result Entries LineFault). IsOutcome v a text r) e (manifest_outcome v a text) in
     record { utf8 = outcome.0; unmarked = outcome.1; each = outcome.2.each; once = outcome.2.once }
 
--- a manifest is read
-pub manifest_is_read : (v : Version) (a : Algorithm) (text : List ℕ) → IsManifest v a text → (es : Entries) × (manifest_of v a text ≡ Ok es)
-unfolding IsOutcome
-manifest_is_read v a text is = by_outcome (manifest_of v a text) refl (manifest_outcome v a text)
-  where
-    by_outcome : (r : Result Entries LineFault) → manifest_of v a text ≡ r → IsOutcome v a text r → (es : Entries) × (manifest_of v a text ≡ Ok es)
-    by_outcome (Ok es) e outcome = (es, e)
-    by_outcome (Err fault) e outcome =
-        let row = as_row v a text fault is.utf8 is.unmarked outcome in
-        absurd (no_row v a text fault row (is.each row.number row.line row.reached.is) (λ first path one two lt l m. is.once first row.number path one two lt l m))
-
 -- a refusal is the first fault
 pub refused_is_fault : (v : Version) (a : Algorithm) (text : List ℕ) (fault : LineFault) → manifest_of v a text ≡ Err fault → ManifestFault v a text fault
 unfolding IsOutcome
 refused_is_fault v a text fault e = subst (λ (r : Result Entries LineFault). IsOutcome v a text r) e (manifest_outcome v a text)
 
+-- a manifest is read
+pub manifest_is_read : (v : Version) (a : Algorithm) (text : List ℕ) → IsManifest v a text → (es : Entries) × (manifest_of v a text ≡ Ok es)
+manifest_is_read v a text is = by_Result (manifest_of v a text)
+    (λ es e. (es, e))
+    (λ fault e.
+    let row = as_row v a text fault is.utf8 is.unmarked (refused_is_fault v a text fault e) in
+    absurd (no_row v a text fault row (is.each row.number row.line row.reached.is) (λ first path one two lt l m. is.once first row.number path one two lt l m)))
+
 -- a line at fault is refused so
 row_is_refused : (v : Version) (a : Algorithm) (text : List ℕ) (fault : LineFault) → LineRow v a text fault → manifest_of v a text ≡ Err fault
-unfolding IsOutcome
-row_is_refused v a text fault row = by_outcome (manifest_of v a text) refl (manifest_outcome v a text)
-  where
-    by_outcome : (r : Result Entries LineFault) → manifest_of v a text ≡ r → IsOutcome v a text r → manifest_of v a text ≡ Err fault
-    by_outcome (Ok es) e outcome = absurd (no_row v a text fault row (outcome.2.each row.number row.line row.reached.is) (λ first path one two lt l m. outcome.2.once first row.number path one two lt l m))
-    by_outcome (Err other) e outcome =
-        let same : other ≡ fault = two_rows v a text other fault (as_row v a text other row.reached.utf8 row.reached.unmarked outcome) row in
-        e ∙ ap (λ (f : LineFault). Err f) same
+row_is_refused v a text fault row = by_Result (manifest_of v a text)
+    (λ es e.
+    let is = read_is_manifest v a text es e in
+    absurd (no_row v a text fault row (is.each row.number row.line row.reached.is) (λ first path one two lt l m. is.once first row.number path one two lt l m)))
+    (λ other e.
+    let same : other ≡ fault = two_rows v a text other fault (as_row v a text other row.reached.utf8 row.reached.unmarked (refused_is_fault v a text other e)) row in
+    e ∙ ap (λ (f : LineFault). Err f) same)
 
 -- the first fault is the refusal
 pub fault_is_refused : (v : Version) (a : Algorithm) (text : List ℕ) (fault : LineFault) → ManifestFault v a text fault → manifest_of v a text ≡ Err fault
@@ -275,11 +261,10 @@ module _ (v : Version) (a : Algorithm) (t : List ℕ) where
   -- a manifest is read, memory aside
   pub says_reads : (r : Result Manifest LineFault) → Gives named_line_fault entries_in r (manifest_of v a t) → IsManifest v a t → IfErr r (λ fault. fault ≡ Memory)
   says_reads (Ok m) g is = tt
-  says_reads (Err fault) g is = by_fault (fails fault (manifest_of v a t) g)
-    where
-      by_fault : (fault ≡ Memory) ⊎ (manifest_of v a t ≡ Err fault) → fault ≡ Memory
-      by_fault (inl e) = e
-      by_fault (inr e) = let read = manifest_is_read v a t is in absurd (never_both read.0 fault (manifest_of v a t) read.1 e)
+  says_reads (Err fault) g is = elim (fails fault (manifest_of v a t) g) [
+    | inl e ↦ e
+    | inr e ↦ let read = manifest_is_read v a t is in absurd (never_both read.0 fault (manifest_of v a t) read.1 e)
+  ]
 
   -- the entries are what the lines list
   pub says_lists : (r : Result Manifest LineFault) → Gives named_line_fault entries_in r (manifest_of v a t) → IfOk r (λ m. (path : List ℕ) (checksum : Checksum) (line : ℕ) → HasEntry m path checksum line ↔ LineLists (as_manifest v a t) line path checksum)
@@ -307,11 +292,10 @@ module _ (v : Version) (a : Algorithm) (t : List ℕ) where
   -- the first fault is the answer, memory aside
   pub says_fault : (r : Result Manifest LineFault) → Gives named_line_fault entries_in r (manifest_of v a t) → (fault : LineFault) → ManifestFault v a t fault → (r ≡ Err fault) ⊎ (r ≡ Err Memory)
   says_fault (Ok m) g fault is = absurd (never_both (entries_in m) fault (manifest_of v a t) g (fault_is_refused v a t fault is))
-  says_fault (Err other) g fault is = by_fault (fails other (manifest_of v a t) g)
-    where
-      by_fault : (other ≡ Memory) ⊎ (manifest_of v a t ≡ Err other) → (◌≡◌ {A = Result Manifest LineFault} (Err other) (Err fault)) ⊎ (◌≡◌ {A = Result Manifest LineFault} (Err other) (Err Memory))
-      by_fault (inl e) = inr (ap (λ (f : LineFault). Err f) e)
-      by_fault (inr e) = inl (ap (λ (f : LineFault). Err f) (same_err other fault (manifest_of v a t) e (fault_is_refused v a t fault is)))
+  says_fault (Err other) g fault is = elim (fails other (manifest_of v a t) g) [
+    | inl e ↦ inr (ap (λ (f : LineFault). Err f) e)
+    | inr e ↦ inl (ap (λ (f : LineFault). Err f) (same_err other fault (manifest_of v a t) e (fault_is_refused v a t fault is)))
+  ]
 
 -- ---- looking a path up in a manifest
 
@@ -326,11 +310,9 @@ HasKey path xs listing = (key : CowStr Global) × Has xs (key, listing) × (cow_
 -- what is found is an entry
 found_has : (path : List ℕ) (xs : List (CowStr Global × Listing)) (listing : Listing) → found path xs ≡ Some listing → HasKey path xs listing
 found_has path [] listing e = absurd cc
-found_has path (x ∷ xs) listing e = by_test (is_eq (slice_cmp nat_cmp path (cow_str_bytes x.0))) refl e (λ h. found_has path xs listing h)
-  where
-    by_test : (t : Bool) → is_eq (slice_cmp nat_cmp path (cow_str_bytes x.0)) ≡ t → cond t (Some x.1) (found path xs) ≡ Some listing → (found path xs ≡ Some listing → HasKey path xs listing) → HasKey path (x ∷ xs) listing
-    by_test true is e again = (x.0, inl (ap (λ (l : Listing). (x.0, l)) (same_Some x.1 listing e)), sym (same_path path (cow_str_bytes x.0) is))
-    by_test false is e again = let rest = again e in (rest.0, inr rest.1, rest.2)
+found_has path (x ∷ xs) listing e = by_Bool (is_eq (slice_cmp nat_cmp path (cow_str_bytes x.0)))
+    (λ is. (x.0, inl (ap (λ (l : Listing). (x.0, l)) (same_Some x.1 listing (rw is at e))), sym (same_path path (cow_str_bytes x.0) is)))
+    (λ is. let rest = found_has path xs listing (rw is at e) in (rest.0, inr rest.1, rest.2))
 
 -- an entry is found
 has_found : (path : List ℕ) (xs : List (CowStr Global × Listing)) (key : CowStr Global) (listing : Listing) → Has xs (key, listing) → cow_str_bytes key ≡ path → is_some (found path xs) ≡ true
@@ -350,11 +332,12 @@ listing_is_entry m path (Some listing) e =
 
 -- a manifest says something of a path exactly where it has an entry of it
 pub listing_iff : (m : Manifest) (path : List ℕ) → (is_some (listing_at path m) ≡ true) ↔ HasPath m path
-listing_iff m path = (by_option (listing_at path m) refl, there)
+listing_iff m path = (here, there)
   where
-    by_option : (r : Option Listing) → r ≡ listing_at path m → is_some (listing_at path m) ≡ true → HasPath m path
-    by_option None e some = absurd (false≢true (ap is_some e ∙ some))
-    by_option (Some listing) e some = (listing.checksum, listing.line, listing_is_entry m path (Some listing) e)
+    here : is_some (listing_at path m) ≡ true → HasPath m path
+    here some = by_Option (listing_at path m)
+        (λ e. absurd (false≢true (sym (ap is_some e) ∙ some)))
+        (λ listing e. (listing.checksum, listing.line, listing_is_entry m path (Some listing) (sym e)))
 
     there : HasPath m path → is_some (listing_at path m) ≡ true
     there (checksum, line, entry) = has_found path m.entries.entries entry.0 (record { checksum = checksum; line = line }) (contains_has m.entries.entries (entry.0, record { checksum = checksum; line = line }) entry.1) entry.2

@@ -1,7 +1,8 @@
 -- Spelled paths.
-use Rattle.bag_text.proofs.Common.{inl, inr, cases_Bool, ◌≡◌, ℕ, ◌+◌, ◌≤◌, true, false, cond, not, List, [], ◌∷◌, ◌++◌, length, refl, sym, ap, subst, ◌∙◌, append_assoc, Option, Some, None, list_all, position_or_len, and_parts, or_parts, prefix_len-le-length, append-nil, same_Some, Version, is_none, is_some, Result, Ok, Err, Ordering, Less, Equal, Greater, nat_cmp, match_ordering, is_eq, slice_cmp, insert_entry, is_at, lookup, cow_str_bytes, Algorithm, LineFault, ListedTwice, lines, is_utf8, path_fault, is_good, is_blank, coded_character, leading_escape, has_coded, Spells, nothing, triple, itself, decode, FailsAs, next_char, Entries, entry_in, is_path_listed, entry_of, add_line_of, entries_of, named_line_fault, map, CowStr, Global, Listing}
+use Rattle.bag_text.proofs.Common.{inl, inr, cases_Bool, ◌≡◌, ℕ, ◌+◌, ◌≤◌, true, false, not, List, [], ◌∷◌, ◌++◌, length, refl, sym, ap, subst, ◌∙◌, append_assoc, Option, Some, None, list_all, position_or_len, and_parts, or_parts, prefix_len-le-length, append-nil, same_Some, Version, is_none, is_some, Result, Ok, Err, Ordering, nat_cmp, slice_cmp, insert_entry, is_at, lookup, cow_str_bytes, Algorithm, LineFault, ListedTwice, lines, is_utf8, path_fault, is_good, is_blank, coded_character, leading_escape, has_coded, Spells, nothing, triple, itself, decode, FailsAs, next_char, Entries, entry_in, is_path_listed, entry_of, add_line_of, entries_of, named_line_fault, map, CowStr, Global, Listing}
 use Rattle.bag_text.proofs.ResultLemmas.{no_value, fails_on}
 use Rattle.bag_text.proofs.LineLemmas.{no_lines}
+use Rattle.bag_text.proofs.CaseLemmas.{by_Ordering}
 
 pub sum_fits : (line : List ℕ) → position_or_len is_blank line ≤ length line
 sum_fits line = prefix_len-le-length (λ b. not (is_blank b)) line
@@ -88,12 +89,10 @@ compare x y = slice_cmp nat_cmp (cow_str_bytes x) (cow_str_bytes y)
 -- a new path goes to its place
 pub inserted : (es : List (CowStr Global × Listing)) (k : CowStr Global) (v : Listing) → is_path_listed (cow_str_bytes k) (map entry_in es) ≡ false → map entry_in (insert_entry compare es k v) ≡ insert_entry (slice_cmp nat_cmp) (map entry_in es) (cow_str_bytes k) (entry_in (k, v)).1
 inserted [] k v new = refl
-inserted (e ∷ es) k v new = by_order (compare k e.0) new (λ h. inserted es k v h)
-  where
-    by_order : (o : Ordering) → is_some (cond (is_eq o) (Some (entry_in e).1) (lookup (is_at (slice_cmp nat_cmp (cow_str_bytes k))) (map entry_in es))) ≡ false → (is_path_listed (cow_str_bytes k) (map entry_in es) ≡ false → map entry_in (insert_entry compare es k v) ≡ insert_entry (slice_cmp nat_cmp) (map entry_in es) (cow_str_bytes k) (entry_in (k, v)).1) → map entry_in (match_ordering o ((k, v) ∷ e ∷ es) ((e.0, v) ∷ es) (e ∷ insert_entry compare es k v)) ≡ match_ordering o (entry_in (k, v) ∷ entry_in e ∷ map entry_in es) ((cow_str_bytes e.0, (entry_in (k, v)).1) ∷ map entry_in es) (entry_in e ∷ insert_entry (slice_cmp nat_cmp) (map entry_in es) (cow_str_bytes k) (entry_in (k, v)).1)
-    by_order Less h again = refl
-    by_order Equal h again = absurd cc
-    by_order Greater h again = ap (λ (rest : Entries). entry_in e ∷ rest) (again h)
+inserted (e ∷ es) k v new = by_Ordering (compare k e.0)
+    (λ is. rw is refl)
+    (λ is. let wrong = rw is at new in absurd cc)
+    (λ is. rw is (ap (λ (rest : Entries). entry_in e ∷ rest) (inserted es k v (rw is at new))))
 
 pub looked_up : (es : List (CowStr Global × Listing)) (k : CowStr Global) → is_some (lookup (is_at (compare k)) es) ≡ is_path_listed (cow_str_bytes k) (map entry_in es)
 looked_up [] k = refl

@@ -1,9 +1,11 @@
 -- What one line of a manifest lists, read and as a relation.
-use Rattle.bag_text.proofs.FirstLemmas.{inl, inr, cases_Bool, false_from_ne_true, ok_if, ok_unless, ◌≡◌, one-add, ℕ, zero, suc, ◌+◌, ◌*◌, ◌/◌, ◌%◌, Bool, true, false, cond, eqb, not, List, [], ◌∷◌, ◌++◌, length, take, drop, refl, sym, ap, subst, ◌∙◌, ◌⊎◌, append_assoc, Option, Some, None, Result, Ok, Err, option_map, list_any, list_all, position_or_len, result_ok, eqb-true, or_cases, or_parts, and_parts, or_from, take-append-drop, take_at, drop_at, same_Some, drop-nil, decode_sized, decode_pairs, hex_digit_value, digit_or_error, FromHexError, Version, Algorithm, Checksum, BadChecksum, NoPath, is_blank, begins_with, skip_blanks, GoodPath, is_good, Spells, has_coded, decode, size_of, checksum_of, IsEntry, sum_text, path_text, good_of, path_spelled, checksum_in, entry_of, ◌≢◌, good_read, good_again, not_empty, spells_decoded, spelled_is_decoded}
+use Rattle.bag_text.proofs.FirstLemmas.{inl, inr, cases_Bool, false_from_ne_true, ok_if, ok_unless, ◌≡◌, one-add, ℕ, zero, suc, ◌+◌, ◌*◌, ◌/◌, ◌%◌, Bool, true, false, cond, eqb, List, [], ◌∷◌, ◌++◌, length, take, drop, refl, sym, ap, subst, ◌∙◌, ◌⊎◌, append_assoc, Option, Some, None, Result, Ok, Err, list_any, list_all, position_or_len, eqb-true, or_cases, or_parts, and_parts, or_from, take-append-drop, take_at, drop_at, same_Some, drop-nil, decode_sized, decode_pairs, hex_digit_value, digit_or_error, FromHexError, Version, Algorithm, Checksum, BadChecksum, NoPath, is_blank, begins_with, skip_blanks, GoodPath, is_good, Spells, has_coded, decode, size_of, checksum_of, IsEntry, sum_text, path_text, good_of, path_spelled, checksum_in, entry_of, ◌≢◌, good_read, good_again, not_empty, spells_decoded, spelled_is_decoded}
 use Rattle.hex.specs.Hex.{◌>>=◌}
 use Rattle.bag_text.specs.declared.listing.LineFault.TheVariants.{BadPath}
 use Rattle.bag_text.specs.ManifestReading.{Entry}
 use Rattle.hex.specs.declared.error.FromHexError.TheVariants.{OddLength, InvalidStringLength}
+use Rattle.bag_text.proofs.CaseLemmas.{by_Bool, by_Option, by_Result}
+use Rattle.bag_text.proofs.ResultLemmas.{some_if}
 
 -- ---- the three parts of a line
 
@@ -31,11 +33,9 @@ skipped_twice (b ∷ t) = elim (cases_Bool (is_blank b)) [ inl e ↦ rw e (skipp
 -- what stands after the digits begins with a blank
 blank_first : (t : List ℕ) → drop (position_or_len is_blank t) t ≢ [] → first_blanks (drop (position_or_len is_blank t) t) ≢ []
 blank_first [] some = absurd (some refl)
-blank_first (b ∷ t) some = by_test (is_blank b) refl some (blank_first t)
-  where
-    by_test : (x : Bool) → is_blank b ≡ x → drop (cond (not x) (1 + position_or_len is_blank t) 0) (b ∷ t) ≢ [] → (drop (position_or_len is_blank t) t ≢ [] → first_blanks (drop (position_or_len is_blank t) t) ≢ []) → first_blanks (drop (cond (not x) (1 + position_or_len is_blank t) 0) (b ∷ t)) ≢ []
-    by_test true e some again = rw e (λ h. absurd cc)
-    by_test false e some again = rw one-add (again (rw one-add at some))
+blank_first (b ∷ t) some = by_Bool (is_blank b)
+    (λ e. rw e (rw e (λ h. absurd cc)))
+    (λ e. rw (e, one-add) (blank_first t (rw (e, one-add) at some)))
 
 -- where the digits end
 digits_end : (digits : List ℕ) (b : ℕ) (t : List ℕ) → list_any is_blank digits ≡ false → is_blank b ≡ true → position_or_len is_blank (digits ++ b ∷ t) ≡ length digits
@@ -142,19 +142,13 @@ pub data LineView (v : Version) (a : Algorithm) (line : List ℕ) : Type 0 where
 
 -- each line goes one of the four ways
 pub line_view : (v : Version) (a : Algorithm) (line : List ℕ) → LineView v a line
-line_view v a line = of_sum (checksum_in a (sum_text line)) refl
+line_view v a line = by_Option (checksum_in a (sum_text line)) (λ e. bad_checksum e) (λ c e. of_text c e (path_text line) refl)
   where
-    of_path : (c : Checksum) → checksum_in a (sum_text line) ≡ Some c → path_text line ≢ [] → (o : Option (List ℕ × Bool)) → path_spelled v (path_text line) ≡ o → LineView v a line
-    of_path c is some None e = bad_path c is some e
-    of_path c is some (Some p) e = sound c p is some e
-
     of_text : (c : Checksum) → checksum_in a (sum_text line) ≡ Some c → (s : List ℕ) → path_text line ≡ s → LineView v a line
     of_text c is [] e = no_path c is e
-    of_text c is (b ∷ s) e = of_path c is (λ none. let both : b ∷ s ≡ [] = sym e ∙ none in absurd cc) (path_spelled v (path_text line)) refl
-
-    of_sum : (o : Option Checksum) → checksum_in a (sum_text line) ≡ o → LineView v a line
-    of_sum None e = bad_checksum e
-    of_sum (Some c) e = of_text c e (path_text line) refl
+    of_text c is (b ∷ s) e =
+        let some = λ (none : path_text line ≡ []). let both : b ∷ s ≡ [] = sym e ∙ none in absurd cc in
+        by_Option (path_spelled v (path_text line)) (λ none. bad_path c is some none) (λ p found. sound c p is some found)
 
 -- a line without its checksum
 pub reads_bad_checksum : (v : Version) (a : Algorithm) (n : ℕ) (line : List ℕ) → checksum_in a (sum_text line) ≡ None → entry_of v a n line ≡ Err (BadChecksum n)
@@ -209,11 +203,9 @@ record ChecksumRead (a : Algorithm) (digits : List ℕ) (c : Checksum) : Type 0 
 
 -- a checksum that was read
 checksum_parts : (a : Algorithm) (digits : List ℕ) (c : Checksum) → checksum_in a digits ≡ Some c → ChecksumRead a digits c
-checksum_parts a digits c e = of_result (decode_sized digits (size_of a)) refl e
-  where
-    of_result : (r : Result (List ℕ) FromHexError) → decode_sized digits (size_of a) ≡ r → option_map (checksum_of a) (result_ok r) ≡ Some c → ChecksumRead a digits c
-    of_result (Ok bytes) is e = record { bytes = bytes; is = sym (same_Some (checksum_of a bytes) c e); checked = is }
-    of_result (Err f) is e = absurd cc
+checksum_parts a digits c e = by_Result (decode_sized digits (size_of a))
+    (λ bytes is. record { bytes = bytes; is = sym (same_Some (checksum_of a bytes) c (rw is at e)); checked = is })
+    (λ f is. let wrong = rw is at e in absurd cc)
 
 -- what was read of a spelled path
 record PathRead (v : Version) (spelled : List ℕ) (p : List ℕ × Bool) : Type 0 where
@@ -223,12 +215,9 @@ record PathRead (v : Version) (spelled : List ℕ) (p : List ℕ × Bool) : Type
 
 -- a path that was read
 path_parts : (v : Version) (spelled : List ℕ) (p : List ℕ × Bool) → path_spelled v spelled ≡ Some p → PathRead v spelled p
-path_parts v spelled p e = by_tests (begins_with 42 spelled) refl (is_good (decode v spelled)) refl e
-  where
-    by_tests : (star : Bool) → begins_with 42 spelled ≡ star → (good : Bool) → is_good (decode v spelled) ≡ good → cond star None (cond good (Some (decode v spelled, has_coded v spelled)) None) ≡ Some p → PathRead v spelled p
-    by_tests true s good g e = absurd cc
-    by_tests false s false g e = absurd cc
-    by_tests false s true g e = record { no_star = s; is = sym (same_Some (decode v spelled, has_coded v spelled) p e); good = good_read (decode v spelled) g }
+path_parts v spelled p e = by_Bool (begins_with 42 spelled) (λ star. let wrong = rw star at e in absurd cc) (λ star.
+    let read = some_if (is_good (decode v spelled)) (Some (decode v spelled, has_coded v spelled)) p (rw star at e) in
+    record { no_star = star; is = sym (same_Some (decode v spelled, has_coded v spelled) p read.1); good = good_read (decode v spelled) read.0 })
 
 -- an entry was read of a line that lists its path
 pub record EntryRead (v : Version) (a : Algorithm) (line path : List ℕ) (entry : Entry) : Type 0 where

@@ -1,9 +1,10 @@
 -- Reading the lines of a manifest, against what they list.
-use Rattle.bag_text.proofs.FirstLemmas.{◌≡◌, ℕ, ◌+◌, ◌<◌, Bool, true, false, cond, not, List, [], ◌∷◌, ◌++◌, length, refl, sym, ap, subst, ◌∙◌, ◌⊎◌, inl, inr, arith, append_assoc, Option, Some, None, Result, Ok, Err, is_ok, option_map, list_all, result_ok, is_utf8, insert_entry, nat_cmp, slice_cmp, false≢true, append-nil, length_push, decode_sized, FromHexError, Version, Algorithm, Checksum, LineFault, BadChecksum, NoPath, ListedTwice, is_blank, AreBlanks, has_mark, begins_with, lines, GoodPath, is_good, Spells, decode, has_coded, size_of, checksum_of, IsEntry, LineIs, as_manifest, ListsOn, IsSoundBefore, AscendingPaths, sum_text, path_text, IsReached, ManifestFault, ◌>>=◌, Entries, checksum_in, path_spelled, entry_of, is_path_listed, add_line_of, entries_of, manifest_of, ok_is, good_again, spells_decoded, spelled_is_decoded, Has, NotUtf8, ByteOrderMark}
+use Rattle.bag_text.proofs.FirstLemmas.{◌≡◌, ℕ, ◌+◌, ◌<◌, Bool, true, false, cond, not, List, [], ◌∷◌, ◌++◌, length, refl, sym, ap, subst, ◌∙◌, ◌⊎◌, inl, inr, arith, append_assoc, Some, None, Result, Ok, Err, is_ok, list_all, is_utf8, insert_entry, nat_cmp, slice_cmp, false≢true, append-nil, length_push, decode_sized, Version, Algorithm, Checksum, LineFault, BadChecksum, NoPath, ListedTwice, is_blank, AreBlanks, has_mark, begins_with, lines, GoodPath, Spells, decode, size_of, IsEntry, LineIs, as_manifest, ListsOn, IsSoundBefore, AscendingPaths, sum_text, path_text, IsReached, ManifestFault, ◌>>=◌, Entries, checksum_in, path_spelled, entry_of, is_path_listed, add_line_of, entries_of, manifest_of, ok_is, good_again, spells_decoded, spelled_is_decoded, Has, NotUtf8, ByteOrderMark}
 use Rattle.bag_text.specs.declared.listing.LineFault.TheVariants.{BadPath}
 use Rattle.bag_text.specs.ManifestReading.{Entry}
 use Rattle.bag_text.proofs.ManifestLineLemmas.{LineView, bad_checksum, no_path, bad_path, sound, line_view, reads_bad_checksum, reads_no_path, reads_bad_path, reads_sound, EntryRead, sound_entry, blank_is_no_entry, entry_digits, entry_spelled}
 use Rattle.bag_text.proofs.ManifestEntryLemmas.{At, at_front, at_within, at_back, at_last, at_push, listed_has, has_listed, put_new, put_old, put_cases, put_ascends, paths_in}
+use Rattle.bag_text.proofs.CaseLemmas.{by_Bool, by_Result}
 
 -- some path and checksum that a line lists
 abbrev pub IsSomeEntry : Version → Algorithm → List ℕ → Type 0
@@ -47,19 +48,15 @@ no_lines_sound v a = record {
 module _ (v : Version) (a : Algorithm) (ls : List (List ℕ)) (line : List ℕ) where
   -- what a line of the longer list is
   each_more : ((n : ℕ) (l : List ℕ) → At ls n l → AreBlanks l ⊎ IsSomeEntry v a l) → AreBlanks line ⊎ IsSomeEntry v a line → (n : ℕ) (l : List ℕ) → At (ls ++ line ∷ []) n l → AreBlanks l ⊎ IsSomeEntry v a l
-  each_more each last n l at = by_place (at_push ls line n l at)
-    where
-      by_place : At ls n l ⊎ ((n ≡ length ls + 1) × (line ≡ l)) → AreBlanks l ⊎ IsSomeEntry v a l
-      by_place (inl before) = each n l before
-      by_place (inr (is, same)) = subst (λ (x : List ℕ). AreBlanks x ⊎ IsSomeEntry v a x) same last
+  each_more each last n l at =
+      elim (at_push ls line n l at) [ inl before ↦ each n l before | inr new ↦ subst (λ (x : List ℕ). AreBlanks x ⊎ IsSomeEntry v a x) new.1 last ]
 
   -- what lists a path on the longer list
   lists_cases : (n : ℕ) (path checksum : List ℕ) → ListsAt v a (ls ++ line ∷ []) n path checksum → ListsAt v a ls n path checksum ⊎ ((n ≡ length ls + 1) × IsEntry v a line path checksum)
-  lists_cases n path checksum (l, at, entry) = by_place (at_push ls line n l at)
-    where
-      by_place : At ls n l ⊎ ((n ≡ length ls + 1) × (line ≡ l)) → ListsAt v a ls n path checksum ⊎ ((n ≡ length ls + 1) × IsEntry v a line path checksum)
-      by_place (inl before) = inl (l, before, entry)
-      by_place (inr (is, same)) = inr (is, subst (λ (x : List ℕ). IsEntry v a x path checksum) (sym same) entry)
+  lists_cases n path checksum (l, at, entry) = elim (at_push ls line n l at) [
+    | inl before ↦ inl (l, before, entry)
+    | inr new ↦ inr (new.0, subst (λ (x : List ℕ). IsEntry v a x path checksum) (sym new.1) entry)
+  ]
 
   once_more : ((first second : ℕ) (path one two : List ℕ) → first < second → ListsAt v a ls first path one → ListsAt v a ls second path two → ⊥)
       → ((n : ℕ) (path one two : List ℕ) → ListsAt v a ls n path one → IsEntry v a line path two → ⊥)
@@ -81,13 +78,10 @@ blank_more v a ls line es before blank = record {
   each = each_more v a ls line before.each (inl blank);
   once = once_more v a ls line before.once (λ n path one two l e. blank_is_no_entry v a line path two blank e);
   read = λ path entry h. read_before v a ls line path entry (before.read path entry h);
-  listed = λ n path checksum l. by_place n path checksum (lists_cases v a ls line n path checksum l);
+  listed = λ n path checksum l.
+      elim (lists_cases v a ls line n path checksum l) [ inl l ↦ before.listed n path checksum l | inr new ↦ absurd (blank_is_no_entry v a line path checksum blank new.1) ];
   ascending = before.ascending;
 }
-  where
-    by_place : (n : ℕ) (path checksum : List ℕ) → ListsAt v a ls n path checksum ⊎ ((n ≡ length ls + 1) × IsEntry v a line path checksum) → HasOn es path n
-    by_place n path checksum (inl l) = before.listed n path checksum l
-    by_place n path checksum (inr (is, e)) = absurd (blank_is_no_entry v a line path checksum blank e)
 
 -- a line lists one path
 pub one_path_a_line : (v : Version) (a : Algorithm) (line p q one two : List ℕ) → IsEntry v a line p one → IsEntry v a line q two → (p ≡ q) × (one ≡ two)
@@ -158,28 +152,18 @@ module _ (v : Version) (a : Algorithm) (text : List ℕ) (ls more : List (List �
 
 -- whether a checksum stands
 has_none : (a : Algorithm) (digits : List ℕ) → checksum_in a digits ≡ None → is_ok (decode_sized digits (size_of a)) ≡ false
-has_none a digits e = of_result (decode_sized digits (size_of a)) e
-  where
-    of_result : (r : Result (List ℕ) FromHexError) → option_map (checksum_of a) (result_ok r) ≡ None → is_ok r ≡ false
-    of_result (Ok bytes) e = absurd cc
-    of_result (Err f) e = refl
+has_none a digits e =
+    by_Result (decode_sized digits (size_of a)) (λ bytes is. let wrong = rw is at e in absurd cc) (λ f is. rw is refl)
 
 -- where a checksum was read, one stands
 has_some : (a : Algorithm) (digits : List ℕ) (c : Checksum) → checksum_in a digits ≡ Some c → is_ok (decode_sized digits (size_of a)) ≡ true
-has_some a digits c e = of_result (decode_sized digits (size_of a)) e
-  where
-    of_result : (r : Result (List ℕ) FromHexError) → option_map (checksum_of a) (result_ok r) ≡ Some c → is_ok r ≡ true
-    of_result (Ok bytes) e = refl
-    of_result (Err f) e = absurd cc
+has_some a digits c e =
+    by_Result (decode_sized digits (size_of a)) (λ bytes is. rw is refl) (λ f is. let wrong = rw is at e in absurd cc)
 
 -- what is wrong with a path that can't be read
 bad_spelling : (v : Version) (spelled : List ℕ) → path_spelled v spelled ≡ None → (begins_with 42 spelled ≡ true) ⊎ ((path : List ℕ) × Spells v spelled path × (GoodPath path → ⊥))
-bad_spelling v spelled e = by_tests (begins_with 42 spelled) refl (is_good (decode v spelled)) refl e
-  where
-    by_tests : (star : Bool) → begins_with 42 spelled ≡ star → (good : Bool) → is_good (decode v spelled) ≡ good → cond star None (cond {A = Option (List ℕ × Bool)} good (Some (decode v spelled, has_coded v spelled)) None) ≡ None → (begins_with 42 spelled ≡ true) ⊎ ((path : List ℕ) × Spells v spelled path × (GoodPath path → ⊥))
-    by_tests true s good g e = inl s
-    by_tests false s false g e = inr (decode v spelled, spells_decoded v spelled, λ fine. false≢true (sym g ∙ good_again (decode v spelled) fine))
-    by_tests false s true g e = absurd cc
+bad_spelling v spelled e = by_Bool (begins_with 42 spelled) (λ star. inl star) (λ star.
+    inr (decode v spelled, spells_decoded v spelled, λ fine. let wrong = rw (star, good_again (decode v spelled) fine) at e in absurd cc))
 
 -- what the entries are after a line, or the text's first fault
 LineOutcome : Version → Algorithm → List ℕ → List (List ℕ) → Result Entries LineFault → Type 0
@@ -210,7 +194,8 @@ add_new v a n es line x full e new = rw (full, e, new) refl
 line_outcome : (v : Version) (a : Algorithm) (text : List ℕ) (ls : List (List ℕ)) (line : List ℕ) (more : List (List ℕ)) (es : Entries) → is_utf8 text ≡ true → has_mark text ≡ false → lines text ≡ ls ++ line ∷ more → IsSoundList v a ls es
     → LineOutcome v a text (ls ++ line ∷ []) (add_line_of v a (length ls + 1) es line)
 unfolding LineOutcome
-line_outcome v a text ls line more es utf8 unmarked is before = by_blank (list_all is_blank line) refl
+line_outcome v a text ls line more es utf8 unmarked is before =
+    by_Bool (list_all is_blank line) (λ blank. told _ (add_blank v a n es line blank) (blank_more v a ls line es before blank)) (λ full. of_view full (line_view v a line))
   where
     n : ℕ
     n = length ls + 1
@@ -237,10 +222,6 @@ line_outcome v a text ls line more es utf8 unmarked is before = by_blank (list_a
     of_view full (bad_path c e some bad) = told _ (add_fault v a n es line (BadPath n) full (reads_bad_path v a n line c e some bad)) (line, reached full, has_some a (sum_text line) c e, some, bad_spelling v (path_text line) bad)
     of_view full (sound c p e some path) = of_listed full p.0 (record { checksum = c; line = n; is_decoded = p.1 }) (reads_sound v a n line c p e some path) refl (sound_entry v a n line c p e some path) (is_path_listed p.0 es) refl
 
-    by_blank : (x : Bool) → list_all is_blank line ≡ x → LineOutcome v a text (ls ++ line ∷ []) (add_line_of v a n es line)
-    by_blank true blank = told _ (add_blank v a n es line blank) (blank_more v a ls line es before blank)
-    by_blank false full = of_view full (line_view v a line)
-
 -- ---- line after line
 
 -- the first line, then the others
@@ -260,17 +241,16 @@ unfolding LineOutcome
 lines_outcome v a text [] ls es utf8 unmarked is before =
     subst (λ (x : Result Entries LineFault). LineOutcome v a text (lines text) x) (sym (all_lines v a (length ls + 1) es)) (subst (λ (x : List (List ℕ)). IsSoundList v a x es) (sym (is ∙ append-nil ls)) before)
 lines_outcome v a text (line ∷ more) ls es utf8 unmarked is before =
-    by_line (add_line_of v a (length ls + 1) es line) refl (line_outcome v a text ls line more es utf8 unmarked is before) (λ now so_far. lines_outcome v a text more (ls ++ line ∷ []) now utf8 unmarked (is ∙ sym (append_assoc ls (line ∷ []) more)) so_far)
-  where
-    by_line : (r : Result Entries LineFault) → add_line_of v a (length ls + 1) es line ≡ r → LineOutcome v a text (ls ++ line ∷ []) r → ((now : Entries) → IsSoundList v a (ls ++ line ∷ []) now → LineOutcome v a text (lines text) (entries_of v a (length (ls ++ line ∷ []) + 1) now more))
-        → LineOutcome v a text (lines text) (entries_of v a (length ls + 1) es (line ∷ more))
-    by_line (Ok now) e outcome again =
-        let number : length (ls ++ line ∷ []) + 1 ≡ length ls + 1 + 1 = ap (λ (n : ℕ). n + 1) (length_push ls line) in
-        let step : entries_of v a (length ls + 1) es (line ∷ more) ≡ entries_of v a (length ls + 1 + 1) now more = one_line v a (length ls + 1) es line more ∙ ap (λ (r : Result Entries LineFault). r >>= λ x. entries_of v a (length ls + 1 + 1) x more) e in
-        subst (λ (x : Result Entries LineFault). LineOutcome v a text (lines text) x) (ap (λ (n : ℕ). entries_of v a n now more) number ∙ sym step) (again now outcome)
-    by_line (Err fault) e outcome again =
-        let step : entries_of v a (length ls + 1) es (line ∷ more) ≡ Err fault = one_line v a (length ls + 1) es line more ∙ ap (λ (r : Result Entries LineFault). r >>= λ x. entries_of v a (length ls + 1 + 1) x more) e in
-        subst (λ (x : Result Entries LineFault). LineOutcome v a text (lines text) x) (sym step) outcome
+    let outcome = line_outcome v a text ls line more es utf8 unmarked is before in
+    let number : length (ls ++ line ∷ []) + 1 ≡ length ls + 1 + 1 = ap (λ (n : ℕ). n + 1) (length_push ls line) in
+    by_Result (add_line_of v a (length ls + 1) es line)
+    (λ now e.
+    let step : entries_of v a (length ls + 1) es (line ∷ more) ≡ entries_of v a (length ls + 1 + 1) now more = one_line v a (length ls + 1) es line more ∙ ap (λ (r : Result Entries LineFault). r >>= λ x. entries_of v a (length ls + 1 + 1) x more) e in
+    subst (λ (x : Result Entries LineFault). LineOutcome v a text (lines text) x) (ap (λ (n : ℕ). entries_of v a n now more) number ∙ sym step)
+    (lines_outcome v a text more (ls ++ line ∷ []) now utf8 unmarked (is ∙ sym (append_assoc ls (line ∷ []) more)) (rw e at outcome)))
+    (λ fault e.
+    let step : entries_of v a (length ls + 1) es (line ∷ more) ≡ Err fault = one_line v a (length ls + 1) es line more ∙ ap (λ (r : Result Entries LineFault). r >>= λ x. entries_of v a (length ls + 1 + 1) x more) e in
+    subst (λ (x : Result Entries LineFault). LineOutcome v a text (lines text) x) (sym step) (rw e at outcome))
 
 -- what a manifest's entries are, or its first fault
 unfoldable pub IsOutcome : Version → Algorithm → List ℕ → Result Entries LineFault → Type 0

@@ -1,7 +1,8 @@
 -- A number that is read is the number that is spelled, up to the byte that stops it.
-use Rattle.bag_text.proofs.Common.{◌≡◌, ℕ, ◌+◌, ◌-◌, ◌*◌, ◌/◌, ◌%◌, ◌^◌, ◌<◌, ◌≤◌, Bool, true, false, cond, eqb, ltb, leb, ◌&&◌, List, [], ◌∷◌, ◌++◌, refl, sym, ap, subst, ◌∙◌, arith, append_assoc, decimal, nat_tests, eqb-true, append-nil, Short, Bad, digits_at, number_at, Ok, Err, is_ascii_digit}
+use Rattle.bag_text.proofs.Common.{◌≡◌, ℕ, ◌+◌, ◌-◌, ◌*◌, ◌/◌, ◌%◌, ◌^◌, ◌<◌, ◌≤◌, Bool, true, false, eqb, ltb, leb, ◌&&◌, List, [], ◌∷◌, ◌++◌, refl, sym, ap, subst, ◌∙◌, arith, append_assoc, decimal, nat_tests, eqb-true, append-nil, Short, Bad, digits_at, number_at, Ok, Err, is_ascii_digit}
 use Rattle.bag_text.proofs.ResultLemmas.{ok_if, ok_is}
 use Rattle.std.proofs.lemmas.Fmt.{decimal_digit, decimal_step, decimal_by_steps}
+use Rattle.bag_text.proofs.CaseLemmas.{by_Bool}
 
 -- one more digit
 pub push_digit : (n b : ℕ) → 0 < n → n * 10 + (b - 48) < 2 ^ 64 → is_ascii_digit b ≡ true → decimal (n * 10 + (b - 48)) ≡ decimal n ++ b ∷ []
@@ -42,54 +43,37 @@ goes most n b e = record { digit = grind (arith, nat_tests); above = grind (arit
 pub digits_ok : (stop most n : ℕ) (t : List ℕ) (m : ℕ) (rest : List ℕ) → most < 2 ^ 32 → n ≤ most → digits_at stop most n t ≡ Ok (m, rest) → (taken : List ℕ) × (t ≡ taken ++ stop ∷ rest) × More most n m taken
 unfolding digits_at
 digits_ok stop most n [] m rest small le e = absurd cc
-digits_ok stop most n (b ∷ t) m rest small le e = by_stop (eqb b stop) refl (may_go most n b) refl e (λ le' e'. digits_ok stop most (n * 10 + (b - 48)) t m rest small le' e')
-  where
-    by_stop : (x : Bool) → eqb b stop ≡ x → (y : Bool) → may_go most n b ≡ y
-        → cond x (Ok (n, t)) (cond y (digits_at stop most (n * 10 + (b - 48)) t) (Err Bad)) ≡ Ok (m, rest)
-        → (n * 10 + (b - 48) ≤ most → digits_at stop most (n * 10 + (b - 48)) t ≡ Ok (m, rest) → (taken : List ℕ) × (t ≡ taken ++ stop ∷ rest) × More most (n * 10 + (b - 48)) m taken)
-        → (taken : List ℕ) × (b ∷ t ≡ taken ++ stop ∷ rest) × More most n m taken
-    by_stop true is y may h again =
-        let pair = ok_is (n, t) (m, rest) h in
-        let m-is : n ≡ m = ap (λ (p : ℕ × List ℕ). p.0) pair in
-        let rest-is : t ≡ rest = ap (λ (p : ℕ × List ℕ). p.1) pair in
-        let b-is : b ≡ stop = eqb-true b stop is in
-        ([], cc, subst (λ (k : ℕ). More most n k []) m-is (same most n le))
-    by_stop false is true may h again =
-        let g = goes most n b may in
-        let r = again g.within h in
-        (b ∷ r.0, ap (λ (s : List ℕ). b ∷ s) r.1, and_more most n b m r.0 small g.above g.digit g.within r.2)
-    by_stop false is false may h again = absurd cc
+digits_ok stop most n (b ∷ t) m rest small le e = by_Bool (eqb b stop)
+    (λ is.
+    let pair = ok_is (n, t) (m, rest) (rw is at e) in
+    let m-is : n ≡ m = ap (λ (p : ℕ × List ℕ). p.0) pair in
+    let rest-is : t ≡ rest = ap (λ (p : ℕ × List ℕ). p.1) pair in
+    let b-is : b ≡ stop = eqb-true b stop is in
+    ([], cc, subst (λ (k : ℕ). More most n k []) m-is (same most n le)))
+    (λ isnt.
+    let may = ok_if (may_go most n b) (digits_at stop most (n * 10 + (b - 48)) t) Bad (m, rest) (rw isnt at e) in
+    let g = goes most n b may.0 in
+    let r = digits_ok stop most (n * 10 + (b - 48)) t m rest small g.within may.1 in
+    (b ∷ r.0, ap (λ (s : List ℕ). b ∷ s) r.1, and_more most n b m r.0 small g.above g.digit g.within r.2))
 
 -- what a text of digits may still become
 pub digits_short : (stop most n : ℕ) (t : List ℕ) → most < 2 ^ 32 → n ≤ most → digits_at stop most n t ≡ Err Short → (m : ℕ) × More most n m t
 unfolding digits_at
 digits_short stop most n [] small le e = (n, same most n le)
-digits_short stop most n (b ∷ t) small le e = by_stop (eqb b stop) (may_go most n b) refl e (λ le' e'. digits_short stop most (n * 10 + (b - 48)) t small le' e')
-  where
-    by_stop : (x y : Bool) → may_go most n b ≡ y
-        → cond x (Ok (n, t)) (cond y (digits_at stop most (n * 10 + (b - 48)) t) (Err Bad)) ≡ Err Short
-        → (n * 10 + (b - 48) ≤ most → digits_at stop most (n * 10 + (b - 48)) t ≡ Err Short → (m : ℕ) × More most (n * 10 + (b - 48)) m t)
-        → (m : ℕ) × More most n m (b ∷ t)
-    by_stop true y may h again = absurd cc
-    by_stop false true may h again =
-        let g = goes most n b may in
-        let r = again g.within h in
-        (r.0, and_more most n b r.0 t small g.above g.digit g.within r.1)
-    by_stop false false may h again = absurd cc
+digits_short stop most n (b ∷ t) small le e = by_Bool (eqb b stop) (λ is. let wrong = rw is at e in absurd cc) (λ isnt. by_Bool (may_go most n b)
+    (λ may.
+    let g = goes most n b may in
+    let r = digits_short stop most (n * 10 + (b - 48)) t small g.within (rw (isnt, may) at e) in
+    (r.0, and_more most n b r.0 t small g.above g.digit g.within r.1))
+    (λ no. let wrong = rw (isnt, no) at e in absurd cc))
 
 -- what is bad stays so, whatever follows
 pub digits_bad : (stop most n : ℕ) (t more : List ℕ) → digits_at stop most n t ≡ Err Bad → digits_at stop most n (t ++ more) ≡ Err Bad
 unfolding digits_at
 digits_bad stop most n [] more e = absurd cc
-digits_bad stop most n (b ∷ t) more e = by_stop (eqb b stop) (may_go most n b) e (λ e'. digits_bad stop most (n * 10 + (b - 48)) t more e')
-  where
-    by_stop : (x y : Bool)
-        → cond x (Ok (n, t)) (cond y (digits_at stop most (n * 10 + (b - 48)) t) (Err Bad)) ≡ Err Bad
-        → (digits_at stop most (n * 10 + (b - 48)) t ≡ Err Bad → digits_at stop most (n * 10 + (b - 48)) (t ++ more) ≡ Err Bad)
-        → cond x (Ok (n, t ++ more)) (cond y (digits_at stop most (n * 10 + (b - 48)) (t ++ more)) (Err Bad)) ≡ Err Bad
-    by_stop true y h again = absurd cc
-    by_stop false true h again = again h
-    by_stop false false h again = refl
+digits_bad stop most n (b ∷ t) more e = by_Bool (eqb b stop) (λ is. let wrong = rw is at e in absurd cc) (λ isnt. by_Bool (may_go most n b)
+    (λ may. rw (isnt, may) (digits_bad stop most (n * 10 + (b - 48)) t more (rw (isnt, may) at e)))
+    (λ no. rw (isnt, no) refl))
 
 -- ---- a whole number
 
@@ -152,21 +136,16 @@ number_ok stop least most small nine (b ∷ t) m rest e =
 pub number_short : (stop least most : ℕ) → most < 2 ^ 32 → 9 ≤ most → least ≤ 1 → (t : List ℕ) → number_at stop least most t ≡ Err Short → (m : ℕ) × (more : List ℕ) × (t ++ more ≡ decimal m) × InBounds least most m
 unfolding number_at
 number_short stop least most small nine low [] e = (least, decimal least, refl, record { low = omega arith; high = omega arith })
-number_short stop least most small nine low (b ∷ t) e = by_start (may_start least b) refl e
-  where
-    by_start : (x : Bool) → may_start least b ≡ x → cond x (digits_at stop most (b - 48) t) (Err Bad) ≡ Err Short → (m : ℕ) × (more : List ℕ) × (b ∷ t ++ more ≡ decimal m) × InBounds least most m
-    by_start true is h =
-        let d = first_digit least b is in
-        let r = digits_short stop most (b - 48) t small (let k = d.1 in omega arith) h in
-        let spelled : decimal r.0 ≡ b ∷ t = r.1.spelled ∙ ap (λ (ds : List ℕ). ds ++ t) (one_digit b d.0 d.1) in
-        (r.0, [], append-nil (b ∷ t) ∙ sym spelled, record { low = (let j = r.1.low in let k = d.2 in omega arith); high = r.1.high })
-    by_start false is h = absurd cc
+number_short stop least most small nine low (b ∷ t) e = by_Bool (may_start least b)
+    (λ is.
+    let d = first_digit least b is in
+    let r = digits_short stop most (b - 48) t small (let k = d.1 in omega arith) (rw is at e) in
+    let spelled : decimal r.0 ≡ b ∷ t = r.1.spelled ∙ ap (λ (ds : List ℕ). ds ++ t) (one_digit b d.0 d.1) in
+    (r.0, [], append-nil (b ∷ t) ∙ sym spelled, record { low = (let j = r.1.low in let k = d.2 in omega arith); high = r.1.high }))
+    (λ isnt. let wrong = rw isnt at e in absurd cc)
 
 pub number_bad : (stop least most : ℕ) (t more : List ℕ) → number_at stop least most t ≡ Err Bad → number_at stop least most (t ++ more) ≡ Err Bad
 unfolding number_at
 number_bad stop least most [] more e = absurd cc
-number_bad stop least most (b ∷ t) more e = by_start (may_start least b) e
-  where
-    by_start : (x : Bool) → cond x (digits_at stop most (b - 48) t) (Err Bad) ≡ Err Bad → cond x (digits_at stop most (b - 48) (t ++ more)) (Err Bad) ≡ Err Bad
-    by_start true h = digits_bad stop most (b - 48) t more h
-    by_start false h = refl
+number_bad stop least most (b ∷ t) more e =
+    by_Bool (may_start least b) (λ is. rw is (digits_bad stop most (b - 48) t more (rw is at e))) (λ isnt. rw isnt refl)

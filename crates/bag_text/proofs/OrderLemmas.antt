@@ -1,6 +1,7 @@
 -- The order of paths, and what a search finds in a list of files that ascends.
-use Rattle.bag_text.proofs.Common.{ltb-true, ltb-false, eqb-true, eqb-false, inl, inr, cases_Bool, false_from_ne_true, false≢true, ◌≡◌, ℕ, zero, suc, ◌<◌, ◌≤◌, ◌≢◌, Bool, true, false, cond, eqb, ltb, not, ◌&&◌, List, [], ◌∷◌, ◌++◌, length, get_or, take, drop, map, refl, sym, ap, subst, ◌∙◌, arith, Option, Some, None, option_map, find, bytes_eq, eqb as nat_eq, slice_get, Contains, is_some, IsNone, MatchOption, list_any, AllWithin, HoldsAt, starts_with, nat_cmp, is_lt, is_eq, ordering_then, ordering_reverse, Ordering, Less, Equal, Greater, slice_cmp, and_right, nat_tests, take-append-drop, bytes_eq-Decides, comes_before, File, Ascends, content_at, file_of, files_of, IsPlaceOf, ◌↔◌, nat_list_cmp_total, is_eq-slice_cmp, Bor}
+use Rattle.bag_text.proofs.Common.{same_Some, ltb-true, ltb-false, eqb-true, eqb-false, inl, inr, cases_Bool, false_from_ne_true, false≢true, ◌≡◌, ℕ, zero, suc, ◌<◌, ◌≤◌, ◌≢◌, Bool, true, false, cond, eqb, ltb, not, ◌&&◌, List, [], ◌∷◌, ◌++◌, length, get_or, take, drop, map, refl, sym, ap, subst, ◌∙◌, arith, Option, Some, None, option_map, find, bytes_eq, eqb as nat_eq, slice_get, Contains, is_some, IsNone, MatchOption, list_any, AllWithin, HoldsAt, starts_with, nat_cmp, is_lt, is_eq, ordering_then, ordering_reverse, Ordering, Less, Equal, Greater, slice_cmp, and_right, nat_tests, take-append-drop, bytes_eq-Decides, comes_before, File, Ascends, content_at, file_of, files_of, IsPlaceOf, ◌↔◌, nat_list_cmp_total, is_eq-slice_cmp, Bor}
 use Rattle.std.specs.List.Sorted.{IsPartitionedBy}
+use Rattle.bag_text.proofs.CaseLemmas.{by_Bool, by_Option, by_Ordering}
 
 -- ---- the order of two paths
 
@@ -23,12 +24,10 @@ before_differs a b e = sym (is_eq-slice_cmp a b) ∙ ap is_eq (less (path_cmp a 
 
 -- What neither comes before a path nor is that path comes after it.
 pub after : (a b : List ℕ) → comes_before a b ≡ false → bytes_eq a b ≡ false → comes_before b a ≡ true
-after a b e g = by_order (path_cmp a b) refl
-  where
-    by_order : (o : Ordering) → path_cmp a b ≡ o → comes_before b a ≡ true
-    by_order Less is = absurd (let k = sym e ∙ ap is_lt is in cc)
-    by_order Equal is = absurd (let k = sym g ∙ sym (is_eq-slice_cmp a b) ∙ ap is_eq is in cc)
-    by_order Greater is = ap is_lt (nat_list_cmp_total.antisymm b a ∙ ap ordering_reverse is)
+after a b e g = by_Ordering (path_cmp a b)
+    (λ is. absurd (let k = sym e ∙ ap is_lt is in cc))
+    (λ is. absurd (let k = sym g ∙ sym (is_eq-slice_cmp a b) ∙ ap is_eq is in cc))
+    (λ is. ap is_lt (nat_list_cmp_total.antisymm b a ∙ ap ordering_reverse is))
 
 -- ---- a path and a folder's name
 
@@ -168,11 +167,8 @@ module _ {X : Type 0} (g : X → File) where
       → AllWithin (λ x. comes_before (g x).path q ≡ true) xs 0 n → AllWithin (λ x. comes_before (g x).path q ≡ false) xs n (length xs)
       → find (λ f. test f.path) (map g xs) ≡ tried test (slice_get xs n)
   found_at q test at before [] up n front back = refl
-  found_at q test at before (x ∷ xs) up zero front back = by_test (test (g x).path) refl
-    where
-      by_test : (r : Bool) → test (g x).path ≡ r → cond r (Some (g x)) (find (λ f. test f.path) (map g xs)) ≡ cond r (Some (g x)) None
-      by_test true is = refl
-      by_test false is = none_behind q test at (g x).path xs up.1 (back 0 x (omega arith) (omega arith)) is
+  found_at q test at before (x ∷ xs) up zero front back =
+      by_Bool (test (g x).path) (λ is. rw is refl) (λ is. rw is (none_behind q test at (g x).path xs up.1 (back 0 x (omega arith) (omega arith)) is))
   found_at q test at before (x ∷ xs) up (suc n) front back =
       let first = at.low (g x).path (front 0 x (omega arith) (omega arith)) in
       rw first (found_at q test at (g x).path xs up.1 n (λ k d ge lt. front (suc k) d (omega arith) (omega arith)) (λ k d ge lt. back (suc k) d (omega arith) (omega arith)))
@@ -232,17 +228,12 @@ begins_is files q n r up point at =
 -- The content at a path is that of a file of the list.
 pub content_stands : (files : List File) (path content : List ℕ) → content_at files path ≡ Some content → Contains files (record { path = path; content = content })
 content_stands [] path content e = absurd cc
-content_stands (f ∷ files) path content e = by_test (bytes_eq f.path path) refl e (content_stands files path content)
-  where
-    wanted : File
-    wanted = record { path = path; content = content }
-
-    by_test : (r : Bool) → bytes_eq f.path path ≡ r → option_map (λ f. f.content) (cond r (Some f) (find (λ f. bytes_eq f.path path) files)) ≡ Some content → (content_at files path ≡ Some content → Contains files wanted) → Contains (f ∷ files) wanted
-    by_test true is e again =
-        let same : f.path ≡ path = (bytes_eq-Decides f.path path).0 is in
-        let also : f.content ≡ content = cc in
-        (0, omega arith, rw (← same, ← also) refl)
-    by_test false is e again = let later = again e in (suc later.0, (let k = later.1 in omega arith), later.2)
+content_stands (f ∷ files) path content e = by_Bool (bytes_eq f.path path)
+    (λ is.
+    let same : f.path ≡ path = (bytes_eq-Decides f.path path).0 is in
+    let also : f.content ≡ content = same_Some f.content content (rw is at e) in
+    (0, omega arith, rw (← same, ← also) refl))
+    (λ is. let later = content_stands files path content (rw is at e) in (suc later.0, (let k = later.1 in omega arith), later.2))
 
 -- A file of a list that ascends is the one whose content stands at its path.
 pub content_found : (before : List ℕ) (files : List File) (path content : List ℕ) → Ascends before files → Contains files (record { path = path; content = content }) → content_at files path ≡ Some content
@@ -268,21 +259,19 @@ content_found before files path content up at = by_place before files up at.0 at
 
 no_file : (path : List ℕ) (files : List File) → IsNone (content_at files path) → (f : File) (k : ℕ) → k < length files → get_or files k f ≡ f → f.path ≡ path → ⊥
 no_file path [] none f k lt is same = absurd (omega arith)
-no_file path (x ∷ files) none f k lt is same = by_test (bytes_eq x.path path) refl none k lt is (no_file path files)
-  where
-    by_test : (r : Bool) → bytes_eq x.path path ≡ r → IsNone (option_map (λ f. f.content) (cond r (Some x) (find (λ f. bytes_eq f.path path) files))) → (k : ℕ) → k < length (x ∷ files) → get_or (x ∷ files) k f ≡ f
-        → (IsNone (content_at files path) → (f : File) (k : ℕ) → k < length files → get_or files k f ≡ f → f.path ≡ path → ⊥) → ⊥
-    by_test true differs none k lt is again = absurd cc
-    by_test false differs none zero lt is again = absurd (let k = sym differs ∙ (bytes_eq-Decides x.path path).1 (ap (λ (f : File). f.path) is ∙ same) in cc)
-    by_test false differs none (suc k) lt is again = again none f k (omega arith) is same
+no_file path (x ∷ files) none f zero lt is same = let wrong = rw ((bytes_eq-Decides x.path path).1 (ap (λ (f : File). f.path) is ∙ same)) at none in absurd cc
+no_file path (x ∷ files) none f (suc k) lt is same = by_Bool (bytes_eq x.path path)
+    (λ it. let wrong = rw it at none in absurd cc)
+    (λ isnt. no_file path files (rw isnt at none) f k (omega arith) is same)
 
 -- No content stands at a path exactly where no file has it.
 pub content_missing : (files : List File) (path : List ℕ) → IsNone (content_at files path) ↔ ((f : File) → Contains files f → f.path ≢ path)
-content_missing files path = (λ none f at same. no_file path files none f at.0 at.1 at.2 same, λ other. by_found (content_at files path) refl other)
-  where
-    by_found : (r : Option (List ℕ)) → content_at files path ≡ r → ((f : File) → Contains files f → f.path ≢ path) → IsNone r
-    by_found None is other = refl
-    by_found (Some content) is other = absurd (other (record { path = path; content = content }) (content_stands files path content is) refl)
+content_missing files path = (
+  λ none f at same. no_file path files none f at.0 at.1 at.2 same,
+  λ other. by_Option (content_at files path)
+      (λ is. rw is refl)
+      (λ content is. absurd (other (record { path = path; content = content }) (content_stands files path content is) refl)),
+)
 
 -- whether there is a content is whether there is one by the reference
 pub none_copied : (r : Option (Bor (List ℕ))) (o : Option (List ℕ)) → option_map (λ x. x.now) r ≡ o → is_some r ≡ is_some o

@@ -68,11 +68,7 @@ no_cause_in_good : (path : List ℕ) → GoodPath path → cause_in path ≡ Non
 no_cause_in_good path good =
     let rows = rows_none path (no_fault path good) in
     let dots = none_of_both is_dot is_dot_dot (segments path) rows.no_dots in
-    by_tests (is_utf8 path) (stands_for [] path TooLong) (stands_for [] path EmptySegment) (stands_for [] path DotSegment) (stands_for [] path DotDotSegment) (stands_for [] path Nul) good.utf8 rows.short rows.full dots.0 dots.1 rows.no_nul
-  where
-    by_tests : (a b c d f g : Bool) → a ≡ true → b ≡ false → c ≡ false → d ≡ false → f ≡ false → g ≡ false
-        → ◌≡◌ {A = Option PathCause} (cond (not a) (Some NotUtf8) (cond b (Some TooLong) (cond c (Some EmptySegment) (cond d (Some DotSegment) (cond f (Some DotDotSegment) (cond g (Some Nul) None)))))) None
-    by_tests a b c d f g p q r s t u = rw (p, q, r, s, t, u) refl
+    rw (good.utf8, rows.short, rows.full, dots.0, dots.1, rows.no_nul) refl
 
 -- a cause is found where the path isn't good
 found_of : (path : List ℕ) (cause : Option PathCause) → cause_in path ≡ cause → (GoodPath path → ⊥) → IsSome cause

@@ -4,6 +4,7 @@ use Rattle.bag_text.proofs.FormLemmas.{place_ok, place_header, end_trails, entry
 use Rattle.bag_text.proofs.FaultLemmas.{sized, fit, place_end, short_place, bad_place}
 use Rattle.bag_text.proofs.SetLemmas.{at_fault, at_file}
 use Rattle.bag_text.proofs.TableLemmas.{set_fault}
+use Rattle.bag_text.proofs.CaseLemmas.{by_Result}
 
 -- nothing is left of two pieces where nothing is left of both
 nothing_more : (a b : List ℕ) → a ++ b ≡ [] → b ≡ []
@@ -210,8 +211,4 @@ form_has_none files f bag h = never_both files f (set_of (set_text files)) (set_
 
 -- A text is the form of a bag, or has a fault.
 pub form_or_fault : (t : List ℕ) → ((files : List File) × IsBag files × (t ≡ set_text files)) ⊎ ((f : SetFault) × FaultIs t f)
-form_or_fault t = by_read (set_of t) refl
-  where
-    by_read : (r : Result (List File) SetFault) → set_of t ≡ r → ((files : List File) × IsBag files × (t ≡ set_text files)) ⊎ ((f : SetFault) × FaultIs t f)
-    by_read (Ok files) is = let read = set_ok t files is in inl (files, read.bag, read.text)
-    by_read (Err f) is = inr (f, set_fault t f is)
+form_or_fault t = by_Result (set_of t) (λ files is. let read = set_ok t files is in inl (files, read.bag, read.text)) (λ f is. inr (f, set_fault t f is))

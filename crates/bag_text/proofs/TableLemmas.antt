@@ -3,6 +3,7 @@ use Rattle.bag_text.proofs.FirstLemmas.{not-true, err_if, err_unless, err_throug
 use Rattle.bag_text.specs.TransferReading.{entry_of}
 use Rattle.bag_text.proofs.FormLemmas.{place_ok, entry_ok, files_ok}
 use Rattle.bag_text.proofs.FaultLemmas.{sized, short_place, bad_place}
+use Rattle.bag_text.proofs.CaseLemmas.{by_Result}
 
 pub file_fault : (offset : ℕ) (before : List ℕ) (head : Head) (f : SetFault) → file_at offset before head ≡ Err f → EntryFault offset before head f
 unfolding file_at
@@ -148,14 +149,12 @@ set_fault t f e = by_opening (literal_at opening t) refl e
           (λ b. not_both t b.1 Bad is (b.3 ∙ ap (λ (x : List ℕ). x ++ b.1) b.2)),
           (λ b. not_both (t ++ b.0) [] Bad (literal_bad opening t b.0 is) (b.2 ∙ sym (append-nil opening))),
         )
-    by_opening (Ok rest) is e = by_files (files_at (length t) max_files [] rest) refl e
-      where
-        by_files : (r : Result (List File) SetFault) → files_at (length t) max_files [] rest ≡ r → (r >>= λ files. cond (clashes files) (Err PathClash) (Ok files)) ≡ Err f → FaultIs t f
-        by_files (Err g) is2 e = of_later t rest f (files_fault (length t) max_files [] rest f (is2 ∙ (let k : g ≡ f = cc in rw k refl))) (literal_ok opening t rest is)
-        by_files (Ok files) is2 e =
-            let clash = err_if (clashes files) PathClash files f e in
-            let r = files_ok (length t) max_files [] rest files is2 in
-            subst (λ (f : SetFault). FaultIs t f) clash.1 (files, record { text = literal_ok opening t rest is ∙ ap (λ (x : List ℕ). opening ++ x) r.text ∙ sym (append_assoc opening (flat_map entry files) ending); few = r.few; each = r.each; ascending = r.up }, clash.0)
+    by_opening (Ok rest) is e = by_Result (files_at (length t) max_files [] rest)
+        (λ files is2.
+        let clash = err_if (clashes files) PathClash files f (rw is2 at e) in
+        let r = files_ok (length t) max_files [] rest files is2 in
+        subst (λ (f : SetFault). FaultIs t f) clash.1 (files, record { text = literal_ok opening t rest is ∙ ap (λ (x : List ℕ). opening ++ x) r.text ∙ sym (append_assoc opening (flat_map entry files) ending); few = r.few; each = r.each; ascending = r.up }, clash.0))
+        (λ g is2. of_later t rest f (files_fault (length t) max_files [] rest f (is2 ∙ rw is2 at e)) (literal_ok opening t rest is))
 
 pub is_fault : {X : Type 0} (t : List ℕ) (view : X → List File) (r : Result X SetFault) → Gives named_set_fault view r (set_of t) → IfErr r (λ f. f ≢ Memory → FaultIs t f)
 is_fault t view (Ok x) e = tt

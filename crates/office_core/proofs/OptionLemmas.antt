@@ -1,20 +1,7 @@
 -- What a chain of readings that may fail gives.
-use Rattle.office_core.proofs.Common.{◌≡◌, Bool, true, false, Option, Some, None, Result, Ok, Err, IsOk, IfOk, IsSome, IfSome, IsSomeAnd, option_map, refl, if◌then◌else◌, List, [], ◌∷◌, find, same_Some, false≢true, ◌>>=◌, first_some, answer_if, Ordering, Less, Equal, Greater, subst}
+use Rattle.office_core.proofs.Common.{◌≡◌, Bool, true, false, Option, Some, None, Result, Ok, Err, IsOk, IfOk, IsSome, IfSome, IsSomeAnd, option_map, refl, if◌then◌else◌, List, [], ◌∷◌, find, same_Some, false≢true, ◌>>=◌, first_some, answer_if, subst}
+pub use Rattle.bag_text.proofs.CaseLemmas.{by_Bool, by_Option, by_Ordering}
 use Rattle.std.specs.Result.{result_ok}
-
--- by what a test gives, by whether something is there, and by the order of two
-pub by_Bool : {P : Type 0} (b : Bool) → (b ≡ true → P) → (b ≡ false → P) → P
-by_Bool true if_true if_false = if_true refl
-by_Bool false if_true if_false = if_false refl
-
-pub by_Option : {A P : Type 0} (o : Option A) → (o ≡ None → P) → ((x : A) → o ≡ Some x → P) → P
-by_Option None if_none if_some = if_none refl
-by_Option (Some x) if_none if_some = if_some x refl
-
-pub by_Ordering : {P : Type 0} (o : Ordering) → (o ≡ Less → P) → (o ≡ Equal → P) → (o ≡ Greater → P) → P
-by_Ordering Less if_less if_equal if_greater = if_less refl
-by_Ordering Equal if_less if_equal if_greater = if_equal refl
-by_Ordering Greater if_less if_equal if_greater = if_greater refl
 
 -- a result that is there is there as an option
 pub some_ok : {A E : Type 0} (o : Option A) (r : Result A E) → o ≡ result_ok r → IsOk r → IsSome o
