@@ -196,7 +196,7 @@ export default {
     I1: ["bag-info.txt is not UTF-8 text.", REWRITE], I3: ["Line {line} of bag-info.txt has no colon.", REWRITE],
     I2: ["bag-info.txt begins with a byte order mark, and must not.", REWRITE],
     I4: ["Line {line} of bag-info.txt has no label before its colon.", REWRITE],
-    I5: ["Line {line} of bag-info.txt continues a value, but no label stands before it.", REWRITE],
+    I5: ["Line {line} of bag-info.txt continues a value, but no label comes before it.", REWRITE],
     S1: ["This is no transfer form: it does not begin with the line “BAGSET 1”.", REPACK],
     S2: ["The entry at byte {offset} is neither the end nor a file with the lengths that its header gives.", RECOPY],
     S3: ["The form ends too early.", RECOPY], S4: ["The entry at byte {offset} is out of order.", REPACK],

@@ -30,7 +30,7 @@ fn check_destination<R: Files + AllocGlobal>(rt: &R, file: &str) -> Result<(), F
             if metadata.is_file() {
                 return Ok(());
             }
-            let error = io::Error::other("what stands there is no file");
+            let error = io::Error::other("what is there is no file");
             Err(failed_at(rt.alloc(), Tried::Write, file, error))
         }
         Err(error) => {

@@ -94,7 +94,7 @@ info_words infos.NotUtf8 = codes "bag-info.txt is not UTF-8 text (B13 I1)"
 info_words infos.ByteOrderMark = codes "bag-info.txt begins with a byte order mark, and must not (B13 I2)"
 info_words (infos.NoColon line) = codes "line " ++ decimal line ++ codes " of bag-info.txt has no colon (B13 I3)"
 info_words (infos.EmptyLabel line) = codes "line " ++ decimal line ++ codes " of bag-info.txt has no label before its colon (B13 I4)"
-info_words (infos.StrayContinuation line) = codes "line " ++ decimal line ++ codes " of bag-info.txt continues a value, but no label stands before it (B13 I5)"
+info_words (infos.StrayContinuation line) = codes "line " ++ decimal line ++ codes " of bag-info.txt continues a value, but no label comes before it (B13 I5)"
 info_words infos.Memory = codes "memory ran out (B13 I6)"
 
 -- ---- of a bag

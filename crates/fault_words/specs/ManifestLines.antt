@@ -32,7 +32,7 @@ abbrev pub cause_words : PathCause → List ℕ
 cause_words causes.Starred = codes "it begins with *, by which checksum tools mark a binary file"
 cause_words causes.NotUtf8 = codes "it is not UTF-8"
 cause_words causes.TooLong = codes "it has more than " ++ grouped max_path ++ codes " bytes"
-cause_words causes.EmptySegment = codes "it has an empty segment, as where / begins or ends it, or stands twice"
+cause_words causes.EmptySegment = codes "it has an empty segment, as where / begins or ends it, or is there twice"
 cause_words causes.DotSegment = codes "it has the segment ., as in ./data"
 cause_words causes.DotDotSegment = codes "it has the segment .."
 cause_words causes.Nul = codes "it has a NUL"

@@ -80,7 +80,7 @@ impl fmt::Display for CauseWords {
             PathCause::NotUtf8 => f.write_str("it is not UTF-8"),
             PathCause::TooLong => write_limit(f, "it has more than ", MAX_PATH, " bytes"),
             PathCause::EmptySegment => f.write_str(
-                "it has an empty segment, as where / begins or ends it, or stands twice",
+                "it has an empty segment, as where / begins or ends it, or is there twice",
             ),
             PathCause::DotSegment => f.write_str("it has the segment ., as in ./data"),
             PathCause::DotDotSegment => f.write_str("it has the segment .."),

@@ -140,7 +140,7 @@ pub fn write_info<W: fmt::Write>(f: &mut fmt::Formatter<W>, fault: &InfoFault) -
         InfoFault::StrayContinuation(line) => write_numbered(
             f,
             *line,
-            " of bag-info.txt continues a value, but no label stands before it (B13 I5)",
+            " of bag-info.txt continues a value, but no label comes before it (B13 I5)",
         ),
         InfoFault::Memory => f.write_str("memory ran out (B13 I6)"),
     }

@@ -66,12 +66,12 @@ BAGSET 1\n{declared}{payload}FILE 19 77\nmanifest-sha256.txt\{abc}  data/a%0A\n\
 # Each cause for which a path is not good.
 BAGSET 1\n{declared}{payload}FILE 19 73\nmanifest-sha256.txt{abc} *data/a\n\nEND\n => invalid B6 manifest-sha256.txt L5 1\n => line 1 of manifest-sha256.txt has no good path: it begins with *, by which checksum tools mark a binary file (B6 L5)\n
 BAGSET 1\n{declared}{payload}FILE 19 1091\nmanifest-sha256.txt{abc} {long}\n\nEND\n => invalid B6 manifest-sha256.txt L5 1\n => line 1 of manifest-sha256.txt has no good path: it has more than 1,024 bytes (B6 L5)\n
-BAGSET 1\n{declared}{payload}FILE 19 75\nmanifest-sha256.txt{abc} data//./a\n\nEND\n => invalid B6 manifest-sha256.txt L5 1\n => line 1 of manifest-sha256.txt has no good path: it has an empty segment, as where / begins or ends it, or stands twice (B6 L5)\n
-BAGSET 1\n{declared}{payload}FILE 19 73\nmanifest-sha256.txt{abc} /data/a\n\nEND\n => invalid B6 manifest-sha256.txt L5 1\n => line 1 of manifest-sha256.txt has no good path: it has an empty segment, as where / begins or ends it, or stands twice (B6 L5)\n
+BAGSET 1\n{declared}{payload}FILE 19 75\nmanifest-sha256.txt{abc} data//./a\n\nEND\n => invalid B6 manifest-sha256.txt L5 1\n => line 1 of manifest-sha256.txt has no good path: it has an empty segment, as where / begins or ends it, or is there twice (B6 L5)\n
+BAGSET 1\n{declared}{payload}FILE 19 73\nmanifest-sha256.txt{abc} /data/a\n\nEND\n => invalid B6 manifest-sha256.txt L5 1\n => line 1 of manifest-sha256.txt has no good path: it has an empty segment, as where / begins or ends it, or is there twice (B6 L5)\n
 BAGSET 1\n{declared}{payload}FILE 19 74\nmanifest-sha256.txt{abc} ./data/a\n\nEND\n => invalid B6 manifest-sha256.txt L5 1\n => line 1 of manifest-sha256.txt has no good path: it has the segment ., as in ./data (B6 L5)\n
 BAGSET 1\n{declared}{payload}FILE 19 75\nmanifest-sha256.txt{abc} data/../a\n\nEND\n => invalid B6 manifest-sha256.txt L5 1\n => line 1 of manifest-sha256.txt has no good path: it has the segment .. (B6 L5)\n
 BAGSET 1\n{declared}{payload}FILE 19 74\nmanifest-sha256.txt{abc} data/a{nul}b\n\nEND\n => invalid B6 manifest-sha256.txt L5 1\n => line 1 of manifest-sha256.txt has no good path: it has a NUL (B6 L5)\n
-BAGSET 1\n{declared}{payload}FILE 19 145\nmanifest-sha256.txt{abc} data/a\n{abc} data//a\n\nEND\n => invalid B6 manifest-sha256.txt L5 2\n => line 2 of manifest-sha256.txt has no good path: it has an empty segment, as where / begins or ends it, or stands twice (B6 L5)\n
+BAGSET 1\n{declared}{payload}FILE 19 145\nmanifest-sha256.txt{abc} data/a\n{abc} data//a\n\nEND\n => invalid B6 manifest-sha256.txt L5 2\n => line 2 of manifest-sha256.txt has no good path: it has an empty segment, as where / begins or ends it, or is there twice (B6 L5)\n
 # A path stays the same under another digest, and in another spelling.
 BAGSET 1\n{declared}{payload}FILE 19 144\nmanifest-sha256.txt{abc} data/a\n{abc} data/a\n\nEND\n => invalid B6 manifest-sha256.txt L6 2\n => line 2 of manifest-sha256.txt lists a path that an earlier line lists (B6 L6)\n
 BAGSET 1\n{declared}{payload}FILE 19 144\nmanifest-sha256.txt{abc} data/a\n{nothing} data/a\n\nEND\n => invalid B6 manifest-sha256.txt L6 2\n
@@ -148,7 +148,7 @@ BAGSET 1\nFILE 12 9\nbag-info.txt{bom}Title\n\n{bag} => invalid B13 I2\n
 BAGSET 1\nFILE 12 15\nbag-info.txtTitle: a\n\n b\nc\n\n{bag} => invalid B13 I3 4\n => line 4 of bag-info.txt has no colon (B13 I3)\n
 BAGSET 1\nFILE 12 24\nbag-info.txtTitle: a\n \t: b\n\t: c\n: d\n\n{bag} => invalid B13 I4 4\n => line 4 of bag-info.txt has no label before its colon (B13 I4)\n
 BAGSET 1\nFILE 12 6\nbag-info.txt \n: b\n\n{bag} => invalid B13 I4 2\n
-BAGSET 1\nFILE 12 12\nbag-info.txt\r\n Title: a\n\n{bag} => invalid B13 I5 2\n => line 2 of bag-info.txt continues a value, but no label stands before it (B13 I5)\n
+BAGSET 1\nFILE 12 12\nbag-info.txt\r\n Title: a\n\n{bag} => invalid B13 I5 2\n => line 2 of bag-info.txt continues a value, but no label comes before it (B13 I5)\n
 BAGSET 1\nFILE 12 9\nbag-info.txt a\nb\n: c\n\n{bag} => invalid B13 I5 1\n
 BAGSET 1\nFILE 12 6\nbag-info.txt: a\nb\n\n{bag} => invalid B13 I4 1\n
 BAGSET 1\nFILE 12 36\nbag-info.txtPayload-Oxum: 3\nPayload-Oxum: 3.1\na\n\n{bag} => invalid B13 I3 3\n
