@@ -7,7 +7,7 @@ ghost use Rattle.command_line.specs.Lines.{IsCount, IsPort, WritesNumber};
 pub const MAX_COUNT: u32 = 1_000_000;
 
 /// The last port.
-const MAX_PORT: u32 = 65_535;
+pub const MAX_PORT: u32 = 65_535;
 
 /// Whether a plus comes first, which `parse` would take.
 fn has_plus(text: &[u8]) -> bool

@@ -9,20 +9,14 @@ ghost use Rattle.command_line.specs.declared.subcommand.Subcommand.TheVariants.{
 ghost use Rattle.command_line.specs.declared.use_fault.UseFault.TheVariants.{Memory};
 
 use crate::line::Line;
-use crate::number::{read_count, read_port};
+use crate::number::{MAX_COUNT, MAX_PORT, read_count, read_port};
 use crate::subcommand::Subcommand;
 use crate::use_fault::{UseFault, fault_of_use};
 use crate::words::word_at;
 use clap::ArgMatches;
 use commands::Asked;
-use office_core::{Action, Day, Name};
-use std::alloc::Global;
-
-const DAY: &str = "DAY is a date such as 2024-03-01, from 1900-01-01 to 9799-12-31\n";
-
-const PORT: &str = "P is the number of a port, 0 to 65535\n";
-
-const COUNT: &str = "N is a number of connections, 1 to 1000000\n";
+use office_core::{Action, Day, MAX_NAME, Name};
+use std::alloc::{AllocError, Global};
 
 const ACTION: &str =
     "ACTION is one of class, collection, deposit, list, record, holds, download, audit, hold, release, dispose\n";
@@ -74,15 +68,39 @@ fn name_or_none<'a>(text: &'a str) -> Option<Option<Name<'a>>>
     }
 }
 
-/// The fault of a word that is neither a name nor `-`, where `-` means no name.
-fn no_name_fault(alloc: Global, place: &str) -> UseFault {
-    let why = format!(in alloc;
-        "{place} is a name (1 to 40 characters of a to z, 0 to 9, -, _ and .), or - for none\n"
-    );
+/// The fault of use that this text explains, unless memory ran out for it.
+fn explained(why: Result<String, AllocError>) -> UseFault {
     match why {
         Ok(why) => UseFault::Use(why),
         Err(_) => UseFault::Memory,
     }
+}
+
+/// The fault of a word that is neither a name nor `-`, where `-` means no name.
+fn no_name_fault(alloc: Global, word: &str) -> UseFault {
+    let most = MAX_NAME;
+    explained(format!(in alloc;
+        "{word} is a name (1 to {most} characters of a to z, 0 to 9, -, _ and .), or - for none\n"
+    ))
+}
+
+/// The fault of a word that is no day.
+fn no_day_fault(alloc: Global) -> UseFault {
+    let first = Day::first();
+    let last = Day::last();
+    explained(format!(in alloc; "DAY is a date such as 2024-03-01, from {first} to {last}\n"))
+}
+
+/// The fault of a word that is no port.
+fn no_port_fault(alloc: Global) -> UseFault {
+    let last = MAX_PORT;
+    explained(format!(in alloc; "P is the number of a port, 0 to {last}\n"))
+}
+
+/// The fault of a word that is no number of connections.
+fn no_count_fault(alloc: Global) -> UseFault {
+    let most = MAX_COUNT;
+    explained(format!(in alloc; "N is a number of connections, 1 to {most}\n"))
 }
 
 /// The day that is given as `DAY`, or none where none is given; nothing where the text given is no day.
@@ -107,7 +125,7 @@ fn explain_line<'a>(alloc: Global, matches: &ArgMatches<'a>) -> Result<Line<'a>,
         (fault ≡ Memory) ⊎ MakesNoLine Explain matches.now) }
 {
     let Some(day) = day_or_none(matches) else {
-        return Err(fault_of_use(alloc, DAY));
+        return Err(no_day_fault(alloc));
     };
     let Some(action) = Action::read(word_at(matches, "ACTION")) else {
         return Err(fault_of_use(alloc, ACTION));
@@ -146,7 +164,7 @@ fn ask_line<'a>(alloc: Global, matches: &ArgMatches<'a>) -> Result<Line<'a>, Use
     ensures refused { IfErr result (λ fault. (fault ≡ Memory) ⊎ MakesNoLine Ask matches.now) }
 {
     let Some(day) = Day::read(word_at(matches, "DAY")) else {
-        return Err(fault_of_use(alloc, DAY));
+        return Err(no_day_fault(alloc));
     };
     Ok(Line::Ask {
         store: word_at(matches, "STORE"),
@@ -173,13 +191,13 @@ fn serve_line<'a>(alloc: Global, matches: &ArgMatches<'a>) -> Result<Line<'a>, U
         ⊎ MakesNoLine Serve matches.now) }
 {
     let Some(port) = read_port(word_at(matches, "P")) else {
-        return Err(fault_of_use(alloc, PORT));
+        return Err(no_port_fault(alloc));
     };
     let Some(count) = read_count(word_at(matches, "N")) else {
-        return Err(fault_of_use(alloc, COUNT));
+        return Err(no_count_fault(alloc));
     };
     let Some(day) = Day::read(word_at(matches, "DAY")) else {
-        return Err(fault_of_use(alloc, DAY));
+        return Err(no_day_fault(alloc));
     };
     Ok(Line::Serve {
         port,
