@@ -3,7 +3,7 @@ pub use Rattle.bag_check.specs.Answers.{after_space, cause_or, listed_seen, mani
 pub use Rattle.bag_check.specs.Contents.{alg_behind, algorithm_named, declaration_path, DeclaresVersion, digest, fetch_path, HasFile, HasManifest, Holds, info_path, is_found_of, is_kind, is_manifest_of, is_payload, IsManifestName, IsPayload, IsTop, ListsAt, manifest_name, or_tag, payload_of, stem, word_of}
 pub use Rattle.bag_check.specs.Digests.{AreRightOf, digests_of, ListsSha256}
 pub use Rattle.bag_check.specs.FaultTexts.{fault_text, is_escaped, printed_byte, printed_text}
-pub use Rattle.bag_check.specs.Faults.{Breaks, ComesFirst, Declaration, Fault, fault_name, fault_number, fault_path, FetchNotSupported, FirstFault, HasOxum, InfoText, IsBroken, ManifestText, NoDeclaration, NoPayloadManifest, OxumForm, OxumTwice, OxumWrong, BreachBefore, rule_number, Stands, UnsupportedAlgorithm}
+pub use Rattle.bag_check.specs.Faults.{Breaks, ComesFirst, Declaration, Fault, fault_name, fault_number, fault_path, FetchNotSupported, FirstFault, HasOxum, InfoText, IsBroken, ManifestText, NoDeclaration, NoPayloadManifest, OxumForm, OxumTwice, OxumWrong, BreachBefore, rule_number, Applies, UnsupportedAlgorithm}
 pub use Rattle.bag_check.specs.Fixity.{matches_of}
 pub use Rattle.bag_check.specs.Judging.{are_others, asks_for, breaks_at, concerns, declared_by, files_to_list, first_in, first_listed, first_unlisted, has_path, info_obeyed, is_about_files, is_wrong, judge, obeys_contents, obeys_info, obeyed_by, Listed, listed_or_fault, listing_rules, listings_in, Named, named_by, named_of, named_or_fault, no_fetch, or_declaration, or_info, or_breach, oxums_obeyed, some_payload, version_declared, with_manifest}
 unfoldable pub use Rattle.bag_check.specs.Judging.{first_breach, obeys, listings_of, manifests_in}

@@ -1,5 +1,5 @@
 -- Faults by their numbers, and that of a bag only one comes first.
-use Rattle.bag_check.proofs.Common.{◌≡◌, ℕ, ◌+◌, ◌<◌, ◌≤◌, inl, inr, Bool, true, false, List, [], ◌∷◌, refl, sym, ap, subst, ◌∙◌, arith, eqb as nat_eq, list_any, false≢true, cases_order, same_Some, File, IsBag, Version, Algorithm, LineFault, InfoFault, declaration_of, manifest_of, info_of, info_fault, Kind, Rule, declaration_path, info_path, DeclaresVersion, HasManifest, word_of, Fault, NoDeclaration, Declaration, FetchNotSupported, UnsupportedAlgorithm, NoPayloadManifest, ManifestText, Breaks, InfoText, OxumForm, OxumTwice, OxumWrong, Stands, rule_number, fault_number, fault_name, fault_path, BreachBefore, ComesFirst, FirstFault, same_ok, same_err, declared_again, fault_is_refused, DeclFault}
+use Rattle.bag_check.proofs.Common.{◌≡◌, ℕ, ◌+◌, ◌<◌, ◌≤◌, inl, inr, Bool, true, false, List, [], ◌∷◌, refl, sym, ap, subst, ◌∙◌, arith, eqb as nat_eq, list_any, false≢true, cases_order, same_Some, File, IsBag, Version, Algorithm, LineFault, InfoFault, declaration_of, manifest_of, info_of, info_fault, Kind, Rule, declaration_path, info_path, DeclaresVersion, HasManifest, word_of, Fault, NoDeclaration, Declaration, FetchNotSupported, UnsupportedAlgorithm, NoPayloadManifest, ManifestText, Breaks, InfoText, OxumForm, OxumTwice, OxumWrong, Applies, rule_number, fault_number, fault_name, fault_path, BreachBefore, ComesFirst, FirstFault, same_ok, same_err, declared_again, fault_is_refused, DeclFault}
 use Rattle.bag_text.specs.Declaration.{declaration_fault}
 use Rattle.bag_check.specs.declared.rule.Rule.TheVariants as rules_of
 use Rattle.bag_check.proofs.OrderLemmas.{apart, one_first}
@@ -121,11 +121,11 @@ number_range _ = (omega arith, omega arith)
 
 -- no fault of a lower number stands
 abbrev pub NoneBelow : List File → ℕ → Type 0
-NoneBelow bag n = (g : Fault) → fault_number g < n → Stands bag g → ⊥
+NoneBelow bag n = (g : Fault) → fault_number g < n → Applies bag g → ⊥
 
 -- no fault of this number stands
 abbrev pub NoneAt : List File → ℕ → Type 0
-NoneAt bag n = (g : Fault) → fault_number g ≡ n → Stands bag g → ⊥
+NoneAt bag n = (g : Fault) → fault_number g ≡ n → Applies bag g → ⊥
 
 -- what a fault names comes before what another names
 abbrev pub Earlier : Fault → Fault → Type 0
@@ -138,8 +138,8 @@ none_earlier (inr before) = apart [] before.1
 
 -- a fault that comes first among those of its number
 pub record IsLeast (bag : List File) (f : Fault) : Type 0 where
-  pub stands : Stands bag f
-  pub first : (g : Fault) → fault_number g ≡ fault_number f → Stands bag g → BreachBefore (fault_name g, fault_path g) (fault_name f, fault_path f) → ⊥
+  pub stands : Applies bag f
+  pub first : (g : Fault) → fault_number g ≡ fault_number f → Applies bag g → BreachBefore (fault_name g, fault_path g) (fault_name f, fault_path f) → ⊥
 
 -- no fault has a number below 1
 pub none_below_1 : (bag : List File) → NoneBelow bag 1
@@ -156,7 +156,7 @@ none_more bag n m is below here g lt s = elim (cases_order (fault_number g) n) [
 pub named_first : (bag : List File) (f : Fault) → NoneBelow bag (fault_number f) → IsLeast bag f → FirstFault bag f
 named_first bag f below least = (least.stands, not_before)
   where
-    not_before : (g : Fault) → Stands bag g → ComesFirst g f → ⊥
+    not_before : (g : Fault) → Applies bag g → ComesFirst g f → ⊥
     not_before g s (inl lt) = below g lt s
     not_before g s (inr (same, place)) = least.first g same s place
 
@@ -184,19 +184,19 @@ neither_first f g not_f not_g = elim (cases_order (fault_number f) (fault_number
 ]
 
 -- two declarations' faults of one bag are the same
-same_declaration : (bag : List File) → IsBag bag → (d e : DeclFault) → Stands bag (Declaration d) → Stands bag (Declaration e) → d ≡ e
+same_declaration : (bag : List File) → IsBag bag → (d e : DeclFault) → Applies bag (Declaration d) → Applies bag (Declaration e) → d ≡ e
 same_declaration bag is d e (t, holds, fault) (u, holds_too, fault_too) =
     let same : t ≡ u = one_content bag is declaration_path t u holds holds_too in
     same_Some d e (sym fault ∙ ap declaration_fault same ∙ fault_too)
 
 -- two faults of one bag's bag-info.txt are the same
-same_info : (bag : List File) → IsBag bag → (i j : InfoFault) → Stands bag (InfoText i) → Stands bag (InfoText j) → i ≡ j
+same_info : (bag : List File) → IsBag bag → (i j : InfoFault) → Applies bag (InfoText i) → Applies bag (InfoText j) → i ≡ j
 same_info bag is i j (v, declares, (t, holds, fault)) (w, declares_too, (u, holds_too, fault_too)) =
     let same : t ≡ u = one_content bag is info_path t u holds holds_too in
     same_err i j (info_of u) (ap info_of (sym same) ∙ (info_fault t i).1 fault) ((info_fault u j).1 fault_too)
 
 -- two faults of one manifest's text are the same
-same_text : (bag : List File) → IsBag bag → (name : List ℕ) (l m : LineFault) → Stands bag (ManifestText name l) → Stands bag (ManifestText name m) → l ≡ m
+same_text : (bag : List File) → IsBag bag → (name : List ℕ) (l m : LineFault) → Applies bag (ManifestText name l) → Applies bag (ManifestText name m) → l ≡ m
 same_text bag is name l m (v, declares, (k, a, t, has, fault)) (w, declares_too, (k', b, u, has_too, fault_too)) =
     let version : v ≡ w = one_version bag is v w declares declares_too in
     let same = one_manifest bag is k k' a b name t u has has_too in
@@ -205,21 +205,21 @@ same_text bag is name l m (v, declares, (k, a, t, has, fault)) (w, declares_too,
     same_err l m (manifest_of w b u) (sym moved ∙ fault_is_refused v a t l fault) (fault_is_refused w b u m fault_too)
 
 -- two faults of a bag with one number, name and path are the same
-pub one_fault : (bag : List File) → IsBag bag → (f g : Fault) → Stands bag f → Stands bag g → fault_number f ≡ fault_number g → fault_name f ≡ fault_name g → fault_path f ≡ fault_path g → f ≡ g
+pub one_fault : (bag : List File) → IsBag bag → (f g : Fault) → Applies bag f → Applies bag g → fault_number f ≡ fault_number g → fault_name f ≡ fault_name g → fault_path f ≡ fault_path g → f ≡ g
 one_fault bag is NoDeclaration g s t n m p = at_1 (λ (x : Fault). NoDeclaration ≡ x) refl g (sym n)
 one_fault bag is (Declaration d) g s t n m p =
-    at_2 (λ (x : Fault). Stands bag x → Declaration d ≡ x) (λ e u. ap Declaration (same_declaration bag is d e s u)) g (sym n) t
+    at_2 (λ (x : Fault). Applies bag x → Declaration d ≡ x) (λ e u. ap Declaration (same_declaration bag is d e s u)) g (sym n) t
 one_fault bag is FetchNotSupported g s t n m p = at_3 (λ (x : Fault). FetchNotSupported ≡ x) refl g (sym n)
 one_fault bag is (UnsupportedAlgorithm name) g s t n m p =
     at_4 (λ (x : Fault). name ≡ fault_name x → UnsupportedAlgorithm name ≡ x) (λ other e. ap UnsupportedAlgorithm e) g (sym n) m
 one_fault bag is NoPayloadManifest g s t n m p = at_5 (λ (x : Fault). NoPayloadManifest ≡ x) refl g (sym n)
 one_fault bag is (ManifestText name l) g s t n m p =
-    at_6 (λ (x : Fault). Stands bag x → name ≡ fault_name x → ManifestText name l ≡ x)
-    (λ other k u e. ap (λ (x : List ℕ). ManifestText x l) e ∙ ap (ManifestText other) (same_text bag is other l k (subst (λ (x : List ℕ). Stands bag (ManifestText x l)) e s) u)) g (sym n) t m
+    at_6 (λ (x : Fault). Applies bag x → name ≡ fault_name x → ManifestText name l ≡ x)
+    (λ other k u e. ap (λ (x : List ℕ). ManifestText x l) e ∙ ap (ManifestText other) (same_text bag is other l k (subst (λ (x : List ℕ). Applies bag (ManifestText x l)) e s) u)) g (sym n) t m
 one_fault bag is (Breaks rule name path) g s t n m p =
     at_rule rule (λ (x : Fault). name ≡ fault_name x → path ≡ fault_path x → Breaks rule name path ≡ x)
     (λ other place e h. ap (λ (x : List ℕ). Breaks rule x path) e ∙ ap (Breaks rule other) h) g (sym n) m p
-one_fault bag is (InfoText i) g s t n m p = at_13 (λ (x : Fault). Stands bag x → InfoText i ≡ x) (λ j u. ap InfoText (same_info bag is i j s u)) g (sym n) t
+one_fault bag is (InfoText i) g s t n m p = at_13 (λ (x : Fault). Applies bag x → InfoText i ≡ x) (λ j u. ap InfoText (same_info bag is i j s u)) g (sym n) t
 one_fault bag is OxumForm g s t n m p = at_14 (λ (x : Fault). OxumForm ≡ x) refl g (sym n)
 one_fault bag is OxumTwice g s t n m p = at_15 (λ (x : Fault). OxumTwice ≡ x) refl g (sym n)
 one_fault bag is OxumWrong g s t n m p = at_16 (λ (x : Fault). OxumWrong ≡ x) refl g (sym n)

@@ -1,5 +1,5 @@
 -- The step of judging that reads `bag-info.txt`: it names the first fault of that file, or none stands.
-use Rattle.bag_check.proofs.FirstLemmas.{inl, inr, not, eqb, true, or_cases, eqb-false, eqb-true, not-true, ne_eqb, or_right, true_from_ne_false, ◌≡◌, ℕ, ◌<◌, ◌≤◌, ◌⊎◌, Bool, false, cond, List, length, refl, sym, ap, subst, ◌∙◌, arith, Option, Some, Result, Ok, Err, is_some, nat_lt, Contains, ◌≢◌, list_any, false≢true, ltb-true, ltb-false, File, IsBag, content_at, Pair, SaysInfo, info_of, InfoFault, Version, info_said, info_fault, Holds, HasFile, info_path, DeclaresVersion, NamesCounts, oxums_of, payload_bytes, payload_files, InfoIsRight, Fault, InfoText, OxumForm, OxumTwice, OxumWrong, HasOxum, Stands, FirstFault, counts_of, are_others, oxums_obeyed, obeys_info, same_err, never_both, Has, contains_has, has_contains, any_has, none_has, one_content, content_found, no_content, at_13, at_14, at_15, at_16, Earlier, none_earlier, NoneBelow, none_more, named_first, one_info}
+use Rattle.bag_check.proofs.FirstLemmas.{inl, inr, not, eqb, true, or_cases, eqb-false, eqb-true, not-true, ne_eqb, or_right, true_from_ne_false, ◌≡◌, ℕ, ◌<◌, ◌≤◌, ◌⊎◌, Bool, false, cond, List, length, refl, sym, ap, subst, ◌∙◌, arith, Option, Some, Result, Ok, Err, is_some, nat_lt, Contains, ◌≢◌, list_any, false≢true, ltb-true, ltb-false, File, IsBag, content_at, Pair, SaysInfo, info_of, InfoFault, Version, info_said, info_fault, Holds, HasFile, info_path, DeclaresVersion, NamesCounts, oxums_of, payload_bytes, payload_files, InfoIsRight, Fault, InfoText, OxumForm, OxumTwice, OxumWrong, HasOxum, Applies, FirstFault, counts_of, are_others, oxums_obeyed, obeys_info, same_err, never_both, Has, contains_has, has_contains, any_has, none_has, one_content, content_found, no_content, at_13, at_14, at_15, at_16, Earlier, none_earlier, NoneBelow, none_more, named_first, one_info}
 use Rattle.bag_check.proofs.CountsLemmas.{counts_is, counts_again}
 use Rattle.bag_text.proofs.CaseLemmas.{by_Option, by_Result}
 
@@ -12,7 +12,7 @@ record SaysPairs (bag : List File) (pairs : List Pair) : Type 0 where
   says : SaysInfo text pairs
 
 -- it isn't refused
-not_refused : (bag : List File) → IsBag bag → (pairs : List Pair) → SaysPairs bag pairs → (i : InfoFault) → Stands bag (InfoText i) → ⊥
+not_refused : (bag : List File) → IsBag bag → (pairs : List Pair) → SaysPairs bag pairs → (i : InfoFault) → Applies bag (InfoText i) → ⊥
 not_refused bag is pairs read i (v, declares, (text, holds, fault)) =
     let same : read.text ≡ text = one_content bag is info_path read.text text read.holds holds in
     never_both pairs i (info_of text) (ap info_of (sym same) ∙ (info_said read.text pairs).1 read.says) ((info_fault text i).1 fault)
@@ -78,10 +78,10 @@ same_counts bag bytes files same =
 
 -- none stands
 record IsFree (bag : List File) : Type 0 where
-  text : (i : InfoFault) → Stands bag (InfoText i) → ⊥
-  form : Stands bag OxumForm → ⊥
-  once : Stands bag OxumTwice → ⊥
-  right : Stands bag OxumWrong → ⊥
+  text : (i : InfoFault) → Applies bag (InfoText i) → ⊥
+  form : Applies bag OxumForm → ⊥
+  once : Applies bag OxumTwice → ⊥
+  right : Applies bag OxumWrong → ⊥
 
 -- none stands where there is no bag-info.txt
 free_without : (bag : List File) → (HasFile bag info_path → ⊥) → IsFree bag
@@ -93,19 +93,19 @@ free_without bag none = record {
 }
 
 -- where no value is found without form none is
-form_kept : (bag : List File) → IsBag bag → (pairs : List Pair) → SaysPairs bag pairs → list_any is_formless (oxums_of pairs) ≡ false → Stands bag OxumForm → ⊥
+form_kept : (bag : List File) → IsBag bag → (pairs : List Pair) → SaysPairs bag pairs → list_any is_formless (oxums_of pairs) ≡ false → Applies bag OxumForm → ⊥
 form_kept bag is pairs read none (v, declares, (value, has, bad)) =
     none_has is_formless (oxums_of pairs) value none (its_oxum bag is pairs read value has) (no_form value bad)
 
 -- where no two values are found there are none
-once_kept : (bag : List File) → IsBag bag → (pairs : List Pair) → SaysPairs bag pairs → nat_lt 1 (length (oxums_of pairs)) ≡ false → Stands bag OxumTwice → ⊥
+once_kept : (bag : List File) → IsBag bag → (pairs : List Pair) → SaysPairs bag pairs → nat_lt 1 (length (oxums_of pairs)) ≡ false → Applies bag OxumTwice → ⊥
 once_kept bag is pairs read none (v, declares, (text, others, holds, says, twice)) =
     let more : 1 < length (oxums_of pairs) = subst (λ (ps : List Pair). 1 < length (oxums_of ps)) (one_list bag is pairs others read text holds says) twice in
     let few : length (oxums_of pairs) ≤ 1 = ltb-false 1 (length (oxums_of pairs)) none in
     absurd (omega (arith, more, few))
 
 -- where no value is found that names other counts none does
-right_kept : (bag : List File) → IsBag bag → (pairs : List Pair) → SaysPairs bag pairs → list_any (is_other bag) (oxums_of pairs) ≡ false → Stands bag OxumWrong → ⊥
+right_kept : (bag : List File) → IsBag bag → (pairs : List Pair) → SaysPairs bag pairs → list_any (is_other bag) (oxums_of pairs) ≡ false → Applies bag OxumWrong → ⊥
 right_kept bag is pairs read none (v, declares, (value, bytes, files, has, names, differ)) =
     none_has (is_other bag) (oxums_of pairs) value none (its_oxum bag is pairs read value has) (ap (are_others bag) (counts_again value bytes files names) ∙ differ_again bag bytes files differ)
 
@@ -141,46 +141,46 @@ info_free bag is done e = by_Option (content_at bag info_path)
 -- ---- the first fault of bag-info.txt
 
 -- below each number, as far as the lower ones don't stand
-below_14 : (bag : List File) → NoneBelow bag 13 → ((i : InfoFault) → Stands bag (InfoText i) → ⊥) → NoneBelow bag 14
-below_14 bag below none = none_more bag 13 14 refl below (λ g n s. at_13 (λ x. Stands bag x → ⊥) none g n s)
+below_14 : (bag : List File) → NoneBelow bag 13 → ((i : InfoFault) → Applies bag (InfoText i) → ⊥) → NoneBelow bag 14
+below_14 bag below none = none_more bag 13 14 refl below (λ g n s. at_13 (λ x. Applies bag x → ⊥) none g n s)
 
-below_15 : (bag : List File) → NoneBelow bag 14 → (Stands bag OxumForm → ⊥) → NoneBelow bag 15
-below_15 bag below none = none_more bag 14 15 refl below (λ g n s. at_14 (λ x. Stands bag x → ⊥) none g n s)
+below_15 : (bag : List File) → NoneBelow bag 14 → (Applies bag OxumForm → ⊥) → NoneBelow bag 15
+below_15 bag below none = none_more bag 14 15 refl below (λ g n s. at_14 (λ x. Applies bag x → ⊥) none g n s)
 
-below_16 : (bag : List File) → NoneBelow bag 15 → (Stands bag OxumTwice → ⊥) → NoneBelow bag 16
-below_16 bag below none = none_more bag 15 16 refl below (λ g n s. at_15 (λ x. Stands bag x → ⊥) none g n s)
+below_16 : (bag : List File) → NoneBelow bag 15 → (Applies bag OxumTwice → ⊥) → NoneBelow bag 16
+below_16 bag below none = none_more bag 15 16 refl below (λ g n s. at_15 (λ x. Applies bag x → ⊥) none g n s)
 
 -- where judging finds no fault of bag-info.txt none below 17 stands
 pub info_ok : (bag : List File) → IsBag bag → NoneBelow bag 13 → (done : Unit {0}) → obeys_info bag ≡ Ok done → NoneBelow bag 17
 info_ok bag is below done e =
     let free = info_free bag is done e in
-    none_more bag 16 17 refl (below_16 bag (below_15 bag (below_14 bag below free.text) free.form) free.once) (λ g n s. at_16 (λ x. Stands bag x → ⊥) free.right g n s)
+    none_more bag 16 17 refl (below_16 bag (below_15 bag (below_14 bag below free.text) free.form) free.once) (λ g n s. at_16 (λ x. Applies bag x → ⊥) free.right g n s)
 
 -- each of the four comes first where none of a lower number stands
-text_first : (bag : List File) → NoneBelow bag 13 → (i : InfoFault) → Stands bag (InfoText i) → FirstFault bag (InfoText i)
+text_first : (bag : List File) → NoneBelow bag 13 → (i : InfoFault) → Applies bag (InfoText i) → FirstFault bag (InfoText i)
 text_first bag below i stands = named_first bag (InfoText i) below (record { stands = stands; first = λ g n s. at_13 (λ x. Earlier x (InfoText i) → ⊥) (λ other. none_earlier) g n })
 
-form_first : (bag : List File) → NoneBelow bag 14 → Stands bag OxumForm → FirstFault bag OxumForm
+form_first : (bag : List File) → NoneBelow bag 14 → Applies bag OxumForm → FirstFault bag OxumForm
 form_first bag below stands = named_first bag OxumForm below (record { stands = stands; first = λ g n s. at_14 (λ x. Earlier x OxumForm → ⊥) none_earlier g n })
 
-twice_first : (bag : List File) → NoneBelow bag 15 → Stands bag OxumTwice → FirstFault bag OxumTwice
+twice_first : (bag : List File) → NoneBelow bag 15 → Applies bag OxumTwice → FirstFault bag OxumTwice
 twice_first bag below stands = named_first bag OxumTwice below (record { stands = stands; first = λ g n s. at_15 (λ x. Earlier x OxumTwice → ⊥) none_earlier g n })
 
-wrong_first : (bag : List File) → NoneBelow bag 16 → Stands bag OxumWrong → FirstFault bag OxumWrong
+wrong_first : (bag : List File) → NoneBelow bag 16 → Applies bag OxumWrong → FirstFault bag OxumWrong
 wrong_first bag below stands = named_first bag OxumWrong below (record { stands = stands; first = λ g n s. at_16 (λ x. Earlier x OxumWrong → ⊥) none_earlier g n })
 
 -- a value that is found without form is one
-form_stands : (bag : List File) (v : Version) → DeclaresVersion bag v → (pairs : List Pair) → SaysPairs bag pairs → list_any is_formless (oxums_of pairs) ≡ true → Stands bag OxumForm
+form_stands : (bag : List File) (v : Version) → DeclaresVersion bag v → (pairs : List Pair) → SaysPairs bag pairs → list_any is_formless (oxums_of pairs) ≡ true → Applies bag OxumForm
 form_stands bag v declares pairs read e =
     let found = any_has is_formless (oxums_of pairs) e in
     (v, declares, (found.0, an_oxum bag pairs read found.0 found.1, λ bytes files names. has_form found.0 bytes files names found.2))
 
 -- two values that are found are there
-twice_stands : (bag : List File) (v : Version) → DeclaresVersion bag v → (pairs : List Pair) → SaysPairs bag pairs → nat_lt 1 (length (oxums_of pairs)) ≡ true → Stands bag OxumTwice
+twice_stands : (bag : List File) (v : Version) → DeclaresVersion bag v → (pairs : List Pair) → SaysPairs bag pairs → nat_lt 1 (length (oxums_of pairs)) ≡ true → Applies bag OxumTwice
 twice_stands bag v declares pairs read e = (v, declares, (read.text, pairs, read.holds, read.says, ltb-true 1 (length (oxums_of pairs)) e))
 
 -- a value that is found to name other counts does
-wrong_stands : (bag : List File) (v : Version) → DeclaresVersion bag v → (pairs : List Pair) → SaysPairs bag pairs → list_any (is_other bag) (oxums_of pairs) ≡ true → Stands bag OxumWrong
+wrong_stands : (bag : List File) (v : Version) → DeclaresVersion bag v → (pairs : List Pair) → SaysPairs bag pairs → list_any (is_other bag) (oxums_of pairs) ≡ true → Applies bag OxumWrong
 wrong_stands bag v declares pairs read e =
     let found = any_has (is_other bag) (oxums_of pairs) e in
     let value = found.0 in
@@ -217,7 +217,7 @@ info_err bag is v declares below f e = by_Option (content_at bag info_path)
 -- ---- a bag in which no fault stands has a right bag-info.txt
 
 -- its bag-info.txt is right
-pub info_right : (bag : List File) (v : Version) → DeclaresVersion bag v → ((f : Fault) → Stands bag f → ⊥) → (text : List ℕ) → Holds bag info_path text → InfoIsRight bag text
+pub info_right : (bag : List File) (v : Version) → DeclaresVersion bag v → ((f : Fault) → Applies bag f → ⊥) → (text : List ℕ) → Holds bag info_path text → InfoIsRight bag text
 info_right bag v declares none text holds = by_Result (info_of text)
     (λ pairs e.
     let says = (info_said text pairs).0 e in

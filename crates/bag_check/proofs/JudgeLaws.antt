@@ -1,5 +1,5 @@
 -- Judging a bag gives its report exactly where it is valid, and else the fault that comes first.
-use Rattle.bag_check.proofs.FirstLemmas.{◌≡◌, ℕ, ◌↔◌, ◌⊎◌, inl, inr, Bool, true, false, List, [], ◌∷◌, refl, sym, ap, subst, ◌∙◌, Result, Ok, Err, false≢true, File, IsBag, Version, Algorithm, Lists, checksum_of, is_path_listed, Kind, Payload, Tag, Rule, Holds, HasFile, IsPayload, is_payload, fetch_path, DeclaresVersion, IsManifestName, word_of, HasManifest, ListsAt, digest, Report, report_of, Valid, Fault, Breaks, IsBroken, Stands, FirstFault, ◌>>=◌, has_path, version_declared, no_fetch, Named, manifests_in, some_payload, Listed, listings_of, listings_in, obeys, listing_rules, obeys_info, obeys_contents, judge, bind_ok, bind_err, same_ok, read_is_manifest, Has, contains_has, has_contains, matches_of, at, has_path_is, no_path_is, is_payload_is, is_payload_again, number_range, NoneBelow, one_version, one_first_fault, Found, found_all, payload_manifest, all_read}
+use Rattle.bag_check.proofs.FirstLemmas.{◌≡◌, ℕ, ◌↔◌, ◌⊎◌, inl, inr, Bool, true, false, List, [], ◌∷◌, refl, sym, ap, subst, ◌∙◌, Result, Ok, Err, false≢true, File, IsBag, Version, Algorithm, Lists, checksum_of, is_path_listed, Kind, Payload, Tag, Rule, Holds, HasFile, IsPayload, is_payload, fetch_path, DeclaresVersion, IsManifestName, word_of, HasManifest, ListsAt, digest, Report, report_of, Valid, Fault, Breaks, IsBroken, Applies, FirstFault, ◌>>=◌, has_path, version_declared, no_fetch, Named, manifests_in, some_payload, Listed, listings_of, listings_in, obeys, listing_rules, obeys_info, obeys_contents, judge, bind_ok, bind_err, same_ok, read_is_manifest, Has, contains_has, has_contains, matches_of, at, has_path_is, no_path_is, is_payload_is, is_payload_again, number_range, NoneBelow, one_version, one_first_fault, Found, found_all, payload_manifest, all_read}
 use Rattle.bag_check.specs.declared.rule.Rule.TheVariants as rules_of
 use Rattle.bag_check.proofs.RuleLemmas.{AreListed, listed, lists_found, found_lists, matches_is, matches_again}
 use Rattle.bag_check.proofs.StepLemmas.{version_ok, version_err, below_3, fetch_ok, fetch_err, below_4, names_err, below_5, payload_err, below_6, are_listed, texts_err, below_7, Follow, rules_ok, rules_err}
@@ -20,7 +20,7 @@ record IsRead (bag : List File) (v : Version) (ms : List Named) (ls : List Liste
 -- ---- a bag in which no fault stands is valid
 
 -- a bag whose manifests are read, and in which no fault stands, is valid
-valid_from : (bag : List File) (v : Version) (ms : List Named) (ls : List Listed) → IsRead bag v ms ls → ((f : Fault) → Stands bag f → ⊥) → Valid bag v
+valid_from : (bag : List File) (v : Version) (ms : List Named) (ls : List Listed) → IsRead bag v ms ls → ((f : Fault) → Applies bag f → ⊥) → Valid bag v
 valid_from bag v ms ls r none = record {
   complete = record {
     declares = r.declares;
@@ -82,7 +82,7 @@ below_13 : (bag : List File) (v : Version) (ms : List Named) (ls : List Listed) 
 below_13 bag v ms ls r done e = rules_ok bag r.is v r.declares ls r.read listing_rules 7 13 listing_numbers r.below done e
 
 -- where judging finds no fault none stands
-steps_ok : (bag : List File) (v : Version) (ms : List Named) (ls : List Listed) → IsRead bag v ms ls → (done next : Unit {0}) → obeys bag ls listing_rules ≡ Ok done → obeys_contents bag ls ≡ Ok next → (f : Fault) → Stands bag f → ⊥
+steps_ok : (bag : List File) (v : Version) (ms : List Named) (ls : List Listed) → IsRead bag v ms ls → (done next : Unit {0}) → obeys bag ls listing_rules ≡ Ok done → obeys_contents bag ls ≡ Ok next → (f : Fault) → Applies bag f → ⊥
 steps_ok bag v ms ls r done next listing contents f stands =
     let parts = bind_ok (obeys_info bag) (λ _. obeys bag ls (rules_of.ChecksumWrong ∷ [])) next contents in
     let below_17 = info_ok bag r.is (below_13 bag v ms ls r done listing) parts.0 parts.1 in
@@ -208,7 +208,7 @@ fault_judged bag is f first = by_Result (judge bag)
     (λ g e. e ∙ ap (λ (x : Fault). Err x) (one_first_fault bag is g f (judged_fault bag is g e) first))
 
 -- A bag is valid exactly where no fault stands.
-pub valid_exactly : (bag : List File) → IsBag bag → ((v : Version) × Valid bag v) ↔ ((f : Fault) → Stands bag f → ⊥)
+pub valid_exactly : (bag : List File) → IsBag bag → ((v : Version) × Valid bag v) ↔ ((f : Fault) → Applies bag f → ⊥)
 valid_exactly bag is = (
   λ valid. none_stands bag is valid.0 valid.1,
   λ none. by_Result (judge bag)

@@ -1,5 +1,5 @@
 -- What a `Payload-Oxum` says is one thing.
-use Rattle.bag_check.proofs.Common.{◌≡◌, ℕ, inl, inr, Bool, true, false, eqb, List, [], ◌∷◌, ◌++◌, length, refl, sym, ap, subst, ◌∙◌, arith, append_assoc, Contains, list_all, is_ascii_digit, false≢true, and_parts, or_cases, eqb-true, File, Pair, SaysInfo, info_of, InfoFault, Version, info_said, info_fault, Holds, info_path, IsNumber, NamesCounts, oxums_of, payload_bytes, payload_files, Valid, InfoText, OxumForm, OxumTwice, OxumWrong, Stands, same_ok, never_both, is_blank, AreBlanks}
+use Rattle.bag_check.proofs.Common.{◌≡◌, ℕ, inl, inr, Bool, true, false, eqb, List, [], ◌∷◌, ◌++◌, length, refl, sym, ap, subst, ◌∙◌, arith, append_assoc, Contains, list_all, is_ascii_digit, false≢true, and_parts, or_cases, eqb-true, File, Pair, SaysInfo, info_of, InfoFault, Version, info_said, info_fault, Holds, info_path, IsNumber, NamesCounts, oxums_of, payload_bytes, payload_files, Valid, InfoText, OxumForm, OxumTwice, OxumWrong, Applies, same_ok, never_both, is_blank, AreBlanks}
 
 -- ---- a run of digits ends at one place
 
@@ -62,25 +62,25 @@ right_counts bag v valid text value pairs holds says has =
     right.3 value (subst (λ (ps : List Pair). Contains (oxums_of ps) value) (one_info text pairs right.0 says right.1) has)
 
 -- bag-info.txt isn't refused
-pub info_is_read : (bag : List File) (v : Version) → Valid bag v → (i : InfoFault) → Stands bag (InfoText i) → ⊥
+pub info_is_read : (bag : List File) (v : Version) → Valid bag v → (i : InfoFault) → Applies bag (InfoText i) → ⊥
 info_is_read bag v valid i (w, declares, (text, holds, fault)) =
     let right = valid.complete.info text holds in
     never_both right.0 i (info_of text) ((info_said text right.0).1 right.1) ((info_fault text i).1 fault)
 
 -- each Payload-Oxum has its form
-pub oxum_has_form : (bag : List File) (v : Version) → Valid bag v → Stands bag OxumForm → ⊥
+pub oxum_has_form : (bag : List File) (v : Version) → Valid bag v → Applies bag OxumForm → ⊥
 oxum_has_form bag v valid (w, declares, (value, (text, pairs, holds, says, has), no_form)) =
     no_form (payload_bytes bag) (payload_files bag) (right_counts bag v valid text value pairs holds says has)
 
 -- there is at most one
-pub one_oxum : (bag : List File) (v : Version) → Valid bag v → Stands bag OxumTwice → ⊥
+pub one_oxum : (bag : List File) (v : Version) → Valid bag v → Applies bag OxumTwice → ⊥
 one_oxum bag v valid (w, declares, (text, pairs, holds, says, twice)) =
     let right = valid.complete.info text holds in
     let same : length (oxums_of pairs) ≡ length (oxums_of right.0) = ap (λ (ps : List Pair). length (oxums_of ps)) (one_info text pairs right.0 says right.1) in
     absurd (omega (arith, same, twice, right.2))
 
 -- it names the payload's counts
-pub oxum_is_right : (bag : List File) (v : Version) → Valid bag v → Stands bag OxumWrong → ⊥
+pub oxum_is_right : (bag : List File) (v : Version) → Valid bag v → Applies bag OxumWrong → ⊥
 oxum_is_right bag v valid (w, declares, (value, bytes, files, (text, pairs, holds, says, has), named, wrong)) =
     let right = right_counts bag v valid text value pairs holds says has in
     let same = one_pair_of_counts value bytes files (payload_bytes bag) (payload_files bag) named right in

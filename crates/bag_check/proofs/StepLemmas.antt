@@ -1,5 +1,5 @@
 -- Each step of judging a bag: it names the first fault of its number, or none of that number stands.
-use Rattle.bag_check.proofs.FirstLemmas.{ok_unless, err_if, ◌≡◌, ℕ, ◌+◌, inl, inr, List, [], ◌∷◌, refl, sym, ap, subst, ◌∙◌, Option, Some, None, Ok, Err, File, IsBag, content_at, Version, Algorithm, LineFault, declaration_of, Entries, manifest_of, Kind, Payload, Rule, Holds, HasFile, declaration_path, fetch_path, DeclaresVersion, IsManifestName, word_of, HasManifest, Fault, NoDeclaration, Declaration, FetchNotSupported, UnsupportedAlgorithm, NoPayloadManifest, ManifestText, Breaks, IsBroken, Stands, rule_number, BreachBefore, FirstFault, has_path, or_declaration, declared_by, version_declared, no_fetch, Named, manifests_in, some_payload, Listed, listings_of, first_breach, obeyed_by, obeys, bind_ok, bind_err, same_err, never_both, is_declared, declared_again, refused_again, refused_is_fault, fault_is_refused, Has, contains_has, has_contains, DeclFault, apart, Ascending, ascending_rest, at, bag_ascends, ascends_up, path_of_file, one_content, content_found, no_content, has_path_is, no_path_is, one_algorithm, at_1, at_2, at_3, at_4, at_5, at_6, at_rule, Earlier, none_earlier, NoneBelow, NoneAt, IsLeast, none_below_1, none_more, named_first, one_version, as_named, as_listed, read_of, names, Found, IsFirstUnsupported, first_unsupported, no_payload_manifest, AreRead, IsFirstRefused, first_refused}
+use Rattle.bag_check.proofs.FirstLemmas.{ok_unless, err_if, ◌≡◌, ℕ, ◌+◌, inl, inr, List, [], ◌∷◌, refl, sym, ap, subst, ◌∙◌, Option, Some, None, Ok, Err, File, IsBag, content_at, Version, Algorithm, LineFault, declaration_of, Entries, manifest_of, Kind, Payload, Rule, Holds, HasFile, declaration_path, fetch_path, DeclaresVersion, IsManifestName, word_of, HasManifest, Fault, NoDeclaration, Declaration, FetchNotSupported, UnsupportedAlgorithm, NoPayloadManifest, ManifestText, Breaks, IsBroken, Applies, rule_number, BreachBefore, FirstFault, has_path, or_declaration, declared_by, version_declared, no_fetch, Named, manifests_in, some_payload, Listed, listings_of, first_breach, obeyed_by, obeys, bind_ok, bind_err, same_err, never_both, is_declared, declared_again, refused_again, refused_is_fault, fault_is_refused, Has, contains_has, has_contains, DeclFault, apart, Ascending, ascending_rest, at, bag_ascends, ascends_up, path_of_file, one_content, content_found, no_content, has_path_is, no_path_is, one_algorithm, at_1, at_2, at_3, at_4, at_5, at_6, at_rule, Earlier, none_earlier, NoneBelow, NoneAt, IsLeast, none_below_1, none_more, named_first, one_version, as_named, as_listed, read_of, names, Found, IsFirstUnsupported, first_unsupported, no_payload_manifest, AreRead, IsFirstRefused, first_refused}
 use Rattle.bag_text.proofs.DeclarationLemmas as declaration
 use Rattle.bag_check.proofs.BreachLemmas.{Place, IsLeastBreach}
 use Rattle.bag_check.proofs.RuleLemmas.{AreListed, listed, broken_first}
@@ -15,13 +15,13 @@ version_ok bag v e = by_Option (content_at bag declaration_path) (λ is. let wro
 
 -- where there is a bagit.txt it is not said to be missing
 none_at_1 : (bag : List File) → HasFile bag declaration_path → NoneAt bag 1
-none_at_1 bag file g n s = at_1 (λ x. Stands bag x → ⊥) (λ none. none file) g n s
+none_at_1 bag file g n s = at_1 (λ x. Applies bag x → ⊥) (λ none. none file) g n s
 
 -- where a version is declared the declaration is not refused
 none_at_2 : (bag : List File) → IsBag bag → (v : Version) → DeclaresVersion bag v → NoneAt bag 2
-none_at_2 bag is v (text, holds, declares) g n s = at_2 (λ x. Stands bag x → ⊥) refused g n s
+none_at_2 bag is v (text, holds, declares) g n s = at_2 (λ x. Applies bag x → ⊥) refused g n s
   where
-    refused : (f : DeclFault) → Stands bag (Declaration f) → ⊥
+    refused : (f : DeclFault) → Applies bag (Declaration f) → ⊥
     refused f (other, holds_too, fault) =
         let same : text ≡ other = one_content bag is declaration_path text other holds holds_too in
         never_both v f (declaration_of other) (ap declaration_of (sym same) ∙ declared_again text v declares) (refused_again other f fault)
@@ -55,7 +55,7 @@ fetch_ok bag done e = no_path_is bag fetch_path (ok_unless (has_path bag fetch_p
 
 -- without a fetch.txt no fault below 4 stands
 pub below_4 : (bag : List File) → NoneBelow bag 3 → (HasFile bag fetch_path → ⊥) → NoneBelow bag 4
-below_4 bag below none = none_more bag 3 4 refl below (λ g n s. at_3 (λ x. Stands bag x → ⊥) none g n s)
+below_4 bag below none = none_more bag 3 4 refl below (λ g n s. at_3 (λ x. Applies bag x → ⊥) none g n s)
 
 -- the fetch.txt that is named comes first
 pub fetch_err : (bag : List File) (f : Fault) → NoneBelow bag 3 → no_fetch bag ≡ Err f → FirstFault bag f
@@ -67,9 +67,9 @@ fetch_err bag f below e =
 
 -- where all are found no other algorithm is named
 pub below_5 : (bag : List File) (ms : List Named) → NoneBelow bag 4 → Found bag ms → NoneBelow bag 5
-below_5 bag ms below found = none_more bag 4 5 refl below (λ g n s. at_4 (λ x. Stands bag x → ⊥) known g n s)
+below_5 bag ms below found = none_more bag 4 5 refl below (λ g n s. at_4 (λ x. Applies bag x → ⊥) known g n s)
   where
-    known : (name : List ℕ) → Stands bag (UnsupportedAlgorithm name) → ⊥
+    known : (name : List ℕ) → Applies bag (UnsupportedAlgorithm name) → ⊥
     known name ((content, holds), (kind, alg, is, differs)) =
         let manifest = found.there (at name content) kind alg (contains_has bag (at name content) holds) is in
         differs manifest.0 manifest.1
@@ -81,10 +81,10 @@ names_err bag is f below e = by_first (first_unsupported bag f (bag_ascends bag 
     by_first : IsFirstUnsupported bag f → FirstFault bag f
     by_first found = subst (FirstFault bag) (sym found.is) (named_first bag (UnsupportedAlgorithm found.file.path) below (record {
       stands = (path_of_file bag found.file found.has, found.bad);
-      first = λ g n s. at_4 (λ x. Stands bag x → Earlier x (UnsupportedAlgorithm found.file.path) → ⊥) not_before g n s;
+      first = λ g n s. at_4 (λ x. Applies bag x → Earlier x (UnsupportedAlgorithm found.file.path) → ⊥) not_before g n s;
     }))
       where
-        not_before : (name : List ℕ) → Stands bag (UnsupportedAlgorithm name) → BreachBefore (name, []) (found.file.path, []) → ⊥
+        not_before : (name : List ℕ) → Applies bag (UnsupportedAlgorithm name) → BreachBefore (name, []) (found.file.path, []) → ⊥
         not_before name ((content, holds), bad) (inl before) = found.first (at name content) (contains_has bag (at name content) holds) bad before
         not_before name s (inr before) = apart [] before.1
 
@@ -92,9 +92,9 @@ names_err bag is f below e = by_first (first_unsupported bag f (bag_ascends bag 
 
 -- where one is found it isn't said that there is none
 pub below_6 : (bag : List File) (ms : List Named) → NoneBelow bag 5 → Found bag ms → (m : Named) → Has ms m → m.kind ≡ Payload → NoneBelow bag 6
-below_6 bag ms below found m h payload = none_more bag 5 6 refl below (λ g n s. at_5 (λ x. Stands bag x → ⊥) there g n s)
+below_6 bag ms below found m h payload = none_more bag 5 6 refl below (λ g n s. at_5 (λ x. Applies bag x → ⊥) there g n s)
   where
-    there : Stands bag NoPayloadManifest → ⊥
+    there : Applies bag NoPayloadManifest → ⊥
     there none =
         let file = found.back m h in
         none (word_of m.algorithm) m.name (subst (λ (k : Kind). IsManifestName k (word_of m.algorithm) m.name) payload file.1) (m.text, has_contains bag (at m.name m.text) file.0)
@@ -134,9 +134,9 @@ are_listed bag is v ms ls found read = record {
 
 -- where all are read none is refused
 pub below_7 : (bag : List File) → IsBag bag → (v : Version) → DeclaresVersion bag v → (ls : List Listed) → NoneBelow bag 6 → AreListed bag v ls → NoneBelow bag 7
-below_7 bag is v declares ls below read = none_more bag 6 7 refl below (λ g n s. at_6 (λ x. Stands bag x → ⊥) refused g n s)
+below_7 bag is v declares ls below read = none_more bag 6 7 refl below (λ g n s. at_6 (λ x. Applies bag x → ⊥) refused g n s)
   where
-    refused : (name : List ℕ) (f : LineFault) → Stands bag (ManifestText name f) → ⊥
+    refused : (name : List ℕ) (f : LineFault) → Applies bag (ManifestText name f) → ⊥
     refused name f (w, declares_too, (kind, a, text, has, fault)) =
         let version : v ≡ w = one_version bag is v w declares declares_too in
         let found = read.there kind a name text has in
@@ -150,16 +150,16 @@ texts_err bag is v declares ms f below found e =
     by_first : IsFirstRefused v ms f → FirstFault bag f
     by_first refused = subst (FirstFault bag) (sym refused.is) (named_first bag (ManifestText refused.manifest.name refused.cause) below (record {
       stands = stands;
-      first = λ g n s. at_6 (λ x. Stands bag x → Earlier x (ManifestText refused.manifest.name refused.cause) → ⊥) not_before g n s;
+      first = λ g n s. at_6 (λ x. Applies bag x → Earlier x (ManifestText refused.manifest.name refused.cause) → ⊥) not_before g n s;
     }))
       where
         file : Has bag (at refused.manifest.name refused.manifest.text) × IsManifestName refused.manifest.kind (word_of refused.manifest.algorithm) refused.manifest.name
         file = found.back refused.manifest refused.has
 
-        stands : Stands bag (ManifestText refused.manifest.name refused.cause)
+        stands : Applies bag (ManifestText refused.manifest.name refused.cause)
         stands = let m = refused.manifest in (v, declares, (m.kind, m.algorithm, m.text, (file.1, has_contains bag (at m.name m.text) file.0), refused_is_fault v m.algorithm m.text refused.cause refused.refused))
 
-        not_before : (name : List ℕ) (g : LineFault) → Stands bag (ManifestText name g) → BreachBefore (name, []) (refused.manifest.name, []) → ⊥
+        not_before : (name : List ℕ) (g : LineFault) → Applies bag (ManifestText name g) → BreachBefore (name, []) (refused.manifest.name, []) → ⊥
         not_before name g (w, declares_too, (kind, a, text, has, fault)) (inl before) =
             let version : v ≡ w = one_version bag is v w declares declares_too in
             let other = found.there (at name text) kind (word_of a) (contains_has bag (at name text) has.1) has.0 in
@@ -171,19 +171,19 @@ texts_err bag is v declares ms f below found e =
 
 -- where no place is found the rule is broken nowhere
 rule_kept : (bag : List File) → IsBag bag → (v : Version) → DeclaresVersion bag v → (rule : Rule) → ((name path : List ℕ) → IsBroken bag v rule name path → ⊥) → NoneAt bag (rule_number rule)
-rule_kept bag is v declares rule none g n s = at_rule rule (λ x. Stands bag x → ⊥) kept g n s
+rule_kept bag is v declares rule none g n s = at_rule rule (λ x. Applies bag x → ⊥) kept g n s
   where
-    kept : (name path : List ℕ) → Stands bag (Breaks rule name path) → ⊥
+    kept : (name path : List ℕ) → Applies bag (Breaks rule name path) → ⊥
     kept name path (w, declares_too, broken) = none name path (subst (λ (x : Version). IsBroken bag x rule name path) (sym (one_version bag is v w declares declares_too)) broken)
 
 -- the least place at which a rule is broken comes first
 rule_broken : (bag : List File) → IsBag bag → (v : Version) → DeclaresVersion bag v → (rule : Rule) (name path : List ℕ) → IsBroken bag v rule name path → ((other place : List ℕ) → IsBroken bag v rule other place → BreachBefore (other, place) (name, path) → ⊥) → IsLeast bag (Breaks rule name path)
 rule_broken bag is v declares rule name path broken least = record {
   stands = (v, declares, broken);
-  first = λ g n s. at_rule rule (λ x. Stands bag x → Earlier x (Breaks rule name path) → ⊥) not_before g n s;
+  first = λ g n s. at_rule rule (λ x. Applies bag x → Earlier x (Breaks rule name path) → ⊥) not_before g n s;
 }
   where
-    not_before : (other place : List ℕ) → Stands bag (Breaks rule other place) → BreachBefore (other, place) (name, path) → ⊥
+    not_before : (other place : List ℕ) → Applies bag (Breaks rule other place) → BreachBefore (other, place) (name, path) → ⊥
     not_before other place (w, declares_too, also) before =
         least other place (subst (λ (x : Version). IsBroken bag x rule other place) (sym (one_version bag is v w declares declares_too)) also) before
 

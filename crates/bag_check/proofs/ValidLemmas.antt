@@ -1,5 +1,5 @@
 -- A valid bag has no fault.
-use Rattle.bag_check.proofs.FirstLemmas.{◌≡◌, ℕ, List, sym, ap, subst, ◌∙◌, File, IsBag, Version, declaration_of, manifest_of, Payload, Tag, Rule, declaration_path, word_of, Valid, Fault, NoDeclaration, Declaration, FetchNotSupported, UnsupportedAlgorithm, NoPayloadManifest, ManifestText, Breaks, InfoText, OxumForm, OxumTwice, OxumWrong, IsBroken, Stands, declared_again, refused_again, manifest_is_read, fault_is_refused, never_both, one_content, one_version, info_is_read, oxum_has_form, one_oxum, oxum_is_right}
+use Rattle.bag_check.proofs.FirstLemmas.{◌≡◌, ℕ, List, sym, ap, subst, ◌∙◌, File, IsBag, Version, declaration_of, manifest_of, Payload, Tag, Rule, declaration_path, word_of, Valid, Fault, NoDeclaration, Declaration, FetchNotSupported, UnsupportedAlgorithm, NoPayloadManifest, ManifestText, Breaks, InfoText, OxumForm, OxumTwice, OxumWrong, IsBroken, Applies, declared_again, refused_again, manifest_is_read, fault_is_refused, never_both, one_content, one_version, info_is_read, oxum_has_form, one_oxum, oxum_is_right}
 use Rattle.bag_check.specs.declared.rule.Rule.TheVariants as rules_of
 
 -- in a valid bag no rule is broken
@@ -14,7 +14,7 @@ no_rule_broken bag v valid rules_of.Unlisted name path ((a, text, has), inside, 
 no_rule_broken bag v valid rules_of.ChecksumWrong name path (kind, a, text, checksum, content, has, lists, holds, differs) = differs (valid.fixity kind a name text path checksum content has lists holds)
 
 -- In a valid bag no fault stands.
-pub none_stands : (bag : List File) → IsBag bag → (v : Version) → Valid bag v → (f : Fault) → Stands bag f → ⊥
+pub none_stands : (bag : List File) → IsBag bag → (v : Version) → Valid bag v → (f : Fault) → Applies bag f → ⊥
 none_stands bag is v valid NoDeclaration s = s (valid.complete.declares.0, valid.complete.declares.1)
 none_stands bag is v valid (Declaration d) (text, holds, fault) =
     let declared = valid.complete.declares in

@@ -55,18 +55,18 @@ abbrev pub HasOxum : List File → List ℕ → Type 0
 HasOxum bag value = (text : List ℕ) × (pairs : List Pair) × Holds bag info_path text × SaysInfo text pairs × Contains (oxums_of pairs) value
 
 -- where a fault applies; from the manifests' texts on only in bags that declare a version
-abbrev pub Stands : List File → Fault → Type 0
-Stands bag NoDeclaration = HasFile bag declaration_path → ⊥
-Stands bag (Declaration f) = (text : List ℕ) × Holds bag declaration_path text × (declaration_fault text ≡ Some f)
-Stands bag FetchNotSupported = HasFile bag fetch_path
-Stands bag (UnsupportedAlgorithm name) = HasFile bag name × ((kind : Kind) × (alg : List ℕ) × IsManifestName kind alg name × ((a : Algorithm) → alg ≢ word_of a))
-Stands bag NoPayloadManifest = (alg name : List ℕ) → IsManifestName Payload alg name → HasFile bag name → ⊥
-Stands bag (ManifestText name f) = (v : Version) × DeclaresVersion bag v × ((kind : Kind) × (a : Algorithm) × (text : List ℕ) × HasManifest bag kind a name text × ManifestFault v a text f)
-Stands bag (Breaks rule name path) = (v : Version) × DeclaresVersion bag v × IsBroken bag v rule name path
-Stands bag (InfoText f) = (v : Version) × DeclaresVersion bag v × ((text : List ℕ) × Holds bag info_path text × InfoFaultIs text f)
-Stands bag OxumForm = (v : Version) × DeclaresVersion bag v × ((value : List ℕ) × HasOxum bag value × ((bytes files : ℕ) → NamesCounts value bytes files → ⊥))
-Stands bag OxumTwice = (v : Version) × DeclaresVersion bag v × ((text : List ℕ) × (pairs : List Pair) × Holds bag info_path text × SaysInfo text pairs × (1 < length (oxums_of pairs)))
-Stands bag OxumWrong = (v : Version) × DeclaresVersion bag v × ((value : List ℕ) × (bytes : ℕ) × (files : ℕ) × HasOxum bag value × NamesCounts value bytes files × ((bytes ≢ payload_bytes bag) ⊎ (files ≢ payload_files bag)))
+abbrev pub Applies : List File → Fault → Type 0
+Applies bag NoDeclaration = HasFile bag declaration_path → ⊥
+Applies bag (Declaration f) = (text : List ℕ) × Holds bag declaration_path text × (declaration_fault text ≡ Some f)
+Applies bag FetchNotSupported = HasFile bag fetch_path
+Applies bag (UnsupportedAlgorithm name) = HasFile bag name × ((kind : Kind) × (alg : List ℕ) × IsManifestName kind alg name × ((a : Algorithm) → alg ≢ word_of a))
+Applies bag NoPayloadManifest = (alg name : List ℕ) → IsManifestName Payload alg name → HasFile bag name → ⊥
+Applies bag (ManifestText name f) = (v : Version) × DeclaresVersion bag v × ((kind : Kind) × (a : Algorithm) × (text : List ℕ) × HasManifest bag kind a name text × ManifestFault v a text f)
+Applies bag (Breaks rule name path) = (v : Version) × DeclaresVersion bag v × IsBroken bag v rule name path
+Applies bag (InfoText f) = (v : Version) × DeclaresVersion bag v × ((text : List ℕ) × Holds bag info_path text × InfoFaultIs text f)
+Applies bag OxumForm = (v : Version) × DeclaresVersion bag v × ((value : List ℕ) × HasOxum bag value × ((bytes files : ℕ) → NamesCounts value bytes files → ⊥))
+Applies bag OxumTwice = (v : Version) × DeclaresVersion bag v × ((text : List ℕ) × (pairs : List Pair) × Holds bag info_path text × SaysInfo text pairs × (1 < length (oxums_of pairs)))
+Applies bag OxumWrong = (v : Version) × DeclaresVersion bag v × ((value : List ℕ) × (bytes : ℕ) × (files : ℕ) × HasOxum bag value × NamesCounts value bytes files × ((bytes ≢ payload_bytes bag) ⊎ (files ≢ payload_files bag)))
 
 -- ---- the order: by number, then by the manifest's name, then by the path, by bytes
 
@@ -113,4 +113,4 @@ ComesFirst x y =
 
 -- The fault that is named of a bag: it applies, and none that applies comes before it.
 abbrev pub FirstFault : List File → Fault → Type 0
-FirstFault bag fault = Stands bag fault × ((other : Fault) → Stands bag other → ComesFirst other fault → ⊥)
+FirstFault bag fault = Applies bag fault × ((other : Fault) → Applies bag other → ComesFirst other fault → ⊥)

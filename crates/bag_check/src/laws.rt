@@ -7,7 +7,7 @@ ghost use Rattle.bag_check.specs.declared.names.Kind.{Kind};
 ghost use Rattle.bag_check.specs.Contents.{IsManifestName, manifest_name, IsPayload, is_payload};
 ghost use Rattle.bag_check.specs.Validity.{NamesCounts, Report, Valid, report_of};
 ghost use Rattle.bag_check.specs.OxumReading.{counts_of};
-ghost use Rattle.bag_check.specs.Faults.{Fault, Stands, FirstFault};
+ghost use Rattle.bag_check.specs.Faults.{Fault, Applies, FirstFault};
 ghost use Rattle.bag_check.specs.Judging.{judge};
 
 pub use bag_text::laws::one_text;
@@ -29,9 +29,9 @@ pub fn oxum_counts()
 /// No fault of the table applies to a valid bag, and a bag to which none applies is valid.
 pub fn no_fault_where_valid()
     ensures none { (files : List File) (v : Version) (fault : Fault) → IsBag files
-        → Valid files v → Stands files fault → ⊥ }
+        → Valid files v → Applies files fault → ⊥ }
     ensures exactly { (files : List File) → IsBag files
-        → ((v : Version) × Valid files v) ↔ ((fault : Fault) → Stands files fault → ⊥) }
+        → ((v : Version) × Valid files v) ↔ ((fault : Fault) → Applies files fault → ⊥) }
 {}
 
 /// A bag has one first fault at most.

@@ -13,11 +13,11 @@ message_of failures.Device = codes "device" ++ 10 ∷ []
 message_of failures.Memory = codes "memory" ++ 10 ∷ []
 
 -- what a failed call on a device comes to
-abbrev pub failure_of : ErrorKind → Failure
-failure_of OutOfMemory = failures.Memory
-failure_of _ = failures.Device
+abbrev pub failure_of_kind : ErrorKind → Failure
+failure_of_kind OutOfMemory = failures.Memory
+failure_of_kind _ = failures.Device
 
 -- which of the two failed, where there is nothing to say
-abbrev pub failure_in : Trouble → Failure
-failure_in (troubles.Device error) = failures.Device
-failure_in troubles.Memory = failures.Memory
+abbrev pub failure_of_trouble : Trouble → Failure
+failure_of_trouble (troubles.Device error) = failures.Device
+failure_of_trouble troubles.Memory = failures.Memory

@@ -2,7 +2,7 @@
 
 ghost use Rattle.std.specs.Prelude.{◌≡◌};
 ghost use Rattle.std.specs.IoError.{error_kind};
-ghost use Rattle.commands.specs.Failing.{failure_of, message_of};
+ghost use Rattle.commands.specs.Failing.{failure_of_kind, message_of};
 
 use std::io::{Error, ErrorKind};
 
@@ -28,7 +28,7 @@ impl Failure {
 }
 
 impl From<Error> for Failure {
-    ghost from_gives = { λ error failure. failure ≡ failure_of (error_kind error) };
+    ghost from_gives = { λ error failure. failure ≡ failure_of_kind (error_kind error) };
 
     fn from(error: Error) -> Failure {
         match error.kind() {

@@ -2,7 +2,7 @@
 
 ghost use Rattle.std.specs.Prelude.{◌≡◌};
 ghost use Rattle.std.specs.IoError.{error_kind};
-ghost use Rattle.commands.specs.Failing.{failure_in, failure_of};
+ghost use Rattle.commands.specs.Failing.{failure_of_trouble, failure_of_kind};
 ghost use Rattle.commands.specs.declared.failure.Failure.TheVariants.{Memory};
 
 use crate::failure::Failure;
@@ -19,7 +19,7 @@ pub enum Trouble {
 }
 
 impl From<Error> for Trouble {
-    ghost from_gives = { λ error trouble. failure_in trouble ≡ failure_of (error_kind error) };
+    ghost from_gives = { λ error trouble. failure_of_trouble trouble ≡ failure_of_kind (error_kind error) };
 
     fn from(error: Error) -> Trouble {
         match Failure::from(error) {
@@ -30,7 +30,7 @@ impl From<Error> for Trouble {
 }
 
 impl From<AllocError> for Trouble {
-    ghost from_gives = { λ _ trouble. failure_in trouble ≡ Memory };
+    ghost from_gives = { λ _ trouble. failure_of_trouble trouble ≡ Memory };
 
     fn from(_error: AllocError) -> Trouble {
         Trouble::Memory

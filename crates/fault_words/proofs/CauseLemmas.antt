@@ -16,7 +16,7 @@ use Rattle.bag_text.proofs.DeclarationLemmas.{declares}
 use Rattle.bag_text.proofs.OrderLemmas.{content_found}
 use Rattle.bag_text.proofs.PathCauseLemmas.{found_where_bad}
 use Rattle.bag_check.specs.Contents.{DeclaresVersion, Holds, declaration_path}
-use Rattle.bag_check.specs.Faults.{ManifestText, Stands}
+use Rattle.bag_check.specs.Faults.{ManifestText, Applies}
 use Rattle.fault_words.specs.BagReasons.{cause_at, cause_in, line_in, sentence_of, version_in}
 use Rattle.fault_words.specs.FaultWords.{manifest_words}
 use Rattle.fault_words.specs.ManifestLines.{words_of_bad_path}
@@ -41,7 +41,7 @@ line_found : (files : List File) (name text : List ℕ) (number : ℕ) (line : L
 line_found files name text number line bag held is =
     ap (option_and_then (λ content. numbered_line content number)) (content_found [] files name text bag.ascending held) ∙ numbered text number line is
 
-pub cause_is_known : (files : List File) (name : List ℕ) (line : ℕ) → IsBag files → Stands files (ManifestText name (BadPath line)) → IsSome (cause_at files name line)
+pub cause_is_known : (files : List File) (name : List ℕ) (line : ℕ) → IsBag files → Applies files (ManifestText name (BadPath line)) → IsSome (cause_at files name line)
 cause_is_known files name line bag (v, declared, (kind, a, text, (named, held), (listed, reached, checked, some, bad))) =
     let found : cause_at files name line ≡ path_cause v (path_text listed) =
     ap (option_and_then (λ version. cause_in version (line_in files name line))) (version_found files v bag declared)
@@ -54,6 +54,6 @@ cause_told : (name : List ℕ) (line : ℕ) (known : Option PathCause) → IsSom
 cause_told name line (Some cause) some = (cause, refl)
 cause_told name line None some = absurd (false≢true some)
 
-pub cause_is_told : (files : List File) (name : List ℕ) (line : ℕ) → IsBag files → Stands files (ManifestText name (BadPath line))
+pub cause_is_told : (files : List File) (name : List ℕ) (line : ℕ) → IsBag files → Applies files (ManifestText name (BadPath line))
     → (cause : PathCause) × (sentence_of files (ManifestText name (BadPath line)) ≡ words_of_bad_path name line cause)
 cause_is_told files name line bag stands = cause_told name line (cause_at files name line) (cause_is_known files name line bag stands)

@@ -7,7 +7,7 @@ use Rattle.std.specs.declared.io.ErrorKind.TheVariants.{InvalidData}
 use Rattle.streams.specs.Writing.{GoesOnWith, IsCutShort}
 use Rattle.bag_check.specs.FaultTexts.{printed_text}
 use Rattle.bag_folders.specs.declared.failed.Failed.TheVariants as folders
-use Rattle.commands.specs.Failing.{failure_in, failure_of, message_of}
+use Rattle.commands.specs.Failing.{failure_of_trouble, failure_of_kind, message_of}
 use Rattle.commands.specs.declared.ending.Ending.{Ending}
 use Rattle.commands.specs.declared.ending.Ending.TheVariants.{Failed, Misused, Unsaid}
 use Rattle.commands.specs.declared.failure.Failure.TheVariants.{Device, Memory}
@@ -47,10 +47,10 @@ TellsWhy (Some reason) end was now ending = TellsPerson reason end was now endin
 
 -- the line that is told first
 abbrev pub line_told : Stopped → List ℕ
-line_told (Unread trouble) = message_of (failure_in trouble)
+line_told (Unread trouble) = message_of (failure_of_trouble trouble)
 line_told (Folder (folders.Device trouble)) = message_of Device
 line_told (Folder folders.Memory) = message_of Memory
-line_told (Output error) = message_of (failure_of (error_kind error))
+line_told (Output error) = message_of (failure_of_kind (error_kind error))
 line_told (Store fault) = command_fault_text fault
 
 -- how the program ends then
@@ -89,7 +89,7 @@ TellsOfUse uses.Memory was now ending = TellsMemory was now ending
 -- what is said where the words could not be had: that one is no text, or the failure's line
 abbrev pub unread_text : ErrorKind → List ℕ
 unread_text InvalidData = codes "a word is not UTF-8: give names of files and folders in UTF-8" ++ 10 ∷ []
-unread_text kind = message_of (failure_of kind)
+unread_text kind = message_of (failure_of_kind kind)
 
 abbrev pub refusal_ending : ErrorKind → Ending
 refusal_ending InvalidData = Misused
