@@ -24,12 +24,16 @@ joined folder name = if length folder == 0 then name else if length name == 0 th
 
 -- ---- one folder
 
--- An entry is told of what the system gave for a name: the name; or that it isn't UTF-8, and then, and then alone, that is why the entry is odd, and its path is `?`.
+-- an entry for a name that isn't UTF-8: that is why it is odd, and its path is `?`
+abbrev pub IsUnnamed : List ℕ → Error → Entry → Type 0
+IsUnnamed folder error entry = (error_kind error ≡ InvalidFilename) × (entry.kind ≡ Odd NotUtf8) × (string_bytes entry.path ≡ joined folder (codes "?"))
+
+-- An entry for what the system gave for a name: the name; or that it isn't UTF-8, and then, and then alone, that is why the entry is odd.
 abbrev pub IsToldOf : {R A F D : Type 0} → List ℕ → Result (DirEntry R A F D) Error → Entry → Type 0
 IsToldOf folder (Ok name) entry = (string_bytes entry.path ≡ joined folder (dir_entry_name name)) × (entry.kind ≢ Odd NotUtf8)
-IsToldOf folder (Err error) entry = (error_kind error ≡ InvalidFilename) × (entry.kind ≡ Odd NotUtf8) × (string_bytes entry.path ≡ joined folder (codes "?"))
+IsToldOf folder (Err error) entry = IsUnnamed folder error entry
 
--- an entry is told of each name that the calls from here give, in this order
+-- an entry for each name that the calls from here give, in this order
 abbrev pub AreToldOf : {S R A F D : Type 0} → (S → Option (Result (DirEntry R A F D) Error) → S → Type 0) → List ℕ → S → List Entry → Type 0
 AreToldOf {R = R} {A = A} {F = F} {D = D} steps folder names entries =
     (given : List (Result (DirEntry R A F D) Error)) × Drains steps names given × AllZip (IsToldOf folder) given entries

@@ -1,12 +1,10 @@
 //! Folders, and the entries that are listed in them.
 
-ghost use Rattle.std.specs.Prelude.{◌≡◌, ◌≢◌, ◌++◌, ◌∷◌, ℕ, List, [], ⊤, IsErr, IfErr, IfOk, OnOk, codes, string_bytes};
+ghost use Rattle.std.specs.Prelude.{◌≡◌, ◌≢◌, ◌++◌, ◌∷◌, ℕ, List, [], ⊤, IsErr, IfErr, IfOk, OnOk, string_bytes};
 ghost use Rattle.std.specs.Fs.{IsDir, IsFile, dir_entry_name, file_type, metadata_len};
 ghost use Rattle.std.specs.Iterator.{IsFinite};
-ghost use Rattle.std.specs.IoError.{error_kind};
-ghost use Rattle.std.specs.declared.io.ErrorKind.TheVariants.{InvalidFilename};
 ghost use Rattle.fault_words.specs.declared.folder.OddCause.TheVariants.{NoFile, NotUtf8};
-ghost use Rattle.bag_folders.specs.Listing.{AreToldOf, AreToldOfSome, IsToldOf, joined};
+ghost use Rattle.bag_folders.specs.Listing.{AreToldOf, AreToldOfSome, IsToldOf, IsUnnamed, joined};
 ghost use Rattle.bag_folders.specs.declared.failed.Failed.{Failed};
 ghost use Rattle.bag_folders.specs.declared.listed.Entry.{Entry};
 
@@ -27,7 +25,7 @@ pub trait Folders {
     /// The folder of this path may fail to be listed so.
     ghost fails: { Self → List ℕ → Failed → Type 0 };
 
-    /// The entries of a folder, or why they can't be told.
+    /// The entries of a folder, or why there are none.
     fn list(&self, folder: &str) -> Result<Vec<Entry>, Failed>
         ensures listed { IfOk result (λ entries. lists self.now folder.now entries.items) }
         ensures failed { IfErr result (fails self.now folder.now) };
@@ -93,8 +91,7 @@ fn entry_of<R: Files>(
 /// The entry of a name that the system didn't give. Where that is since the name isn't UTF-8, its path
 /// is `?`.
 fn unnamed_entry(alloc: Global, path: &str, folder: &str, error: io::Error) -> Result<Entry, Failed>
-    ensures { IfOk result (λ entry. (error_kind error ≡ InvalidFilename)
-        × (entry.kind ≡ Kind.Odd NotUtf8) × (string_bytes entry.path ≡ joined folder.now (codes "?"))) }
+    ensures { IfOk result (IsUnnamed folder.now error) }
 {
     if error.kind() != ErrorKind::InvalidFilename {
         return Err(failed_at(alloc, Tried::List, path, error));
@@ -105,7 +102,7 @@ fn unnamed_entry(alloc: Global, path: &str, folder: &str, error: io::Error) -> R
     })
 }
 
-/// The entry that is told of what the system gave for one name.
+/// The entry for what the system gave for one name.
 fn told<R: Files + Drop>(
     alloc: Global,
     path: &str,
@@ -120,7 +117,7 @@ fn told<R: Files + Drop>(
     }
 }
 
-/// Adds the entry that is told of what the system gave for one name.
+/// Adds the entry for what the system gave for one name.
 fn add_told<R: Files + Drop>(
     alloc: Global,
     entries: &mut Vec<Entry>,
@@ -139,8 +136,8 @@ fn add_told<R: Files + Drop>(
     Ok(())
 }
 
-/// The entries of a folder: one is told of each name that the system gives, in this order. Where one
-/// can't be told, none is.
+/// The entries of a folder: one for each name that the system gives, in this order. Where one can't be
+/// made, none is.
 fn told_entries<R: Files + Drop, I: Iterator<Item = io::Result<DirEntry<R, Global>>> + Drop>(
     alloc: Global,
     path: &str,

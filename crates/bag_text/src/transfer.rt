@@ -19,7 +19,7 @@ pub const MAX_CONTENT: usize = 16_777_216;
 pub const MAX_FILES: usize = 2000;
 
 /// The most bytes of a form that is written, or read from a file: 16 MiB. One more is read there, so that
-/// a longer form is told from these.
+/// a longer form is told apart from these.
 pub const MAX_FORM: u64 = 16_777_216;
 
 /// What follows the bytes that a text must begin with.
@@ -176,11 +176,11 @@ fn fault_at(offset: usize, flaw: Flaw) -> SetFault
 }
 
 fn end_or_entry<'a>(offset: usize, text: &'a [u8]) -> Result<EndOrEntry<'a>, SetFault>
-    ensures { MatchResult result (λ p. result_at offset (end_or_head_at text.now) ≡ Ok (end_or_head_of p))
-        (λ fault. result_at offset (end_or_head_at text.now) ≡ Err fault) }
+    ensures { let read = result_at offset (end_or_head_at text.now) in
+        MatchResult result (λ part. read ≡ Ok (end_or_head_of part)) (λ fault. read ≡ Err fault) }
 {
     match read_end_or_entry(text) {
-        Ok(place) => Ok(place),
+        Ok(part) => Ok(part),
         Err(flaw) => Err(fault_at(offset, flaw)),
     }
 }

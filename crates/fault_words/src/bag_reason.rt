@@ -54,7 +54,7 @@ fn cause_at(
     path_cause(alloc, version, line)
 }
 
-/// What is said of a line without a checksum at its front.
+/// What is said of a line that begins with no checksum.
 fn checksum_line(
     alloc: Global,
     bag: &BagSet<'_>,
@@ -130,7 +130,8 @@ fn manifest_line(
 
 /// The fault's sentence, a line with its end.
 fn sentence(alloc: Global, bag: &BagSet<'_>, fault: &BagFault<'_>) -> Result<String, AllocError>
-    ensures { IfOk result (λ text. string_bytes text ≡ sentence_or bag.now (named_fault fault.now) ++ 10 ∷ []) }
+    ensures { let line = sentence_or bag.now (named_fault fault.now) ++ 10 ∷ [] in
+        IfOk result (λ text. string_bytes text ≡ line) }
 {
     match fault {
         BagFault::ManifestText { manifest, fault } => manifest_line(alloc, bag, manifest, *fault),

@@ -21,7 +21,7 @@ impl<'a> Read for Given<'a> {
 }
 
 /// What is printed to standard error of an outcome: nothing where there is no reason.
-pub fn told(outcome: &Outcome) -> &str {
+pub(crate) fn told(outcome: &Outcome) -> &str {
     match &outcome.reason {
         Some(reason) => reason.as_str(),
         None => "",

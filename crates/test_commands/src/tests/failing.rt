@@ -31,7 +31,7 @@ pub struct Failing<'a> {
 }
 
 impl<'a> Failing<'a> {
-    pub fn new(host: &'a HostRuntime, fault: Fault) -> Failing<'a> {
+    pub(crate) fn new(host: &'a HostRuntime, fault: Fault) -> Failing<'a> {
         Failing {
             host,
             fault,
@@ -40,7 +40,7 @@ impl<'a> Failing<'a> {
     }
 
     /// Whether the call that was to fail was made.
-    pub fn has_failed(&self) -> bool {
+    pub(crate) fn has_failed(&self) -> bool {
         match self.fault {
             Fault::Call(number) => self.calls.get() > number,
             _ => true,

@@ -11,12 +11,16 @@ use std::{fs, io};
 use test_bags::{bytes_of, text_of};
 
 /// Packs over the files of the host.
-pub fn pack_here(rt: &HostRuntime, folder: &str, file: &str) -> Result<Packed, PackFault> {
+pub(crate) fn pack_here(rt: &HostRuntime, folder: &str, file: &str) -> Result<Packed, PackFault> {
     pack(rt, folder, file)
 }
 
 /// Unpacks over the files of the host.
-pub fn unpack_here(rt: &HostRuntime, file: &str, folder: &str) -> Result<Unpacked, UnpackFault> {
+pub(crate) fn unpack_here(
+    rt: &HostRuntime,
+    file: &str,
+    folder: &str,
+) -> Result<Unpacked, UnpackFault> {
     unpack(rt, file, folder)
 }
 
@@ -53,7 +57,7 @@ fn check_said(said: Said, line: &str, reason: &str) -> Result<(), Fail> {
 }
 
 /// Packs the folder, and fails where something else is said.
-pub fn packs_as(
+pub(crate) fn packs_as(
     rt: &HostRuntime,
     folder: &str,
     file: &str,
@@ -68,7 +72,7 @@ pub fn packs_as(
 }
 
 /// Unpacks the form, and fails where something else is said.
-pub fn unpacks_as(
+pub(crate) fn unpacks_as(
     rt: &HostRuntime,
     file: &str,
     folder: &str,
@@ -83,7 +87,7 @@ pub fn unpacks_as(
 }
 
 /// Fails where the file has other bytes.
-pub fn compare(rt: &HostRuntime, file: &str, bytes: &[u8]) -> Result<(), Fail> {
+pub(crate) fn compare(rt: &HostRuntime, file: &str, bytes: &[u8]) -> Result<(), Fail> {
     if fs::read(rt, file)?.as_slice() == bytes {
         return Ok(());
     }
@@ -91,7 +95,7 @@ pub fn compare(rt: &HostRuntime, file: &str, bytes: &[u8]) -> Result<(), Fail> {
 }
 
 /// Makes the folder of a test, anew where an earlier run left one.
-pub fn make_folder(rt: &HostRuntime, folder: &str) -> io::Result<()> {
+pub(crate) fn make_folder(rt: &HostRuntime, folder: &str) -> io::Result<()> {
     if fs::exists(rt, folder)? {
         fs::remove_dir_all(rt, folder)?;
     }
@@ -111,7 +115,7 @@ fn lay_file(rt: &HostRuntime, folder: &str, path: &str, content: &str) -> Result
 }
 
 /// Makes a folder with files: `path=content`, with a comma and a blank between them.
-pub fn lay(rt: &HostRuntime, folder: &str, files: &str) -> Result<(), Fail> {
+pub(crate) fn lay(rt: &HostRuntime, folder: &str, files: &str) -> Result<(), Fail> {
     fs::create_dir_all(rt, folder)?;
     for file in files.split(", ") {
         if let Some((path, content)) = file.split_once('=') {
@@ -122,7 +126,7 @@ pub fn lay(rt: &HostRuntime, folder: &str, files: &str) -> Result<(), Fail> {
 }
 
 /// Makes the folder of a test anew, and in it a folder with these files.
-pub fn make_folder_with(
+pub(crate) fn make_folder_with(
     rt: &HostRuntime,
     test: &str,
     folder: &str,
@@ -133,7 +137,7 @@ pub fn make_folder_with(
 }
 
 /// Removes a folder, with which a test ends.
-pub fn finish(rt: &HostRuntime, folder: &str) -> Result<(), Fail> {
+pub(crate) fn finish(rt: &HostRuntime, folder: &str) -> Result<(), Fail> {
     fs::remove_dir_all(rt, folder)?;
     Ok(())
 }
@@ -143,7 +147,7 @@ pub static BAG_FILES: &str =
     r"manifest-sha256.txt={abc}  data/a\n, bagit.txt=BagIt-Version: 1.0\nTag-File-Character-Encoding: UTF-8\n, data/a=abc";
 
 /// Whether the file has the bytes of bag A's form.
-pub fn is_bag(rt: &HostRuntime, file: &str) -> Result<bool, Fail> {
+pub(crate) fn is_bag(rt: &HostRuntime, file: &str) -> Result<bool, Fail> {
     let form = bytes_of(rt.alloc(), r"BAGSET 1\n{bag}")?;
     Ok(fs::read(rt, file)?.as_slice() == form.as_slice())
 }
