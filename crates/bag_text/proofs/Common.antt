@@ -1,7 +1,7 @@
 -- The names that several proofs of this crate cite, passed on from one place. Declares nothing.
 pub use Rattle.bag_text.specs.Answers.{◌>>=◌, Answers, FailsAs, Gives}
 pub use Rattle.bag_text.specs.BagInfo.{AreGroups, begins_blank, filled_lines, InfoFaultIs, is_colon, IsPairLine, Pair, SaysInfo}
-pub use Rattle.bag_text.specs.BagList.{clash_fault, file_fault, FileFault, IsFront, list_fault, ListFault}
+pub use Rattle.bag_text.specs.BagList.{file_fault, FileFault, IsFront, list_fault, ListFault}
 unfoldable pub use Rattle.bag_text.specs.BagList.{fault_from}
 pub use Rattle.bag_text.specs.Declaration.{after_label, declaration_fault, Declares, encoding_label, is_supported, is_utf8_name, is_version_text, IsLabelled, version_label, version_text}
 pub use Rattle.bag_text.specs.DeclarationReading.{declaration_of, encoding_fault, exactly_two, version_declared}
@@ -60,7 +60,7 @@ pub use Rattle.std.specs.Cow.{cow_str_bytes, IsBorrowedStr}
 pub use Rattle.std.specs.List.{AllByRecursion, AllWithin, flat_map, HoldsAt, list_all, list_any, onto_first, position, position_or_len, starts_with}
 pub use Rattle.std.specs.Map.{lookup}
 pub use Rattle.std.specs.Option.{IsNone, MatchOption, option_map_or, option_or, option_to_list}
-pub use Rattle.std.specs.Ordering.{is_eq, is_lt, match_ordering, nat_cmp, ordering_reverse, ordering_then}
+pub use Rattle.std.specs.Ordering.{is_eq, is_lt, nat_cmp, ordering_reverse, ordering_then}
 pub use Rattle.std.specs.Result.{result_ok}
 pub use Rattle.std.specs.Str.{IsCharBoundary, IsValidUpTo, valid_up_to}
 unfoldable pub use Rattle.std.specs.Str.{chars, is_utf8}
