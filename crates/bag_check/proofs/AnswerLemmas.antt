@@ -22,7 +22,7 @@ accepted_is_valid bag is (Ok report) e =
 given : (bag : List File) (judged : Result Report Fault) → judge bag ≡ judged → (result : Result BagReport BagFault) → Answered bag result → Gives named_fault report_seen result judged
 given bag judged e result answered = subst (λ (r : Result Report Fault). Gives named_fault report_seen result r) e answered
 
--- no fault but want of memory names none
+-- no fault but that memory ran out names none
 only_memory : (fault : BagFault) → named_fault fault ≡ None → fault ≡ faults.Memory
 only_memory faults.Memory e = refl
 only_memory _ e = absurd cc

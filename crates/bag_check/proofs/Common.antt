@@ -1,13 +1,13 @@
 -- The names that several proofs of this crate cite, passed on from one place. Declares nothing.
 pub use Rattle.bag_check.specs.Answers.{after_space, cause_or, listed_seen, manifest_in, named_fault, named_seen, NamesFirst, number_or, path_in, report_seen, text_or}
-pub use Rattle.bag_check.specs.Contents.{alg_behind, algorithm_named, declaration_path, DeclaresVersion, digest, fetch_path, HasFile, HasManifest, Holds, info_path, is_found_of, is_kind, is_manifest_of, is_payload, IsManifestName, IsPayload, IsTop, ListsAt, manifest_name, or_tag, payload_of, stem, word_of}
+pub use Rattle.bag_check.specs.Contents.{alg_after, algorithm_named, declaration_path, DeclaresVersion, digest, fetch_path, HasFile, HasManifest, Holds, info_path, is_found_of, is_kind, is_manifest_of, is_payload, IsManifestName, IsPayload, IsTop, ListsAt, manifest_name, or_tag, payload_of, stem, word_of}
 pub use Rattle.bag_check.specs.Digests.{AreRightOf, digests_of, ListsSha256}
 pub use Rattle.bag_check.specs.FaultTexts.{fault_text, is_escaped, printed_byte, printed_text}
 pub use Rattle.bag_check.specs.Faults.{Breaks, ComesFirst, Declaration, Fault, fault_name, fault_number, fault_path, FetchNotSupported, FirstFault, HasOxum, InfoText, IsBroken, ManifestText, NoDeclaration, NoPayloadManifest, OxumForm, OxumTwice, OxumWrong, BreachBefore, rule_number, Applies, UnsupportedAlgorithm}
 pub use Rattle.bag_check.specs.Fixity.{matches_of}
 pub use Rattle.bag_check.specs.Judging.{are_others, asks_for, breaks_at, concerns, declared_by, files_to_list, first_in, first_listed, first_unlisted, has_path, is_about_files, is_wrong, judge, obeys_contents, obeys_info, obeyed_by, Listed, listed_or_fault, listing_rules, listings_in, Named, named_by, named_of, named_or_fault, no_fetch, or_declaration, or_breach, oxums_obeyed, some_payload, version_declared, with_manifest}
 unfoldable pub use Rattle.bag_check.specs.Judging.{first_breach, obeys, listings_of, manifests_in}
-pub use Rattle.bag_check.specs.OxumReading.{behind_digits, behind_stop, counts_of, digit_len, digits_in, number_at_end, number_spelled, oxum_with_files, with_bytes, with_rest}
+pub use Rattle.bag_check.specs.OxumReading.{after_digits, after_stop, counts_of, digit_len, digits_in, number_at_end, number_spelled, oxum_with_files, with_bytes, with_rest}
 pub use Rattle.bag_check.specs.Validity.{InfoIsRight, is_oxum, IsNumber, manifest_count, NamesCounts, number_from, oxums_of, payload_bytes, payload_files, Report, report_of, Valid}
 pub use Rattle.bag_check.specs.declared.names.Kind.{Kind}
 pub use Rattle.bag_check.specs.declared.names.Kind.TheVariants.{Payload, Tag}

@@ -1,5 +1,5 @@
 -- Reading the value of a `Payload-Oxum` gives the counts that it names.
-use Rattle.bag_check.proofs.FirstLemmas.{eqb-true, some_if, ◌≡◌, one-add, ℕ, ◌≤◌, Bool, true, cond, not, eqb, ◌&&◌, List, [], ◌∷◌, ◌++◌, length, refl, sym, ap, ◌∙◌, arith, append_assoc, Option, Some, None, nat_le, list_all, is_ascii_digit, and_parts, and_from, nat_tests, take-append-drop, same_Some, number_from, IsNumber, NamesCounts, digit_len, digits_in, behind_digits, number_spelled, behind_stop, number_at_end, oxum_with_files, with_rest, with_bytes, counts_of, prefix_len-le-length, is_blank, AreBlanks, Stops, same_run, blanks_stop}
+use Rattle.bag_check.proofs.FirstLemmas.{eqb-true, some_if, ◌≡◌, one-add, ℕ, ◌≤◌, Bool, true, cond, not, eqb, ◌&&◌, List, [], ◌∷◌, ◌++◌, length, refl, sym, ap, ◌∙◌, arith, append_assoc, Option, Some, None, nat_le, list_all, is_ascii_digit, and_parts, and_from, nat_tests, take-append-drop, same_Some, number_from, IsNumber, NamesCounts, digit_len, digits_in, after_digits, number_spelled, after_stop, number_at_end, oxum_with_files, with_rest, with_bytes, counts_of, prefix_len-le-length, is_blank, AreBlanks, Stops, same_run, blanks_stop}
 use Rattle.bag_text.proofs.CaseLemmas.{by_Bool, by_Option}
 
 -- ---- the digits at the front
@@ -16,17 +16,17 @@ digits_all (b ∷ t) = by_Bool (is_ascii_digit b)
     (λ is. rw is refl)
 
 -- no digit follows them
-digits_stop : (t : List ℕ) → Stops is_ascii_digit (behind_digits t)
+digits_stop : (t : List ℕ) → Stops is_ascii_digit (after_digits t)
 digits_stop [] = tt
 digits_stop (b ∷ t) = by_Bool (is_ascii_digit b) (λ is. rw (is, one-add) (digits_stop t)) (λ is. rw is is)
 
 -- a text is its digits and what follows them
-cut : (t : List ℕ) → digits_in t ++ behind_digits t ≡ t
+cut : (t : List ℕ) → digits_in t ++ after_digits t ≡ t
 cut t = take-append-drop (digit_len t) t
 
 -- digits that no digit follows are the digits at the front
-run_found : (t xs r : List ℕ) → t ≡ xs ++ r → list_all is_ascii_digit xs ≡ true → Stops is_ascii_digit r → (digits_in t ≡ xs) × (behind_digits t ≡ r)
-run_found t xs r is all stops = same_run is_ascii_digit (digits_in t) xs (behind_digits t) r (digits_all t) all (digits_stop t) stops (cut t ∙ is)
+run_found : (t xs r : List ℕ) → t ≡ xs ++ r → list_all is_ascii_digit xs ≡ true → Stops is_ascii_digit r → (digits_in t ≡ xs) × (after_digits t ≡ r)
+run_found t xs r is all stops = same_run is_ascii_digit (digits_in t) xs (after_digits t) r (digits_all t) all (digits_stop t) stops (cut t ∙ is)
 
 -- ---- numbers
 
@@ -53,15 +53,15 @@ number_again digits n is =
 -- ---- the parts of a value
 
 -- what stands after a full stop
-stop_is : (t rest : List ℕ) → behind_stop t ≡ Some rest → t ≡ 46 ∷ rest
+stop_is : (t rest : List ℕ) → after_stop t ≡ Some rest → t ≡ 46 ∷ rest
 stop_is [] rest e = absurd cc
 stop_is (b ∷ t) rest e =
     let stop = some_if (eqb b 46) (Some t) rest e in
     ap (λ (c : ℕ). c ∷ t) (eqb-true b 46 stop.0) ∙ ap (λ (r : List ℕ). 46 ∷ r) (same_Some t rest stop.1)
 
 -- a number at the end has only blanks after it
-last_is : (t : List ℕ) (n : ℕ) → number_at_end t ≡ Some n → AreBlanks (behind_digits t) × (number_spelled (digits_in t) ≡ Some n)
-last_is t n e = some_if (list_all is_blank (behind_digits t)) (number_spelled (digits_in t)) n e
+last_is : (t : List ℕ) (n : ℕ) → number_at_end t ≡ Some n → AreBlanks (after_digits t) × (number_spelled (digits_in t) ≡ Some n)
+last_is t n e = some_if (list_all is_blank (after_digits t)) (number_spelled (digits_in t)) n e
 
 -- two numbers of which the second is read
 with_files_is : (bytes b f : ℕ) (o : Option ℕ) → oxum_with_files bytes o ≡ Some (b, f) → (bytes ≡ b) × (o ≡ Some f)
@@ -72,16 +72,16 @@ with_files_is bytes b f (Some files) e =
 
 -- a value of which counts are read names them
 pub counts_is : (value : List ℕ) (b f : ℕ) → counts_of value ≡ Some (b, f) → NamesCounts value b f
-counts_is value b f e = by_Option (number_spelled (digits_in value)) (λ none. let wrong = rw none at e in absurd cc) (λ bytes first. by_Option (behind_stop (behind_digits value))
+counts_is value b f e = by_Option (number_spelled (digits_in value)) (λ none. let wrong = rw none at e in absurd cc) (λ bytes first. by_Option (after_stop (after_digits value))
     (λ none. let wrong = rw (first, none) at e in absurd cc)
     (λ rest stop.
     let both = with_files_is bytes b f (number_at_end rest) (rw (first, stop) at e) in
     let last = last_is rest f both.1 in
-    let behind : behind_digits value ≡ 46 ∷ (digits_in rest ++ behind_digits rest) = stop_is (behind_digits value) rest stop ∙ ap (λ (r : List ℕ). 46 ∷ r) (sym (cut rest)) in (
+    let behind : after_digits value ≡ 46 ∷ (digits_in rest ++ after_digits rest) = stop_is (after_digits value) rest stop ∙ ap (λ (r : List ℕ). 46 ∷ r) (sym (cut rest)) in (
       digits_in value,
       digits_in rest,
-      behind_digits rest,
-      sym (cut value) ∙ ap (λ (r : List ℕ). digits_in value ++ r) behind ∙ sym (append_assoc (digits_in value) (46 ∷ digits_in rest) (behind_digits rest)),
+      after_digits rest,
+      sym (cut value) ∙ ap (λ (r : List ℕ). digits_in value ++ r) behind ∙ sym (append_assoc (digits_in value) (46 ∷ digits_in rest) (after_digits rest)),
       last.0,
       number_is (digits_in value) b (digits_all value) (first ∙ ap (λ (k : ℕ). Some k) both.0),
       number_is (digits_in rest) f (digits_all rest) last.1,
@@ -94,7 +94,7 @@ counts_again value b f (first, second, after, is, blanks, bytes, files) =
     let one = run_found value first (46 ∷ (second ++ after)) whole bytes.all refl in
     let two = run_found (second ++ after) second after refl files.all (blanks_stop after blanks) in
     let number : number_spelled (digits_in value) ≡ Some b = ap number_spelled one.0 ∙ number_again first b bytes in
-    let rest : behind_stop (behind_digits value) ≡ Some (second ++ after) = ap behind_stop one.1 in
-    let only : list_all is_blank (behind_digits (second ++ after)) ≡ true = ap (list_all is_blank) two.1 ∙ blanks in
+    let rest : after_stop (after_digits value) ≡ Some (second ++ after) = ap after_stop one.1 in
+    let only : list_all is_blank (after_digits (second ++ after)) ≡ true = ap (list_all is_blank) two.1 ∙ blanks in
     let last : number_at_end (second ++ after) ≡ Some f = ap (λ (x : Bool). cond x (number_spelled (digits_in (second ++ after))) None) only ∙ ap number_spelled two.0 ∙ number_again second f files in
-    ap (λ (o : Option ℕ). with_bytes o (behind_stop (behind_digits value))) number ∙ ap (with_rest b) rest ∙ ap (oxum_with_files b) last
+    ap (λ (o : Option ℕ). with_bytes o (after_stop (after_digits value))) number ∙ ap (with_rest b) rest ∙ ap (oxum_with_files b) last

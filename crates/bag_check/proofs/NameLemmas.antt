@@ -1,5 +1,5 @@
 -- The names of manifests: what computing gives is what the definitions say.
-use Rattle.bag_check.proofs.Common.{sym, some_if, ◌≡◌, ℕ, ◌+◌, ◌-◌, ◌<◌, Bool, true, cond, not, ◌&&◌, nat_lt as ltb, List, [], ◌∷◌, ◌++◌, length, take, drop, slice_index_or as get_or, refl, ap, subst, ◌∙◌, arith, append_assoc, length-append, Option, Some, None, bytes_eq, eqb as nat_eq, codes, ◌≢◌, list_any, starts_with, ends_with, same_Some, false≢true, and_parts, and_from, ltb-true, lt-ltb, not-true, not_from_false, Decides-eqb, take-append-drop, take-take, take_at, drop_at, length-take-le, length-drop, bytes_eq-Decides, starts_is, ends_is, Algorithm, Kind, Payload, Tag, IsTop, stem, IsManifestName, alg_behind, or_tag, manifest_name, is_kind, is_found_of, is_manifest_of, word_of, algorithm_named, Sha256, Sha512}
+use Rattle.bag_check.proofs.Common.{sym, some_if, ◌≡◌, ℕ, ◌+◌, ◌-◌, ◌<◌, Bool, true, cond, not, ◌&&◌, nat_lt as ltb, List, [], ◌∷◌, ◌++◌, length, take, drop, slice_index_or as get_or, refl, ap, subst, ◌∙◌, arith, append_assoc, length-append, Option, Some, None, bytes_eq, eqb as nat_eq, codes, ◌≢◌, list_any, starts_with, ends_with, same_Some, false≢true, and_parts, and_from, ltb-true, lt-ltb, not-true, not_from_false, Decides-eqb, take-append-drop, take-take, take_at, drop_at, length-take-le, length-drop, bytes_eq-Decides, starts_is, ends_is, Algorithm, Kind, Payload, Tag, IsTop, stem, IsManifestName, alg_after, or_tag, manifest_name, is_kind, is_found_of, is_manifest_of, word_of, algorithm_named, Sha256, Sha512}
 use Rattle.bag_text.proofs.CaseLemmas.{by_Bool, by_Option}
 
 -- ---- what stands between the front and `.txt`
@@ -61,13 +61,13 @@ alg_again front name alg b =
     some_length (x ∷ xs) h = omega arith
 
 -- what is found after a front is ALG
-behind_is : (front name alg : List ℕ) → alg_behind front name ≡ Some alg → IsBehind front name alg
+behind_is : (front name alg : List ℕ) → alg_after front name ≡ Some alg → IsBehind front name alg
 behind_is front name alg e =
     let behind = some_if (is_behind front name) (Some (alg_in front name)) alg e in
     subst (IsBehind front name) (same_Some (alg_in front name) alg behind.1) (alg_is front name behind.0)
 
 -- ALG is found after its front
-behind_again : (front name alg : List ℕ) → IsBehind front name alg → alg_behind front name ≡ Some alg
+behind_again : (front name alg : List ℕ) → IsBehind front name alg → alg_after front name ≡ Some alg
 behind_again front name alg b =
     let again = alg_again front name alg b in
     ap (λ (x : Bool). cond x (Some (alg_in front name)) None) again.0 ∙ ap (λ (x : List ℕ). Some x) again.1
@@ -84,8 +84,8 @@ name_behind kind alg name n = record { is = n.is; some = n.some; top = n.top }
 
 -- what is found of a name is so
 pub name_is : (name : List ℕ) (kind : Kind) (alg : List ℕ) → manifest_name name ≡ Some (kind, alg) → IsManifestName kind alg name
-name_is name kind alg e = by_Option (alg_behind (stem Payload) name)
-    (λ none. by_Option (alg_behind (stem Tag) name)
+name_is name kind alg e = by_Option (alg_after (stem Payload) name)
+    (λ none. by_Option (alg_after (stem Tag) name)
     (λ other. let wrong = rw (none, other) at e in absurd cc)
     (λ found is.
     let same : (Tag, found) ≡ (kind, alg) = same_Some (Tag, found) (kind, alg) (rw (none, is) at e) in
@@ -103,12 +103,12 @@ not_both name one two p t =
 
 -- a manifest's name is found
 pub name_again : (name : List ℕ) (kind : Kind) (alg : List ℕ) → IsManifestName kind alg name → manifest_name name ≡ Some (kind, alg)
-name_again name Payload alg n = ap (λ (x : Option (List ℕ)). or_tag x (alg_behind (stem Tag) name)) (behind_again (stem Payload) name alg (name_behind Payload alg name n))
+name_again name Payload alg n = ap (λ (x : Option (List ℕ)). or_tag x (alg_after (stem Tag) name)) (behind_again (stem Payload) name alg (name_behind Payload alg name n))
 name_again name Tag alg n =
-    let no_payload : alg_behind (stem Payload) name ≡ None = by_Option (alg_behind (stem Payload) name)
+    let no_payload : alg_after (stem Payload) name ≡ None = by_Option (alg_after (stem Payload) name)
     (λ e. e)
     (λ found e. absurd (not_both name found alg (behind_name Payload found name (behind_is (stem Payload) name found e)) n)) in
-    ap (λ (x : Option (List ℕ)). or_tag x (alg_behind (stem Tag) name)) no_payload ∙ ap (or_tag None) (behind_again (stem Tag) name alg (name_behind Tag alg name n))
+    ap (λ (x : Option (List ℕ)). or_tag x (alg_after (stem Tag) name)) no_payload ∙ ap (or_tag None) (behind_again (stem Tag) name alg (name_behind Tag alg name n))
 
 -- where nothing is found there is no manifest
 pub no_name : (name : List ℕ) → manifest_name name ≡ None → (kind : Kind) (alg : List ℕ) → IsManifestName kind alg name → ⊥

@@ -95,6 +95,6 @@ listed_seen l = record { name = l.name.now; kind = l.kind; algorithm = l.algorit
 abbrev pub counts_seen : Counts → ℕ × ℕ
 counts_seen counts = (counts.bytes, counts.files)
 
--- a place as the definitions speak of it: the manifest's name, and the path
+-- a breach as the definitions speak of it: the manifest's name, and the path
 abbrev pub breach_seen : Bor (List ℕ) × CowStr Global → List ℕ × List ℕ
 breach_seen place = (place.0.now, cow_str_bytes place.1)

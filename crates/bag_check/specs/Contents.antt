@@ -61,10 +61,10 @@ pub record IsManifestName (kind : Kind) (alg name : List ℕ) : Type 0 where
   pub top : IsTop name
 
 -- the same by computing: the kind and ALG of a manifest's name
-abbrev pub alg_behind : List ℕ → List ℕ → Option (List ℕ)
-alg_behind front name =
-    let alg = drop (length front) (take (length name - 4) name) in
-    if starts_with nat_eq name front && ends_with nat_eq name (codes ".txt") && nat_lt (length front + 4) (length name) && not (list_any (λ b. b == 47) name)
+abbrev pub alg_after : List ℕ → List ℕ → Option (List ℕ)
+alg_after stem name =
+    let alg = drop (length stem) (take (length name - 4) name) in
+    if starts_with nat_eq name stem && ends_with nat_eq name (codes ".txt") && nat_lt (length stem + 4) (length name) && not (list_any (λ b. b == 47) name)
     then Some alg else None
 
 abbrev pub or_tag : Option (List ℕ) → Option (List ℕ) → Option (Kind × List ℕ)
@@ -73,7 +73,7 @@ or_tag None (Some alg) = Some (Tag, alg)
 or_tag None None = None
 
 abbrev pub manifest_name : List ℕ → Option (Kind × List ℕ)
-manifest_name name = or_tag (alg_behind (stem Payload) name) (alg_behind (stem Tag) name)
+manifest_name name = or_tag (alg_after (stem Payload) name) (alg_after (stem Tag) name)
 
 abbrev pub is_manifest_path : List ℕ → Bool
 is_manifest_path name = is_some (manifest_name name)

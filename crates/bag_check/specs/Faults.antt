@@ -18,7 +18,7 @@ use Rattle.bag_check.specs.Contents.{Holds, HasFile, IsPayload, declaration_path
 use Rattle.bag_check.specs.Validity.{NamesCounts, oxums_of, payload_bytes, payload_files}
 
 -- A fault with what it names: a manifest's name, a path, or why a text is refused. A rule of a manifest is
--- broken at a place, which is the manifest's name and a path.
+-- broken, with where: the manifest's name and a path.
 pub data Fault : Type 0 where
   NoDeclaration : Fault
   Declaration : DeclFault → Fault

@@ -97,7 +97,7 @@ listings_in v bag = do
   _ ← some_payload ms
   listings_of v ms
 
--- ---- the first place at which a rule is broken
+-- ---- the first breach of a rule
 
 -- the manifests that a rule is for: those of one kind, or all
 abbrev pub concerns : Rule → Kind → Bool

@@ -76,7 +76,7 @@ fn need_payload_manifest<'a>(found: &[Named<'a>]) -> Result<(), BagFault<'a>>
     }
 }
 
-/// The fault of a rule that is broken at a place.
+/// The fault of a rule that is broken, with where.
 fn fault_at<'a>(rule: Rule, manifest: &'a str, path: CowStr<'a, Global>) -> BagFault<'a>
     ensures { named_fault result
         ≡ Some (Breaks rule manifest.entry.now (cow_str_bytes path.entry)) }
@@ -92,7 +92,7 @@ fn fault_at<'a>(rule: Rule, manifest: &'a str, path: CowStr<'a, Global>) -> BagF
     }
 }
 
-/// Refuses a bag that breaks a rule, at the first place.
+/// Refuses a bag that breaks a rule, with the first breach.
 fn check_rule<'a>(bag: &BagSet<'a>, rule: Rule, listed: &[Listed<'a>]) -> Result<(), BagFault<'a>>
     ensures { Gives named_fault (λ unit. unit) result
         (obeyed_by rule (first_breach bag.now rule (map listed_seen listed.now))) }
@@ -245,7 +245,7 @@ pub fn check_bag<'a>(alloc: Global, bag: &BagSet<'a>) -> Result<BagReport, BagFa
     judge_bag(alloc, bag, bag.files())
 }
 
-/// Judges a bag as `check_bag` does, and tells the SHA-256 of each file of a valid one. Where a manifest lists
+/// Judges a bag as `check_bag` does, and gives the SHA-256 of each file of a valid one. Where a manifest lists
 /// it, it was computed once, to be compared.
 pub fn check_and_digest<'a>(alloc: Global, bag: &BagSet<'a>) -> Result<DigestedReport, BagFault<'a>>
     ensures exact { Gives named_fault (λ digested. report_seen digested.report) result

@@ -2,7 +2,7 @@
 
 ghost use Rattle.std.specs.Prelude.{◌≡◌, codes, length, nat_eq, nat_lt, not, ◌&&◌, ◌+◌, ◌==◌, option_copied, option_map};
 ghost use Rattle.std.specs.List.{list_any, starts_with, ends_with};
-ghost use Rattle.bag_check.specs.Contents.{alg_behind, manifest_name, is_kind, is_manifest_of, algorithm_named, is_payload};
+ghost use Rattle.bag_check.specs.Contents.{alg_after, manifest_name, is_kind, is_manifest_of, algorithm_named, is_payload};
 
 use bag_text::Algorithm;
 
@@ -20,39 +20,39 @@ fn has_slash(path: &[u8]) -> bool
     path.contains(&b'/')
 }
 
-/// Whether a path is `front`, at least one byte, and `.txt`, and at the top.
-fn is_between(front: &[u8], path: &[u8]) -> bool
-    ensures { result ≡ (starts_with nat_eq path.now front.now
+/// Whether a path is `stem`, at least one byte, and `.txt`, and at the top.
+fn is_between(stem: &[u8], path: &[u8]) -> bool
+    ensures { result ≡ (starts_with nat_eq path.now stem.now
         && ends_with nat_eq path.now (codes ".txt")
-        && nat_lt (length front.now + 4) (length path.now)
+        && nat_lt (length stem.now + 4) (length path.now)
         && not (list_any (λ b. b == 47) path.now)) }
 {
-    path.starts_with(front)
+    path.starts_with(stem)
         && path.ends_with(b".txt")
-        && front.len() + 4 < path.len()
+        && stem.len() + 4 < path.len()
         && !has_slash(path)
 }
 
-/// ALG in a top path that is `front`, ALG, not empty, and `.txt`.
-fn algorithm_behind<'a>(front: &str, path: &'a str) -> Option<&'a [u8]>
-    ensures { option_copied result ≡ alg_behind front.now path.now }
+/// ALG in a top path that is `stem`, ALG, not empty, and `.txt`.
+fn algorithm_after<'a>(stem: &str, path: &'a str) -> Option<&'a [u8]>
+    ensures { option_copied result ≡ alg_after stem.now path.now }
 {
-    let front = front.as_bytes();
+    let stem = stem.as_bytes();
     let path = path.as_bytes();
-    if !is_between(front, path) {
+    if !is_between(stem, path) {
         return None;
     }
     let named = &path[..path.len() - 4];
-    Some(&named[front.len()..])
+    Some(&named[stem.len()..])
 }
 
 /// The kind and ALG of a path that is a manifest's name.
 pub fn manifest_of<'a>(path: &'a str) -> Option<(Kind, &'a [u8])>
     ensures { option_map (λ found. (found.0, found.1.now)) result ≡ manifest_name path.now }
 {
-    match algorithm_behind("manifest-", path) {
+    match algorithm_after("manifest-", path) {
         Some(alg) => Some((Kind::Payload, alg)),
-        None => match algorithm_behind("tagmanifest-", path) {
+        None => match algorithm_after("tagmanifest-", path) {
             Some(alg) => Some((Kind::Tag, alg)),
             None => None,
         },

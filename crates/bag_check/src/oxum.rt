@@ -6,7 +6,7 @@ ghost use Rattle.std.specs.List.{list_all};
 ghost use Rattle.std.specs.Char.{is_ascii_digit};
 ghost use Rattle.bag_text.specs.Text.{is_blank};
 ghost use Rattle.bag_check.specs.Validity.{number_from};
-ghost use Rattle.bag_check.specs.OxumReading.{digit_len, digits_in, behind_digits, number_spelled, behind_stop, number_at_end, counts_of};
+ghost use Rattle.bag_check.specs.OxumReading.{digit_len, digits_in, after_digits, number_spelled, after_stop, number_at_end, counts_of};
 ghost use Rattle.bag_check.specs.Answers.{counts_seen};
 
 /// The most digits of a number.
@@ -19,7 +19,7 @@ pub struct Counts {
     pub files: u128,
 }
 
-/// How many digits are at the front.
+/// How many digits come first.
 fn digit_len(text: &[u8]) -> usize
     ensures { result ≡ digit_len text.now }
 {
@@ -28,11 +28,11 @@ fn digit_len(text: &[u8]) -> usize
         .unwrap_or(text.len())
 }
 
-/// The digits at the front, and what follows them.
+/// The digits that come first, and what follows them.
 #[tactic(auto, using(crate::proofs::CountsLemmas::digits_fit))]
 fn split_digits(text: &[u8]) -> (&[u8], &[u8])
     ensures digits { result.0.now ≡ digits_in text.now }
-    ensures rest { result.1.now ≡ behind_digits text.now }
+    ensures rest { result.1.now ≡ after_digits text.now }
 {
     text.split_at(digit_len(text))
 }
@@ -61,18 +61,18 @@ fn read_number(digits: &[u8]) -> Option<u128>
     Some(number(digits))
 }
 
-/// The number at the front, and what follows its digits.
+/// The number that comes first, and what follows its digits.
 fn split_number(text: &[u8]) -> (Option<u128>, &[u8])
     ensures number { result.0 ≡ number_spelled (digits_in text.now) }
-    ensures rest { result.1.now ≡ behind_digits text.now }
+    ensures rest { result.1.now ≡ after_digits text.now }
 {
     let (digits, rest) = split_digits(text);
     (read_number(digits), rest)
 }
 
 /// What follows a full stop.
-fn behind_stop(text: &[u8]) -> Option<&[u8]>
-    ensures { option_copied result ≡ behind_stop text.now }
+fn after_stop(text: &[u8]) -> Option<&[u8]>
+    ensures { option_copied result ≡ after_stop text.now }
 {
     match text {
         [b'.', rest @ ..] => Some(rest),
@@ -101,7 +101,7 @@ pub fn read_counts(value: &[u8]) -> Option<Counts>
 {
     let (bytes, rest) = split_number(value);
     let bytes = bytes?;
-    let rest = behind_stop(rest)?;
+    let rest = after_stop(rest)?;
     let files = number_at_end(rest)?;
     Some(Counts { bytes, files })
 }

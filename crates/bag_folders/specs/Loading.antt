@@ -3,7 +3,7 @@ use Rattle.std.specs.Prelude.{◌≡◌, ℕ, List, ◌++◌, length, string_byt
 use Rattle.bag_text.specs.TransferForm.{entry}
 use Rattle.bag_folders.specs.declared.listed.Listed.{Listed}
 
--- so many bytes follow
+-- this number of bytes follows
 abbrev pub AppendsSome : ℕ → List ℕ → List ℕ → Type 0
 AppendsSome size old new = (content : List ℕ) × (length content ≡ size) × (new ≡ old ++ content)
 

@@ -34,7 +34,7 @@ pub record AreInPathOrder (found listed : List Listed) : Type 0 where
 
 -- ---- the file at fault
 
--- its place, where the fault is one file's
+-- its position, where the fault is one file's
 abbrev pub fault_offset : SetFault → Option ℕ
 fault_offset (sets.BadEntry place) = Some place
 fault_offset (sets.OutOfOrder place) = Some place
@@ -73,7 +73,7 @@ HasNoForm files fault = ⊥
 abbrev pub AllFilesOf : List Listed → (List File → Type 0) → Type 0
 AllFilesOf listed P = (files : List File) → AreFilesOf listed files → P files
 
--- why a folder in which this was found isn't packed, as far as the paths and sizes tell: an odd entry comes
+-- why a folder in which this was found isn't packed, as far as the paths and sizes show: an odd entry comes
 -- first, by its path
 abbrev pub IsUnpackable : Found → PackFault → Type 0
 IsUnpackable found (Name odd) = found.odd ≡ Some odd
@@ -88,7 +88,7 @@ IsUnpackable found fault =
 abbrev pub IsFoundUnder : (List ℕ → List Entry → Type 0) → Found → Type 0
 IsFoundUnder lists found = (entries : List Entry) × AreListed lists entries × IsFoundIn entries found
 
--- all that was found are files; so many files and bytes has the form of them, in the order of their paths; and it is said whether a declaration is among them
+-- all that was found are files; the form of them has this number of files and bytes, in the order of their paths; and it is said whether a declaration is among them
 pub record IsPackedOf (found : Found) (packed : Packed) : Type 0 where
   pub listed : List Listed
   pub files : List File
@@ -107,7 +107,7 @@ HasNoFormOf listed (Device trouble) = Unit {0}
 HasNoFormOf listed Memory = Unit {0}
 HasNoFormOf listed fault = (files : List File) × AreFilesOf listed files × HasNoForm files fault
 
--- what was found is refused, as far as paths and sizes tell, or what was read of it has no form
+-- what was found is refused, as far as paths and sizes show, or what was read of it has no form
 abbrev pub IsRefusedOf : Found → PackFault → Type 0
 IsRefusedOf found fault =
     IsUnpackable found fault
@@ -119,9 +119,9 @@ IsRefusedUnder lists (Device trouble) = Unit {0}
 IsRefusedUnder lists Memory = Unit {0}
 IsRefusedUnder lists fault = (found : Found) × IsFoundUnder lists found × IsRefusedOf found fault
 
--- ---- what is told of a folder, of which no contract says what it holds
+-- ---- what is said of a folder, of which no contract says what it holds
 
--- so many files and bytes have some list of files and its form, and a declaration is among them or isn't
+-- some list of files and its form have this number of files and bytes, and a declaration is among them or isn't
 abbrev pub IsPacked : Packed → Type 0
 IsPacked packed = (files : List File) × (text : List ℕ) × IsFormOf files text × (packed.files ≡ length files) × (packed.bytes ≡ length text) × (packed.is_declared ≡ is_declared (paths_found files))
 

@@ -36,7 +36,7 @@ unread_form_text fault = codes "unreadable " ++ fault ++ 10 ∷ []
 abbrev pub exists_text : List ℕ
 exists_text = codes "exists" ++ 10 ∷ []
 
--- ---- the reasons that standard error is told, each in lines with their ends
+-- ---- the reasons that are printed to standard error, each in lines with their ends
 
 abbrev pub line_of : List ℕ → List ℕ
 line_of words = words ++ 10 ∷ []
@@ -75,7 +75,7 @@ SaysOfUnpack (Err unpacking.Size) said = SaysWhy (unread_form_text (codes "SIZE"
 SaysOfUnpack (Err unpacking.Exists) said = SaysWhy exists_text (line_of exists_words) said
 SaysOfUnpack (Err fault) said = ⊥
 
--- ---- what failed: the device that is told of, or memory
+-- ---- what failed: the device that is named, or memory
 
 abbrev pub PackFails : Result Packed PackFault → Failed → Type 0
 PackFails (Err (packing.Device trouble)) failed = failed ≡ failures.Device trouble

@@ -19,9 +19,9 @@ IsFaultFound fault (Ok x) = fault ≡ None
 IsFaultFound fault (Err Memory) = Unit {0}
 IsFaultFound fault (Err found) = fault ≡ Some found
 
--- what is found where the file at this place is too long, and that is found of those before it: names
+-- what is found where the file at this position is too long, and that is found of those before it: names
 -- clash last
 abbrev pub with_long : {X : Type 0} → ℕ → Result X SetFault → Result X SetFault
-with_long place (Ok x) = Err (BadEntry place)
-with_long place (Err PathClash) = Err (BadEntry place)
-with_long place (Err fault) = Err fault
+with_long position (Ok x) = Err (BadEntry position)
+with_long position (Err PathClash) = Err (BadEntry position)
+with_long position (Err fault) = Err fault

@@ -25,7 +25,7 @@ IsUnreadable text (Set fault other) = (length text ≤ max_form) × FaultIs text
 IsUnreadable text Memory = Unit {0}
 IsUnreadable text fault = ⊥
 
--- what is judged of a file: all that a form may have, and one byte more, which tells a longer one
+-- what is judged of a file: all that a form may have, and one byte more, by which a longer one is recognized
 abbrev pub judged_part : List ℕ → List ℕ
 judged_part given = take (max_form + 1) given
 
@@ -83,9 +83,9 @@ IsUnpackedFromFile reads (Err (Device trouble)) = Unit {0}
 IsUnpackedFromFile reads (Err Memory) = Unit {0}
 IsUnpackedFromFile reads result = SomeFile reads (λ given. IsUnpackedFrom (judged_part given) result)
 
--- ---- what is told of a file, of which no contract says what it holds
+-- ---- what is said of a file, of which no contract says what it holds
 
--- some bag has so many files
+-- some bag has this number of files
 abbrev pub IsUnpacked : Unpacked → Type 0
 IsUnpacked unpacked = (files : List File) × (text : List ℕ) × IsFormOf files text × (unpacked.files ≡ length files)
 

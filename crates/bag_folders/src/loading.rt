@@ -23,7 +23,7 @@ fn append_content<F: Read>(
     ensures given { size < 2 ^ 64 - 1 → OnOk result (IfSome (F.remaining file.old)
         (λ given. form.new.items ≡ form.old.items ++ given)) }
 {
-    // One byte more tells a file that has grown.
+    // By one byte more a file is recognized that has grown.
     match file.take(size.saturating_add(1)).read_to_end(form) {
         Ok(count) => {
             if count as u64 != size {

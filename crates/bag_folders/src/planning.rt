@@ -11,7 +11,7 @@ use crate::sizes::judge;
 use std::alloc::Global;
 
 /// The files to be packed, in the order of their paths; or the first fault of what was found, as far as
-/// paths and sizes tell. An entry without a place in a form comes before any fault of the files.
+/// paths and sizes show. An entry without a place in a form comes before any fault of the files.
 pub fn plan(alloc: Global, found: Found) -> Result<Vec<Listed>, PackFault>
     // All entries are files, and these are they, in order.
     ensures order { IfOk result (λ files.

@@ -47,7 +47,7 @@ fn write_to_device<F: Write + OpenFile>(file: &mut F, bytes: &[u8]) -> io::Resul
     // What was written is the bytes, and nothing else.
     ensures whole { OnOk result (Appends (F.contents file.old) (F.contents file.new) bytes.now) }
     // Whatever comes of it, a beginning of them was.
-    ensures front { IsCutShort bytes.now (F.contents file.old) (F.contents file.new) }
+    ensures written { IsCutShort bytes.now (F.contents file.old) (F.contents file.new) }
 {
     write_bytes(bytes, file)?;
     file.sync_all()

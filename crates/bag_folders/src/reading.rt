@@ -11,7 +11,7 @@ use std::io;
 use std::io::Read;
 use streams::read_at_most;
 
-/// Reads a form to its end, or one byte past the most that a form has, which tells one that is longer.
+/// Reads a form to its end, or one byte past the most that a form has, by which a longer one is recognized.
 pub fn read_form<R: Read>(alloc: Global, form: &mut R) -> io::Result<Vec<u8>>
     ensures { IfOk result (λ text. IfSome (R.remaining form.old)
         (λ given. text.items ≡ judged_part given)) }

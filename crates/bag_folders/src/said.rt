@@ -17,8 +17,8 @@ use fault_words::{
 use std::alloc::{AllocError, Global};
 use std::fmt::Write;
 
-/// What is said on standard output, a line with its end; why the work wasn't done, where a person is
-/// told that on standard error, in lines with their ends; and whether it was done.
+/// What is said on standard output, a line with its end; why the work wasn't done, where standard
+/// error says so to a person, in lines with their ends; and whether it was done.
 #[derive(Debug, Drop)]
 pub struct Said {
     pub text: String,
@@ -55,7 +55,7 @@ fn unpacked_line(alloc: Global, unpacked: Unpacked) -> Result<String, AllocError
     format!(in alloc; "unpacked {files} files\n")
 }
 
-/// Why a file isn't packed, with its path in front.
+/// Why a file isn't packed, with its path first.
 fn file_reason(alloc: Global, fault: SetFault, path: &str) -> Result<String, AllocError>
     ensures { IfOk result (λ line. string_bytes line ≡ file_reason fault path.now) }
 {
@@ -66,7 +66,7 @@ fn file_reason(alloc: Global, fault: SetFault, path: &str) -> Result<String, All
     Ok(line)
 }
 
-/// Why the files of a folder aren't packed, with the path of the one at fault in front.
+/// Why the files of a folder aren't packed, with the path of the one at fault first.
 fn files_reason(alloc: Global, fault: SetFault, path: &Option<String>) -> Result<String, AllocError>
     ensures { IfOk result (λ line.
         string_bytes line ≡ files_reason fault (option_map string_bytes path.now)) }
@@ -111,7 +111,7 @@ fn odd_entry_said(alloc: Global, odd: &Odd) -> Result<Said, AllocError>
 pub fn pack_said(alloc: Global, packing: Result<Packed, PackFault>) -> Result<Said, Failed>
     // What is said is so.
     ensures said { IfOk result (SaysOfPack packing) }
-    // What fails is the device that is told of, or memory.
+    // What fails is the device that is named, or memory.
     ensures failed { IfErr result (PackFails packing) }
 {
     match packing {
@@ -139,7 +139,7 @@ pub fn pack_said(alloc: Global, packing: Result<Packed, PackFault>) -> Result<Sa
 pub fn unpack_said(alloc: Global, unpacking: Result<Unpacked, UnpackFault>) -> Result<Said, Failed>
     // What is said is so.
     ensures said { IfOk result (SaysOfUnpack unpacking) }
-    // What fails is the device that is told of, or memory.
+    // What fails is the device that is named, or memory.
     ensures failed { IfErr result (UnpackFails unpacking) }
 {
     match unpacking {

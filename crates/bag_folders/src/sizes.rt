@@ -1,4 +1,4 @@
-//! What the paths and sizes of files tell, before a content is read.
+//! What the paths and sizes of files show, before a content is read.
 
 ghost use Rattle.std.specs.Prelude.{◌≡◌, ◌<◌, ◌↔◌, IsTrue, IfOk, IfErr, map, option_copied};
 ghost use Rattle.std.specs.List.{position_from, sum_by};
@@ -13,7 +13,7 @@ use crate::pack_fault::{PackFault, fault_offset, named_fault};
 use bag_text::{BagSet, MAX_CONTENT, MAX_FORM, SetFault};
 use std::alloc::{AllocError, Global};
 
-/// The place of the first file whose content is too long for a bag.
+/// The position of the first file whose content is too long for a bag.
 fn first_too_long(files: &[Listed]) -> Option<usize>
     ensures { result ≡ position_from is_too_long 0 files.now }
 {
@@ -52,24 +52,24 @@ fn judge_paths(alloc: Global, files: &[Listed]) -> Result<(), SetFault>
     }
 }
 
-/// The first fault of files, of which the one at this place is too long, and those before it have this
+/// The first fault of files, of which the one at this position is too long, and those before it have this
 /// fault.
-fn with_long(place: usize, front: Result<(), SetFault>) -> Result<(), SetFault>
-    ensures { result ≡ with_long place front }
+fn with_long(position: usize, earlier: Result<(), SetFault>) -> Result<(), SetFault>
+    ensures { result ≡ with_long position earlier }
 {
-    match front {
-        Ok(()) => Err(SetFault::BadEntry(place)),
-        Err(SetFault::PathClash) => Err(SetFault::BadEntry(place)),
+    match earlier {
+        Ok(()) => Err(SetFault::BadEntry(position)),
+        Err(SetFault::PathClash) => Err(SetFault::BadEntry(position)),
         Err(fault) => Err(fault),
     }
 }
 
-/// The first fault of the files, as far as paths and sizes tell.
+/// The first fault of the files, as far as paths and sizes show.
 fn judge_files(alloc: Global, files: &[Listed]) -> Result<(), SetFault>
     ensures { AllFilesOf files.now (λ list. IsFaultFound (list_fault list) result) }
 {
     match first_too_long(files) {
-        Some(place) => with_long(place, judge_paths(alloc, &files[..place])),
+        Some(position) => with_long(position, judge_paths(alloc, &files[..position])),
         None => judge_paths(alloc, files),
     }
 }

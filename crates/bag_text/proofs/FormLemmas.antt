@@ -5,14 +5,14 @@ use Rattle.bag_text.proofs.CaseLemmas.{by_Bool}
 use Rattle.bag_text.proofs.ResultLemmas.{is_nothing}
 
 -- a file with its bytes in place
-pub record Stands (before rest : List ℕ) (head : Head) (f : File) (behind : List ℕ) : Type 0 where
+pub record BeginsWithFile (before rest : List ℕ) (head : Head) (f : File) (behind : List ℕ) : Type 0 where
   pub bytes : rest ≡ f.path ++ (f.content ++ 10 ∷ behind)
   pub path_len : length f.path ≡ head.path_len
   pub content_len : length f.content ≡ head.content_len
   pub good : is_good f.path ≡ true
   pub after : comes_before before f.path ≡ true
 
-pub file_ok : (offset : ℕ) (before : List ℕ) (head : Head) (x : File × List ℕ) → file_at offset before head ≡ Ok x → Stands before head.rest head x.0 x.1
+pub file_ok : (offset : ℕ) (before : List ℕ) (head : Head) (x : File × List ℕ) → file_at offset before head ≡ Ok x → BeginsWithFile before head.rest head x.0 x.1
 unfolding file_at
 file_ok offset before head x e =
     let path = take head.path_len head.rest in
@@ -29,7 +29,7 @@ file_ok offset before head x e =
     let last : behind ≡ 10 ∷ drop 1 behind = drop_more behind 0 0 some ∙ ap (λ (b : ℕ). b ∷ drop 1 behind) lf in
     let two : drop head.path_len head.rest ≡ content ++ 10 ∷ drop 1 behind = sym (take-append-drop head.content_len (drop head.path_len head.rest)) ∙ ap (λ (t : List ℕ). content ++ t) last in
     let whole : head.rest ≡ path ++ (content ++ 10 ∷ drop 1 behind) = sym (take-append-drop head.path_len head.rest) ∙ ap (λ (t : List ℕ). path ++ t) two in
-    subst (λ (y : File × List ℕ). Stands before head.rest head y.0 y.1) (ok_is made x g4.1) (record {
+    subst (λ (y : File × List ℕ). BeginsWithFile before head.rest head y.0 y.1) (ok_is made x g4.1) (record {
       bytes = whole;
       path_len = omega (arith, length-take head.path_len head.rest);
       content_len = omega (arith, length-take head.content_len (drop head.path_len head.rest), length-drop head.path_len head.rest);

@@ -325,15 +325,15 @@ marked : (text : List ℕ) → is_utf8 text ≡ true → has_mark text ≡ true 
 unfolding info_of
 marked text e g = rw (e, g) refl
 
-is_said : (text : List ℕ) (pairs : List Pair) → info_of text ≡ Ok pairs → SaysInfo text pairs
-is_said text pairs e =
+says_what_is_read : (text : List ℕ) (pairs : List Pair) → info_of text ≡ Ok pairs → SaysInfo text pairs
+says_what_is_read text pairs e =
     let utf8 = true_from_ne_false (is_utf8 text) (λ is. never_both pairs NotUtf8 (info_of text) e (not_utf8 text is)) in
     let unmarked = false_from_ne_true (has_mark text) (λ is. never_both pairs ByteOrderMark (info_of text) e (marked text utf8 is)) in
     record { utf8 = utf8; unmarked = unmarked; groups = groups_read 1 (lines text) pairs (sym (info_lines text utf8 unmarked) ∙ e) }
 
 -- A text says these pairs exactly where reading answers them.
 pub info_said : (text : List ℕ) (pairs : List Pair) → (info_of text ≡ Ok pairs) ↔ SaysInfo text pairs
-info_said text pairs = (is_said text pairs, λ is. info_lines text is.utf8 is.unmarked ∙ groups_again 1 (lines text) pairs is.groups)
+info_said text pairs = (says_what_is_read text pairs, λ is. info_lines text is.utf8 is.unmarked ∙ groups_again 1 (lines text) pairs is.groups)
 
 -- ---- the first fault
 

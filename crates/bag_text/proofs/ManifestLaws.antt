@@ -213,7 +213,7 @@ lists_iff v a text es path checksum e = (there, back)
         let l = entry_is_listed v a text es path entry e has in
         subst (λ (c : List ℕ). Lists v a text path c) (one_checksum a l.0 checksum (sym l.1 ∙ is)) (on_lists v a text path l.0 entry.line l.2)
 
--- ---- what reading answers, memory aside
+-- ---- what reading answers, unless memory runs out
 
 -- a fault is of memory, or what reading gives
 fails : (fault : LineFault) (read : Result Entries LineFault) → FailsAs (named_line_fault fault) read → (fault ≡ Memory) ⊎ (read ≡ Err fault)
@@ -258,7 +258,7 @@ module _ (v : Version) (a : Algorithm) (t : List ℕ) where
   says_manifest (Ok m) g = read_is_manifest v a t (entries_in m) g
   says_manifest (Err fault) g = tt
 
-  -- a manifest is read, memory aside
+  -- a manifest is read, unless memory runs out
   pub says_reads : (r : Result Manifest LineFault) → Gives named_line_fault entries_in r (manifest_of v a t) → IsManifest v a t → IfErr r (λ fault. fault ≡ Memory)
   says_reads (Ok m) g is = tt
   says_reads (Err fault) g is = elim (fails fault (manifest_of v a t) g) [
@@ -284,12 +284,12 @@ module _ (v : Version) (a : Algorithm) (t : List ℕ) where
       borrowed_iff path (has_coded v (path_text line)) (entry_is_decoded v a t (entries_in m) (cow_str_bytes path) (entry_in (path, listing)).1 line g (contains_listed m path listing has) at)
   says_borrowed (Err fault) g = tt
 
-  -- a refusal is the first fault, memory aside
+  -- a refusal is the first fault, unless memory runs out
   pub says_refused : (r : Result Manifest LineFault) → Gives named_line_fault entries_in r (manifest_of v a t) → IfErr r (λ fault. (fault ≡ Memory) ⊎ ManifestFault v a t fault)
   says_refused (Ok m) g = tt
   says_refused (Err fault) g = elim (fails fault (manifest_of v a t) g) [ inl e ↦ inl e | inr e ↦ inr (refused_is_fault v a t fault e) ]
 
-  -- the first fault is the answer, memory aside
+  -- the first fault is the answer, unless memory runs out
   pub says_fault : (r : Result Manifest LineFault) → Gives named_line_fault entries_in r (manifest_of v a t) → (fault : LineFault) → ManifestFault v a t fault → (r ≡ Err fault) ⊎ (r ≡ Err Memory)
   says_fault (Ok m) g fault is = absurd (never_both (entries_in m) fault (manifest_of v a t) g (fault_is_refused v a t fault is))
   says_fault (Err other) g fault is = elim (fails other (manifest_of v a t) g) [

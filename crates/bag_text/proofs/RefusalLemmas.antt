@@ -1,5 +1,5 @@
 -- A row of the table that stands is the fault that reading gives.
-use Rattle.bag_text.proofs.FirstLemmas.{◌≡◌, ℕ, zero, suc, ◌+◌, ◌-◌, ◌<◌, ◌≤◌, ◌≢◌, ◌⊎◌, inl, inr, true, false, cond, eqb, ltb, not, List, [], ◌∷◌, ◌++◌, length, refl, sym, ap, subst, ◌∙◌, arith, append_assoc, flat_map, AllByRecursion, nat_tests, lt-ltb, le-ltb, append-nil, take_at, drop_at, length-append, Flaw, Short, Bad, SetFault, BadOpening, BadEntry, Truncated, OutOfOrder, BadPath, TooManyFiles, TrailingBytes, PathClash, is_good, comes_before, File, Head, header, entry, opening, ending, set_text, max_files, Ascends, clashes, Fits, IsBag, BeginsWith, IsProperBeginning, IsOpening, IsEndOrHeader, IsHeaded, EntryFault, PlaceFault, last_path, GoOn, FaultIs, EndOrHead, End, Entry, literal_at, end_or_head_at, file_at, result_at, entry_at, files_at, after_opening, set_of, Result, Ok, Err, same_ok, same_err, never_both, literal_ok, literal_again, literal_ends, literal_bad}
+use Rattle.bag_text.proofs.FirstLemmas.{◌≡◌, ℕ, zero, suc, ◌+◌, ◌-◌, ◌<◌, ◌≤◌, ◌≢◌, ◌⊎◌, inl, inr, true, false, cond, eqb, ltb, not, List, [], ◌∷◌, ◌++◌, length, refl, sym, ap, subst, ◌∙◌, arith, append_assoc, flat_map, AllByRecursion, nat_tests, lt-ltb, le-ltb, append-nil, take_at, drop_at, length-append, Flaw, Short, Bad, SetFault, BadOpening, BadEntry, Truncated, OutOfOrder, BadPath, TooManyFiles, TrailingBytes, PathClash, is_good, comes_before, File, Head, header, entry, opening, ending, set_text, max_files, Ascends, clashes, Fits, IsBag, BeginsWith, IsProperBeginning, IsOpening, IsEndOrHeader, IsHeaded, EntryFault, PositionFault, last_path, GoOn, FaultIs, EndOrHead, End, Entry, literal_at, end_or_head_at, file_at, result_at, entry_at, files_at, after_opening, set_of, Result, Ok, Err, same_ok, same_err, never_both, literal_ok, literal_again, literal_ends, literal_bad}
 use Rattle.bag_text.proofs.FormLemmas.{place_ok, place_header, end_trails, entry_again, files_again, set_ok, set_again}
 use Rattle.bag_text.proofs.FaultLemmas.{sized, fit, place_end, short_place, bad_place}
 use Rattle.bag_text.proofs.SetLemmas.{at_fault, at_file}
@@ -149,7 +149,7 @@ trails offset left before t [] some is = absurd (some refl)
 trails offset left before t (b ∷ more) some is = ap (entry_at offset left before) is ∙ end_trails offset left b before more
 
 -- A fault at an entry's place is the one that reading gives there.
-entry_refused : (offset left : ℕ) (before t : List ℕ) (f : SetFault) → PlaceFault offset left before t f → entry_at offset left before t ≡ Err f
+entry_refused : (offset left : ℕ) (before t : List ℕ) (f : SetFault) → PositionFault offset left before t f → entry_at offset left before t ≡ Err f
 entry_refused offset left before t Truncated (inl proper) = let is = place_short t proper in place_fails offset left before t Short Truncated is (rw is refl)
 entry_refused offset left before t Truncated (inr (head, is, lt, h)) = header_refused offset left before t head Truncated is lt h
 entry_refused offset left before t (BadEntry n) (inl (at, begins, proper)) = let is = place_bad t begins proper in place_fails offset left before t Bad (BadEntry n) is (rw (is, at) refl)
@@ -160,16 +160,16 @@ entry_refused offset left before t f h = header_refused offset left before t h.0
 
 -- A fault after files without fault is the one that reading them all gives.
 files_refused : (whole : ℕ) (fs : List File) (left : ℕ) (before rest : List ℕ) (f : SetFault) → length fs ≤ left → AllByRecursion Fits fs → Ascends before fs
-    → PlaceFault (whole - length rest) (left - length fs) (last_path before fs) rest f → files_at whole left before (flat_map entry fs ++ rest) ≡ Err f
+    → PositionFault (whole - length rest) (left - length fs) (last_path before fs) rest f → files_at whole left before (flat_map entry fs ++ rest) ≡ Err f
 files_refused whole [] left before rest f few fits up h =
     let same : left - 0 ≡ left = omega arith in
-    at_fault whole left before rest f (entry_refused (whole - length rest) left before rest f (subst (λ (n : ℕ). PlaceFault (whole - length rest) n before rest f) same h))
+    at_fault whole left before rest f (entry_refused (whole - length rest) left before rest f (subst (λ (n : ℕ). PositionFault (whole - length rest) n before rest f) same h))
 files_refused whole (x ∷ fs) zero before rest f few fits up h = absurd (omega arith)
 files_refused whole (x ∷ fs) (suc left) before rest f few fits up h =
     let tail = flat_map entry fs ++ rest in
     let one = entry_again (whole - length (entry x ++ tail)) left before x tail fits.0 up.0 in
     let same : suc left - length (x ∷ fs) ≡ left - length fs = omega arith in
-    let later = files_refused whole fs left x.path rest f (omega arith) fits.1 up.1 (subst (λ (n : ℕ). PlaceFault (whole - length rest) n (last_path x.path fs) rest f) same h) in
+    let later = files_refused whole fs left x.path rest f (omega arith) fits.1 up.1 (subst (λ (n : ℕ). PositionFault (whole - length rest) n (last_path x.path fs) rest f) same h) in
     ap (files_at whole (suc left) before) (append_assoc (entry x) (flat_map entry fs) rest) ∙ at_file whole left before (entry x ++ tail) (x, tail) one ∙ rw later refl
 
 -- ---- the whole text
@@ -186,7 +186,7 @@ clash_refused : (t body : List ℕ) (files : List File) → t ≡ opening ++ bod
 unfolding set_of
 clash_refused t body files is e clash = let read : literal_at opening t ≡ Ok body = ap (literal_at opening) is ∙ literal_again opening body in rw (read, e, clash) refl
 
-going_refused : (t : List ℕ) (f : SetFault) (files : List File) (rest : List ℕ) → GoOn files t rest → PlaceFault (length t - length rest) (max_files - length files) (last_path [] files) rest f → set_of t ≡ Err f
+going_refused : (t : List ℕ) (f : SetFault) (files : List File) (rest : List ℕ) → GoOn files t rest → PositionFault (length t - length rest) (max_files - length files) (last_path [] files) rest f → set_of t ≡ Err f
 going_refused t f files rest on h =
     body_refused t (flat_map entry files ++ rest) f (on.text ∙ append_assoc opening (flat_map entry files) rest) (files_refused (length t) files max_files [] rest f on.few on.each on.ascending h)
 

@@ -1,5 +1,5 @@
 -- A fault that reading gives is the one of the table.
-use Rattle.bag_text.proofs.FirstLemmas.{not-true, err_if, err_unless, err_through, never_both, ◌≡◌, ℕ, zero, suc, ◌+◌, ◌-◌, ◌<◌, ◌≤◌, ◌≢◌, inl, inr, Bool, true, false, cond, eqb, ltb, not, List, [], ◌∷◌, ◌++◌, length, get_or, take, drop, refl, sym, ap, subst, ◌∙◌, arith, append_assoc, Option, Some, None, IfErr, flat_map, AllByRecursion, nat_tests, eqb-true, ltb-true, ltb-false, append-nil, take-append-drop, length-take, length-drop, drop_more, Flaw, Short, Bad, SetFault, BadOpening, BadEntry, Truncated, OutOfOrder, BadPath, TooManyFiles, TrailingBytes, PathClash, Memory, ◌>>=◌, Gives, EndOrHead, End, Entry, literal_at, end_or_head_at, file_at, result_at, entry_at, files_at, after_opening, set_of, named_set_fault, File, Head, entry, opening, ending, max_files, Ascends, clashes, Fits, is_good, comes_before, IsHeaded, EntryFault, PlaceFault, last_path, GoOn, FaultIs, Result, Ok, Err, err_is, literal_ok, literal_again, literal_ends, literal_bad}
+use Rattle.bag_text.proofs.FirstLemmas.{not-true, err_if, err_unless, err_through, never_both, ◌≡◌, ℕ, zero, suc, ◌+◌, ◌-◌, ◌<◌, ◌≤◌, ◌≢◌, inl, inr, Bool, true, false, cond, eqb, ltb, not, List, [], ◌∷◌, ◌++◌, length, get_or, take, drop, refl, sym, ap, subst, ◌∙◌, arith, append_assoc, Option, Some, None, IfErr, flat_map, AllByRecursion, nat_tests, eqb-true, ltb-true, ltb-false, append-nil, take-append-drop, length-take, length-drop, drop_more, Flaw, Short, Bad, SetFault, BadOpening, BadEntry, Truncated, OutOfOrder, BadPath, TooManyFiles, TrailingBytes, PathClash, Memory, ◌>>=◌, Gives, EndOrHead, End, Entry, literal_at, end_or_head_at, file_at, result_at, entry_at, files_at, after_opening, set_of, named_set_fault, File, Head, entry, opening, ending, max_files, Ascends, clashes, Fits, is_good, comes_before, IsHeaded, EntryFault, PositionFault, last_path, GoOn, FaultIs, Result, Ok, Err, err_is, literal_ok, literal_again, literal_ends, literal_bad}
 use Rattle.bag_text.specs.TransferReading.{entry_of}
 use Rattle.bag_text.proofs.FormLemmas.{place_ok, entry_ok, files_ok}
 use Rattle.bag_text.proofs.FaultLemmas.{sized, short_place, bad_place}
@@ -56,26 +56,26 @@ file_fault offset before head f e = by_length (ltb (length head.rest) (head.path
                 let order = err_if (not (comes_before before path)) (OutOfOrder offset) made f e in
                 subst Is order.1 (refl, (path, content, drop 1 behind, path_len, content_len, whole 10 (eqb-true _ _ is2), is3, not-true _ order.0))
 
-of_entry : (offset left : ℕ) (before t : List ℕ) (head : Head) (f : SetFault) → IsHeaded head t → 0 < left → EntryFault offset before head f → PlaceFault offset left before t f
+of_entry : (offset left : ℕ) (before t : List ℕ) (head : Head) (f : SetFault) → IsHeaded head t → 0 < left → EntryFault offset before head f → PositionFault offset left before t f
 of_entry offset left before t head Truncated is lt h = inr (head, is, lt, h)
 of_entry offset left before t head (BadEntry n) is lt h = inr (head, is, lt, h)
 of_entry offset left before t head TooManyFiles is lt h = absurd h
 of_entry offset left before t head TrailingBytes is lt h = absurd h
 of_entry offset left before t head _ is lt h = (head, is, lt, h)
 
-pub entry_fault : (offset left : ℕ) (before t : List ℕ) (f : SetFault) → entry_at offset left before t ≡ Err f → PlaceFault offset left before t f
+pub entry_fault : (offset left : ℕ) (before t : List ℕ) (f : SetFault) → entry_at offset left before t ≡ Err f → PositionFault offset left before t f
 unfolding entry_at
 entry_fault offset left before t f e = by_place left (end_or_head_at t) refl e
   where
-    by_place : (left : ℕ) (r : Result EndOrHead Flaw) → end_or_head_at t ≡ r → (result_at offset r >>= entry_of offset left before) ≡ Err f → PlaceFault offset left before t f
-    by_place left (Err Short) is e = subst (λ (f : SetFault). PlaceFault offset left before t f) (err_is Truncated f e) (inl (short_place t is))
-    by_place left (Err Bad) is e = let b = bad_place t is in subst (λ (f : SetFault). PlaceFault offset left before t f) (err_is (BadEntry offset) f e) (inl (refl, b.0, b.1))
+    by_place : (left : ℕ) (r : Result EndOrHead Flaw) → end_or_head_at t ≡ r → (result_at offset r >>= entry_of offset left before) ≡ Err f → PositionFault offset left before t f
+    by_place left (Err Short) is e = subst (λ (f : SetFault). PositionFault offset left before t f) (err_is Truncated f e) (inl (short_place t is))
+    by_place left (Err Bad) is e = let b = bad_place t is in subst (λ (f : SetFault). PositionFault offset left before t f) (err_is (BadEntry offset) f e) (inl (refl, b.0, b.1))
     by_place left (Ok (End [])) is e = absurd cc
     by_place left (Ok (End (b ∷ rest))) is e =
-        subst (λ (f : SetFault). PlaceFault offset left before t f) (err_unless (eqb (length (b ∷ rest)) 0) None TrailingBytes f e).1 (b ∷ rest, (λ none. absurd cc), (place_ok t (End (b ∷ rest)) is).at_end (b ∷ rest) refl)
+        subst (λ (f : SetFault). PositionFault offset left before t f) (err_unless (eqb (length (b ∷ rest)) 0) None TrailingBytes f e).1 (b ∷ rest, (λ none. absurd cc), (place_ok t (End (b ∷ rest)) is).at_end (b ∷ rest) refl)
     by_place zero (Ok (Entry head)) is e =
         let h = (place_ok t (Entry head) is).at_entry head refl in
-        subst (λ (f : SetFault). PlaceFault offset zero before t f) (err_is TooManyFiles f e) (refl, (head, record { sizes = sized head.path_len head.content_len h.1; text = h.0 }))
+        subst (λ (f : SetFault). PositionFault offset zero before t f) (err_is TooManyFiles f e) (refl, (head, record { sizes = sized head.path_len head.content_len h.1; text = h.0 }))
     by_place (suc more) (Ok (Entry head)) is e =
         let h = (place_ok t (Entry head) is).at_entry head refl in
         of_entry offset (suc more) before t head f (record { sizes = sized head.path_len head.content_len h.1; text = h.0 }) (omega arith) (file_fault offset before head f (err_through (file_at offset before head) (λ file. Some file) f e))
@@ -88,10 +88,10 @@ pub record Later (whole left : ℕ) (before t : List ℕ) (f : SetFault) : Type 
   pub few : length files ≤ left
   pub each : AllByRecursion Fits files
   pub up : Ascends before files
-  pub fault : PlaceFault (whole - length rest) (left - length files) (last_path before files) rest f
+  pub fault : PositionFault (whole - length rest) (left - length files) (last_path before files) rest f
 
 here : (whole left : ℕ) (before t : List ℕ) (f : SetFault) → entry_at (whole - length t) left before t ≡ Err f → Later whole left before t f
-here whole left before t f e = let same : left - 0 ≡ left = omega arith in record { files = []; rest = t; text = refl; few = omega arith; each = tt; up = tt; fault = subst (λ (n : ℕ). PlaceFault (whole - length t) n before t f) (sym same) (entry_fault (whole - length t) left before t f e) }
+here whole left before t f e = let same : left - 0 ≡ left = omega arith in record { files = []; rest = t; text = refl; few = omega arith; each = tt; up = tt; fault = subst (λ (n : ℕ). PositionFault (whole - length t) n before t f) (sym same) (entry_fault (whole - length t) left before t f e) }
 
 after_one : (whole more : ℕ) (before t : List ℕ) (x : File × List ℕ) (f : SetFault) → entry_at (whole - length t) (suc more) before t ≡ Ok (Some x) → Later whole more x.0.path x.1 f → Later whole (suc more) before t f
 after_one whole more before t x f e later =
@@ -106,7 +106,7 @@ after_one whole more before t x f e later =
       few = omega arith;
       each = (first.1, later.each);
       up = (first.2, later.up);
-      fault = subst (λ (n : ℕ). PlaceFault (whole - length later.rest) n (last_path x.0.path later.files) later.rest f) (sym same) later.fault;
+      fault = subst (λ (n : ℕ). PositionFault (whole - length later.rest) n (last_path x.0.path later.files) later.rest f) (sym same) later.fault;
     }
 
 pub files_fault : (whole left : ℕ) (before t : List ℕ) (f : SetFault) → files_at whole left before t ≡ Err f → Later whole left before t f

@@ -1,4 +1,4 @@
--- Steps that may fail, one after the other, and what a call answers, memory aside.
+-- Steps that may fail, one after the other, and what a call answers unless memory runs out.
 use Rattle.std.specs.Prelude.{◌≡◌, Option, Some, None, Result, Ok, Err}
 
 infixl 10 ◌>>=◌

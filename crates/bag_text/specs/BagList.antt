@@ -1,5 +1,5 @@
 -- Why a list of files is no bag: the faults of the transfer form that a list can have, with the
--- position in the list, from 0, in the place of the offset.
+-- position in the list, from 0, instead of the offset.
 use Rattle.std.specs.Prelude.{◌≡◌, ℕ, ◌+◌, ◌<◌, ◌≤◌, true, false, not, List, [], ◌∷◌, ◌++◌, length, Option, Some, None, nat_lt, nat_le, if◌then◌else◌}
 use Rattle.std.specs.Option.{option_or}
 use Rattle.std.specs.List.{AllByRecursion}
@@ -9,7 +9,7 @@ use Rattle.bag_text.specs.TransferFaults.{last_path}
 use Rattle.bag_text.specs.declared.set_fault.SetFault.{SetFault}
 use Rattle.bag_text.specs.declared.set_fault.SetFault.TheVariants.{BadEntry, OutOfOrder, BadPath, TooManyFiles, PathClash}
 
--- files without fault, at the front of the list
+-- files without fault, at the beginning of the list
 pub record IsFront (front : List File) : Type 0 where
   pub few : length front ≤ max_files
   pub each : AllByRecursion Fits front

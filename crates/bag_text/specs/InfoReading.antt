@@ -56,7 +56,7 @@ info_of text =
     else if has_mark text then Err ByteOrderMark
     else pairs_from 1 [] (lines text)
 
--- ---- what a call answers, memory aside
+-- ---- what a call answers, unless memory runs out
 
 -- the fault that an error names, none where memory ran out
 abbrev pub named_info_fault : InfoFault → Option InfoFault

@@ -39,6 +39,6 @@ lines (b ∷ t) =
     else if is_end b then [] ∷ lines t
     else onto_first b (lines t)
 
--- the line of this number, from 1, where the text has so many
+-- the line of this number, from 1, where the text has that many lines
 abbrev pub numbered_line : List ℕ → ℕ → Option (List ℕ)
 numbered_line text number = if number == 0 then None else slice_get (lines text) (number - 1)

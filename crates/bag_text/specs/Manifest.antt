@@ -34,7 +34,7 @@ abbrev pub leading_escape : Version → List ℕ → Option ℕ
 leading_escape v (a ∷ b ∷ c ∷ s) = coded_character v a b c
 leading_escape v s = None
 
--- whether some place of a text begins a coded triple, so that something is decoded
+-- whether a coded triple begins somewhere in a text, so that something is decoded
 abbrev pub has_coded : Version → List ℕ → Bool
 has_coded v [] = false
 has_coded v (a ∷ s) = is_some (leading_escape v (a ∷ s)) || has_coded v s

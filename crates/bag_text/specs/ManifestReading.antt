@@ -82,7 +82,7 @@ manifest_of v a text =
     else if has_mark text then Err ByteOrderMark
     else entries_of v a 1 [] (lines text)
 
--- ---- what a call answers, memory aside
+-- ---- what a call answers, unless memory runs out
 
 -- the fault that an error names, none where memory ran out
 abbrev pub named_line_fault : LineFault → Option LineFault

@@ -9,7 +9,7 @@ use Rattle.bag_text.specs.Text.{begins_with}
 use Rattle.bag_text.specs.Paths.{max_path, segments}
 use Rattle.bag_text.specs.Manifest.{decode}
 
--- whether a cause applies: `*` at the front of the spelled path, and the others in the path that it spells
+-- whether a cause applies: `*` at the beginning of the spelled path, and the others in the path that it spells
 abbrev pub stands_for : List ℕ → List ℕ → PathCause → Bool
 stands_for spelled path Starred = begins_with 42 spelled
 stands_for spelled path NotUtf8 = not (is_utf8 path)

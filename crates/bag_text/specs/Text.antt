@@ -22,7 +22,7 @@ begins_with b (c ∷ t) = c == b
 abbrev pub has_mark : List ℕ → Bool
 has_mark text = bytes_eq (take 3 text) (239 ∷ 187 ∷ 191 ∷ [])
 
--- without the blanks at the front, at the end, and at both
+-- without the first blanks, the last ones, and both
 abbrev pub skip_blanks : List ℕ → List ℕ
 skip_blanks [] = []
 skip_blanks (b ∷ t) = if is_blank b then skip_blanks t else b ∷ t

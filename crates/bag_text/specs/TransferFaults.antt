@@ -21,7 +21,7 @@ pub record HasSizes (p c : ℕ) : Type 0 where
   pub short_path : p ≤ max_path
   pub short_content : c ≤ max_content
 
--- what may be at an entry's place: END LF, or a header
+-- what may be where an entry begins: END LF, or a header
 abbrev pub IsEndOrHeader : List ℕ → Type 0
 IsEndOrHeader t = (t ≡ ending) ⊎ ((p : ℕ) × (c : ℕ) × HasSizes p c × (t ≡ header p c))
 
@@ -42,17 +42,17 @@ EntryFault offset before head (OutOfOrder n) =
     (n ≡ offset) × ((path : List ℕ) × (content : List ℕ) × (more : List ℕ) × (length path ≡ head.path_len) × (length content ≡ head.content_len) × (head.rest ≡ path ++ content ++ 10 ∷ more) × (is_good path ≡ true) × (comes_before before path ≡ false))
 EntryFault offset before head fault = ⊥
 
--- what is at an entry's place, where this number of files may follow
-abbrev pub PlaceFault : ℕ → ℕ → List ℕ → List ℕ → SetFault → Type 0
-PlaceFault offset left before t Truncated =
+-- a fault where an entry may begin, and this number of files may follow
+abbrev pub PositionFault : ℕ → ℕ → List ℕ → List ℕ → SetFault → Type 0
+PositionFault offset left before t Truncated =
     IsProperBeginning IsEndOrHeader t
     ⊎ ((head : Head) × IsHeaded head t × (0 < left) × EntryFault offset before head Truncated)
-PlaceFault offset left before t (BadEntry n) =
+PositionFault offset left before t (BadEntry n) =
     ((n ≡ offset) × (BeginsWith IsEndOrHeader t → ⊥) × (IsProperBeginning IsEndOrHeader t → ⊥))
     ⊎ ((head : Head) × IsHeaded head t × (0 < left) × EntryFault offset before head (BadEntry n))
-PlaceFault offset left before t TooManyFiles = (left ≡ 0) × ((head : Head) × IsHeaded head t)
-PlaceFault offset left before t TrailingBytes = (more : List ℕ) × (more ≢ []) × (t ≡ ending ++ more)
-PlaceFault offset left before t fault = (head : Head) × IsHeaded head t × (0 < left) × EntryFault offset before head fault
+PositionFault offset left before t TooManyFiles = (left ≡ 0) × ((head : Head) × IsHeaded head t)
+PositionFault offset left before t TrailingBytes = (more : List ℕ) × (more ≢ []) × (t ≡ ending ++ more)
+PositionFault offset left before t fault = (head : Head) × IsHeaded head t × (0 < left) × EntryFault offset before head fault
 
 abbrev pub last_path : List ℕ → List File → List ℕ
 last_path before [] = before
@@ -70,6 +70,6 @@ FaultIs t BadOpening = (BeginsWith IsOpening t → ⊥) × (IsProperBeginning Is
 FaultIs t PathClash = (files : List File) × GoOn files t ending × (clashes files ≡ true)
 FaultIs t Truncated =
     IsProperBeginning IsOpening t
-    ⊎ ((files : List File) × (rest : List ℕ) × GoOn files t rest × PlaceFault (length t - length rest) (max_files - length files) (last_path [] files) rest Truncated)
+    ⊎ ((files : List File) × (rest : List ℕ) × GoOn files t rest × PositionFault (length t - length rest) (max_files - length files) (last_path [] files) rest Truncated)
 FaultIs t fault =
-    (files : List File) × (rest : List ℕ) × GoOn files t rest × PlaceFault (length t - length rest) (max_files - length files) (last_path [] files) rest fault
+    (files : List File) × (rest : List ℕ) × GoOn files t rest × PositionFault (length t - length rest) (max_files - length files) (last_path [] files) rest fault

@@ -36,7 +36,7 @@ max_content = 16777216
 abbrev pub max_files : ℕ
 max_files = 2000
 
--- a form that is written, or read from a file, has at most so many bytes
+-- a form that is written, or read from a file, has at most this number of bytes
 abbrev pub max_form : ℕ
 max_form = 16777216
 

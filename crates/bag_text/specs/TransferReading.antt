@@ -40,7 +40,7 @@ header_at text = do
   c ← number_at 10 0 max_content p.1
   Ok (record { path_len = p.0; content_len = c.0; rest = c.1 })
 
--- what is at an entry's place: the end with what follows it, or a header
+-- what is where an entry may begin: the end with what follows it, or a header
 pub data EndOrHead : Type 0 where
   End : List ℕ → EndOrHead
   Entry : Head → EndOrHead
@@ -81,7 +81,7 @@ entry_of offset (suc more) before (Entry head) = file_at offset before head >>= 
 unfoldable pub entry_at : ℕ → ℕ → List ℕ → List ℕ → Result (Option (File × List ℕ)) SetFault
 entry_at offset left before text = result_at offset (end_or_head_at text) >>= entry_of offset left before
 
--- the files of what is left, of which there may be so many more
+-- the files of what is left, of which there may be this number more
 unfoldable pub files_at : ℕ → ℕ → List ℕ → List ℕ → Result (List File) SetFault
 files_at whole zero before text = entry_at (whole - length text) zero before text >>= λ found. Ok []
 files_at whole (suc more) before text =
@@ -90,7 +90,7 @@ files_at whole (suc more) before text =
       | Some file ↦ files_at whole more file.0.path file.1 >>= λ files. Ok (file.0 ∷ files)
     ]
 
--- what a text begins with in the place of the opening
+-- what a text begins with instead of the opening
 abbrev pub after_opening : Result (List ℕ) Flaw → Result (List ℕ) SetFault
 after_opening (Ok rest) = Ok rest
 after_opening (Err Short) = Err Truncated
@@ -103,7 +103,7 @@ set_of text = do
   files ← files_at (length text) max_files [] rest
   if clashes files then Err PathClash else Ok files
 
--- ---- what a call answers, memory aside
+-- ---- what a call answers, unless memory runs out
 
 -- the fault that an error names, none where memory ran out
 abbrev pub named_set_fault : SetFault → Option SetFault
@@ -123,6 +123,6 @@ abbrev pub end_or_head_of : EndOrEntry → EndOrHead
 end_or_head_of (places.End rest) = End rest.now
 end_or_head_of (places.Entry h) = Entry (head_of h)
 
--- the files before this place come before the path, and the others don't
+-- the files before this position come before the path, and the others don't
 abbrev pub IsPlaceOf : List ℕ → List (Bor (List ℕ) × Bor (List ℕ)) → ℕ → Type 0
 IsPlaceOf path files place = IsPartitionPoint (λ pair. comes_before pair.0.now path ≡ true) (λ pair. comes_before pair.0.now path ≡ false) files place

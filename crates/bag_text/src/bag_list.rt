@@ -19,7 +19,7 @@ fn is_good(path: &str) -> bool
     fault_of(path).is_none()
 }
 
-/// The first fault of the file at this place of a list, after the path before it.
+/// The first fault of the file at this position of a list, after the path before it.
 fn fault_at(place: usize, before: &[u8], path: &str, content: &[u8]) -> Option<SetFault>
     ensures { result
         ≡ file_fault place before.now (record { path = path.now; content = content.now }) }

@@ -72,7 +72,7 @@ pub fn decode(alloc: Global, version: Version, spelled: &[u8]) -> Result<Vec<u8>
     Ok(path)
 }
 
-/// Whether some place of a text begins a coded triple: `%0A`, `%0D`, or in version 1.0 `%25`.
+/// Whether a coded triple begins somewhere in a text: `%0A`, `%0D`, or in version 1.0 `%25`.
 pub fn has_coded(version: Version, text: &[u8]) -> bool
     ensures { result ≡ has_coded version text.now }
 {

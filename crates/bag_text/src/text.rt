@@ -41,7 +41,7 @@ pub fn as_text(bytes: &[u8]) -> Option<&str>
     str::from_utf8(bytes).ok()
 }
 
-/// The text without the blanks at its front.
+/// The text without its first blanks.
 pub fn without_first_blanks(text: &[u8]) -> &[u8]
     ensures { result.now ≡ skip_blanks text.now }
 {

@@ -120,7 +120,7 @@ pub record IsQuestion (values : Text → Option Text) (asked : Asked) : Type 0 w
   pub collection : FindsText values (codes "COLLECTION") (λ text. IsNameOrNone text asked.collection)
   pub class : FindsText values (codes "CLASS") (λ text. IsNameOrNone text asked.class)
 
--- what `serve` is told
+-- what `serve` is asked
 pub record IsServing (values : Text → Option Text) (port count : ℕ) (store : Text) (day : Date) : Type 0 where
   pub at_port : FindsText values (codes "P") (λ text. IsPort text port)
   pub at_count : FindsText values (codes "N") (λ text. IsCount text count)

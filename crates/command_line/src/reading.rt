@@ -48,7 +48,7 @@ fn read_named<'a>(
     }
 }
 
-/// How the program is used, as it is told.
+/// How the program is used, as it is printed.
 fn told_uses(alloc: Global) -> UseFault
     ensures { IsExplainedBy (uses_text VERSION.now) result }
 {

@@ -1,4 +1,4 @@
--- What `check` prints of the bytes that it read, what it tells standard error, and how it ends.
+-- What `check` prints of the bytes that it read, what it prints to standard error, and how it ends.
 use Rattle.std.specs.Prelude.{ℕ, ◌+◌, ◌<◌, ◌≤◌, List, [], ◌∷◌, ◌++◌, Option, Some, None, length, codes, decimal}
 use Rattle.std.specs.Io.KnownBytes.{Consumes}
 use Rattle.bag_text.specs.TransferForm.{File, IsFormOf, max_form}
@@ -17,7 +17,7 @@ use Rattle.commands.specs.declared.ending.Ending.TheVariants.{Accepted, Refused}
 use Rattle.commands.specs.declared.outcome.Outcome.{Outcome}
 use Rattle.commands.specs.Printing.{Prints}
 
--- a longer form is told by one byte past the most that a form has
+-- a longer form is recognized by one byte past the most that a form has
 abbrev pub bytes_to_read : ℕ
 bytes_to_read = max_form + 1
 
@@ -41,7 +41,7 @@ unreadable_text fault = codes "unreadable " ++ set_fault_text fault ++ 10 ∷ []
 abbrev pub too_long_text : List ℕ
 too_long_text = codes "unreadable SIZE" ++ 10 ∷ []
 
--- ---- the reasons that standard error is told: the fault in words, each in lines with their ends
+-- ---- the reasons that are printed to standard error: the fault in words, each in lines with their ends
 
 abbrev pub invalid_reason : List File → Fault → List ℕ
 invalid_reason files fault = bag_lines files fault

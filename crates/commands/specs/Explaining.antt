@@ -1,4 +1,4 @@
--- What `explain` prints of a policy file, what it tells standard error, and how it ends.
+-- What `explain` prints of a policy file, what it prints to standard error, and how it ends.
 use Rattle.std.specs.Prelude.{◌≡◌, ◌⊎◌, ℕ, ◌-◌, slice_get, Bool, true, false, List, [], ◌∷◌, ◌++◌, Option, Some, None, Ok, Err, IsUtf8, bytes_eq, codes, decimal, if◌then◌else◌}
 use Rattle.std.specs.List.{list_any}
 use Rattle.std.specs.Option.{option_map_or}
@@ -34,7 +34,7 @@ default_text = codes "deny default" ++ 10 ∷ []
 abbrev pub bad_policy_text : PolicyFault → List ℕ
 bad_policy_text fault = codes "policy " ++ policy_fault_text fault ++ 10 ∷ []
 
--- ---- what standard error is told of the caller, a line with its end
+-- ---- what is printed to standard error about the caller, a line with its end
 
 -- the policy lists a caller of this name
 abbrev pub is_caller_listed : PolicyValue → List ℕ → Bool
@@ -44,7 +44,7 @@ is_caller_listed policy name = list_any (λ caller. bytes_eq caller.name name) p
 abbrev pub unlisted_line : PolicyValue → List ℕ → Option (List ℕ)
 unlisted_line policy name = if is_caller_listed policy name then None else Some (unlisted_words name ++ 10 ∷ [])
 
--- ---- what standard error is told of a denial, a line with its end
+-- ---- what is printed to standard error about a denial, a line with its end
 
 -- the rule of this number, from 1
 abbrev pub denial_line : PolicyValue → ℕ → List ℕ
@@ -59,7 +59,7 @@ abbrev pub with_line : Option (List ℕ) → List ℕ → List ℕ
 with_line None line = line
 with_line (Some before) line = before ++ line
 
--- the same after what is told of the caller
+-- the same after what is printed about the caller
 abbrev pub denied_lines : PolicyValue → List ℕ → ℕ → List ℕ
 denied_lines policy caller rule = with_line (unlisted_line policy caller) (denial_line policy rule)
 
@@ -109,7 +109,7 @@ IsUndecided policy asked day = decision_on policy asked day ≡ None
 
 -- ---- what is said
 
--- what is said where the policy's rule with this number decides by this effect, with what standard error is told anyway
+-- what is said where the policy's rule with this number decides by this effect, with what is printed to standard error in any case
 abbrev pub SaysRule : PolicyValue → Option (List ℕ) → ℕ → Effect → Outcome → Type 0
 SaysRule policy told rule Allow outcome = Prints outcome (allow_text rule) told Accepted
 SaysRule policy told rule Deny outcome = Prints outcome (deny_text rule) (Some (with_line told (denial_line policy rule))) Refused

@@ -4,11 +4,11 @@ use Rattle.commands.specs.declared.ending.Ending.{Ending}
 use Rattle.commands.specs.declared.ending.Ending.TheVariants.{Accepted, Refused}
 use Rattle.commands.specs.declared.outcome.Outcome.{Outcome}
 
--- what standard error is to be told, where there is something
+-- what is to be printed to standard error, where there is something
 abbrev pub reason_of : Outcome → Option (List ℕ)
 reason_of outcome = option_map string_bytes outcome.reason
 
--- it prints this text, tells standard error this reason, and ends in this way
+-- it prints this text, prints this reason to standard error, and ends in this way
 abbrev pub Prints : Outcome → List ℕ → Option (List ℕ) → Ending → Type 0
 Prints outcome text reason end = (string_bytes outcome.text ≡ text) × (reason_of outcome ≡ reason) × (outcome.ending ≡ end)
 

@@ -142,7 +142,7 @@ pub fn check_outcome(alloc: Global, bytes: &[u8]) -> Result<Outcome, AllocError>
 }
 
 /// Judges the bag whose form the reader gives: reads 16,777,217 bytes at most, so that a longer form is
-/// told by one byte too many.
+/// recognized by one byte too many.
 pub fn judge<R: Read>(alloc: Global, form: &mut R) -> Result<Outcome, Trouble>
     // What is said is so of the first bytes that the reader gives.
     ensures says { IfOk result (λ outcome. (bytes : List ℕ)

@@ -12,7 +12,7 @@ pub enum Ending {
     Refused,
     /// The arguments are invalid, or name no day where the policy needs one.
     Misused,
-    /// A device or memory failed, and standard error was told so.
+    /// A device failed or memory ran out, and standard error says so.
     Failed,
     /// Standard error failed, when a failure, or what is wrong with the arguments, was to be printed to it.
     Unsaid,

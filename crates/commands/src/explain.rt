@@ -84,8 +84,8 @@ fn default_line(alloc: Global) -> Result<String, AllocError>
     format!(in alloc; "{words}\n")
 }
 
-/// What is said where this rule of the policy decides, or none. Standard error is told why it is denied,
-/// and before that what it is told anyway.
+/// What is said where this rule of the policy decides, or none. Why it is denied is printed to standard
+/// error, after what is printed there in any case.
 fn decision_outcome(
     alloc: Global,
     policy: &Policy,
@@ -228,9 +228,9 @@ pub fn explain_outcome(
     // What is said is so.
     ensures says { IfOk result (Explains bytes.now asked.now) }
 
-    // Where the first rule that matches on that day allows, its number is said, from 1. Standard error
-    // is told where the policy doesn't list the caller. Where no rule of the policy may have days,
-    // that is said whichever day is named, and where none is.
+    // Where the first rule that matches on that day allows, its number is said, from 1. Where the policy
+    // doesn't list the caller, standard error says so. Where no rule of the policy may have days, that is
+    // said whichever day is named, and where none is.
     ensures allowed { (policy : PolicyValue) (day : Date) (rule : ℕ)
         → SpellsPolicyBytes bytes.now policy → IsOnDay bytes.now asked.now day
         → IsAllowedBy policy asked.now day rule
@@ -248,12 +248,12 @@ pub fn explain_outcome(
         → IsUndecided policy asked.now day
         → IfOk result (λ outcome. Prints outcome default_text
         (Some (default_lines policy asked.now.caller.now)) Refused) }
-    // Where rules of the policy may have days and none is named, nothing is printed, standard error is
-    // told that a day is missing and why, and it ends as misused.
+    // Where rules of the policy may have days and none is named, nothing is printed. Standard error says
+    // that a day is missing and why, and it ends as misused.
     ensures undated { (policy : PolicyValue) → SpellsPolicyBytes bytes.now policy
         → WantsDay bytes.now asked.now → IfOk result SaysDayMissing }
     // A file that is no policy is refused with its first fault, and standard error has it in words,
-    // with its place.
+    // with its position.
     ensures refused { (fault : PolicyFault) → HasFault bytes.now fault
         → IfOk result (SaysBadPolicy bytes.now fault) }
 {

@@ -2,8 +2,8 @@
 
 use crate::ending::Ending;
 
-/// What goes to standard output, a line with its end; why the answer is no, where a person is told
-/// that on standard error, in lines with their ends; and how the program ends.
+/// What goes to standard output, a line with its end; why the answer is no, where standard error
+/// says so to a person, in lines with their ends; and how the program ends.
 #[derive(Drop)]
 pub struct Outcome {
     pub text: String,

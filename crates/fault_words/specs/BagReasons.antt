@@ -1,4 +1,4 @@
--- What standard error is told of a bag that is refused: the fault's sentence, in which a line of a manifest is told by what is in it, and what else is said of the path
+-- What is printed to standard error about a bag that is refused: the fault's sentence, in which a line of a manifest is described by what is in it, and what else is said of the path
 -- that the fault names.
 use Rattle.std.specs.Prelude.{ℕ, List, [], ◌∷◌, ◌++◌, Option, Some, None, option_and_then}
 use Rattle.std.specs.Option.{option_map_or}
@@ -78,7 +78,7 @@ form_line files sought = option_map_or (λ file. words_of_other_form file ++ 10 
 abbrev pub coding_line : Option (List ℕ) → List ℕ
 coding_line named = option_map_or (λ coding. coding_words coding ++ 10 ∷ []) (option_and_then coding_in named) []
 
--- ---- all that is told
+-- ---- all that is printed
 
 abbrev pub bag_lines : List File → Fault → List ℕ
 bag_lines files fault = ((sentence_of files fault ++ 10 ∷ []) ++ form_line files (sought_path fault)) ++ coding_line (named_path fault)

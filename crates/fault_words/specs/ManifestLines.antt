@@ -9,7 +9,7 @@ use Rattle.fault_words.specs.OtherFiles.{begins}
 use Rattle.fault_words.specs.declared.manifest_line.OtherLine.{OtherLine}
 use Rattle.fault_words.specs.declared.manifest_line.OtherLine.TheVariants.{Escaped, Tagged}
 
--- ---- a line without a checksum at its front
+-- ---- a line that begins with no checksum
 
 -- what it looks like, by its beginning
 abbrev pub likeness : List ℕ → Option OtherLine

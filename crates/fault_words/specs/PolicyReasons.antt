@@ -1,4 +1,4 @@
--- What standard error is told of a policy's file that is refused: the fault's sentence, and where in the file it is.
+-- What is printed to standard error about a policy's file that is refused: the fault's sentence, and where in the file it is.
 use Rattle.std.specs.Prelude.{◌≡◌, ℕ, zero, suc, Bool, true, false, not, List, [], ◌∷◌, ◌++◌, ◌==◌, Option, Some, None, codes, count_by, decimal, find, is_none, is_some, option_and_then, option_map, slice_get, take, if◌then◌else◌}
 use Rattle.std.specs.Option.{option_map_or}
 use Rattle.std.specs.Str.{is_utf8}
@@ -12,7 +12,7 @@ use Rattle.office_core.specs.declared.policy_fault.PolicyFault.{PolicyFault}
 use Rattle.office_core.specs.declared.policy_fault.PolicyFault.TheVariants.{NotToml, UnknownKey, BadCaller, BadRule}
 use Rattle.fault_words.specs.FaultWords.{policy_words}
 
--- ---- a place, as it is said after the fault's sentence
+-- ---- a position, as it is said after the fault's sentence
 
 abbrev pub line_words : ℕ → List ℕ
 line_words number = codes ": line " ++ decimal number
@@ -32,7 +32,7 @@ tree_in bytes = if is_utf8 bytes then parse_document bytes else None
 abbrev pub is_toml : List ℕ → Bool
 is_toml bytes = is_some (tree_in bytes)
 
--- the first so many lines, each with its end
+-- the first lines, up to this number, each with its end
 abbrev pub first_lines : ℕ → List ℕ → List ℕ
 first_lines count [] = []
 first_lines zero (byte ∷ more) = []
@@ -46,9 +46,9 @@ pub record BreaksToml (bytes : List ℕ) (line : ℕ) : Type 0 where
   pub is_good : is_toml (first_lines before bytes) ≡ true
   pub is_broken : is_toml (first_lines line bytes) ≡ false
 
--- the line that has the byte at this place, from 1
+-- the line that has the byte at this offset, from 1
 abbrev pub line_at : ℕ → List ℕ → ℕ
-line_at place bytes = suc (count_by (λ byte. byte == 10) (take place bytes))
+line_at offset bytes = suc (count_by (λ byte. byte == 10) (take offset bytes))
 
 -- the line of the first byte that is no UTF-8, or a line that breaks the TOML; nothing of a file that is TOML
 pub data IsLineLocation (bytes place : List ℕ) : Type 0 where
@@ -120,13 +120,13 @@ location_in BadCaller tree = caller_location (caller_entries tree)
 location_in (BadRule number) tree = option_map_or key_words (numbered_key (has_days tree) number (rule_values tree)) []
 location_in fault tree = []
 
--- ---- what is told
+-- ---- what is printed
 
 -- where the fault is, as far as it is known
 abbrev pub IsFaultLocation : List ℕ → PolicyFault → List ℕ → Type 0
 IsFaultLocation bytes NotToml place = IsLineLocation bytes place
 IsFaultLocation bytes fault place = place ≡ option_map_or (location_in fault) (tree_in bytes) []
 
--- the fault's sentence and the place, a line with its end
+-- the fault's sentence and the position, a line with its end
 abbrev pub IsPolicyReason : List ℕ → PolicyFault → List ℕ → Type 0
 IsPolicyReason bytes fault text = (place : List ℕ) × IsFaultLocation bytes fault place × (text ≡ policy_words fault ++ place ++ 10 ∷ [])

@@ -8,7 +8,7 @@ ghost use Rattle.bag_check.specs.FaultTexts.{printed_text};
 ghost use Rattle.bag_check.specs.declared.rule.Rule.TheVariants as rules_of;
 ghost use Rattle.fault_words.specs.FaultWords.{broken_rule_words, rule_words, whole_sentence, words_of_bag};
 
-use crate::escaped::{Escaped, place};
+use crate::escaped::{Escaped, name_and_path};
 use crate::in_words::InWords;
 use crate::tag_files::{declaration_words, write_info, write_manifest};
 use bag_check::BagFault;
@@ -83,7 +83,7 @@ fn write_listed<W: fmt::Write>(
         (Some (printed_text manifest.now ++ codes " lists "
         ++ printed_text (cow_str_bytes path.now) ++ what.now)) f.new }
 {
-    let (manifest, path) = place(manifest, path);
+    let (manifest, path) = name_and_path(manifest, path);
     write!(f, "{manifest} lists {path}{what}")
 }
 
@@ -134,7 +134,7 @@ fn write_unlisted_manifest<W: fmt::Write>(
         (Some (rule_words rules_of.PayloadManifestUnlisted (printed_text manifest.now)
         (printed_text (cow_str_bytes path.now)))) f.new }
 {
-    let (manifest, path) = place(manifest, path);
+    let (manifest, path) = name_and_path(manifest, path);
     write!(
         f,
         "{manifest} does not list {path}, but a tag manifest lists every payload manifest (B10)"
@@ -151,7 +151,7 @@ fn write_unlisted<W: fmt::Write>(
         (Some (rule_words rules_of.Unlisted (printed_text manifest.now)
         (printed_text (cow_str_bytes path.now)))) f.new }
 {
-    let (manifest, path) = place(manifest, path);
+    let (manifest, path) = name_and_path(manifest, path);
     write!(
         f,
         "{path} is in the payload, but {manifest} does not list it (B12)"
@@ -168,7 +168,7 @@ fn write_checksum_wrong<W: fmt::Write>(
         (Some (rule_words rules_of.ChecksumWrong (printed_text manifest.now)
         (printed_text (cow_str_bytes path.now)))) f.new }
 {
-    let (manifest, path) = place(manifest, path);
+    let (manifest, path) = name_and_path(manifest, path);
     write!(
         f,
         "the digest of {path} is not the checksum in {manifest} (B17)"

@@ -33,7 +33,10 @@ impl<'a> fmt::Display for Escaped<'a> {
 }
 
 /// The name of a manifest and a path, to be printed.
-pub fn place<'a, 'b>(manifest: &'b str, path: &'b CowStr<'a, Global>) -> (Escaped<'b>, Escaped<'b>)
+pub fn name_and_path<'a, 'b>(
+    manifest: &'b str,
+    path: &'b CowStr<'a, Global>,
+) -> (Escaped<'b>, Escaped<'b>)
     ensures manifest { result.0.0.now ≡ manifest.entry.now }
     ensures path { result.1.0.now ≡ cow_str_bytes path.entry.now }
 {

@@ -9,7 +9,7 @@ use bag_text::{MAX_CONTENT, MAX_FILES, MAX_FORM, MAX_PATH, SetFault};
 use std::fmt;
 
 /// The fault of the files of a folder, in the order of their paths, to be printed as a sentence.
-/// Where one file is at fault, its path is printed in front.
+/// Where one file is at fault, its path is printed first.
 #[derive(Clone, Copy)]
 pub struct FolderWords(pub SetFault);
 

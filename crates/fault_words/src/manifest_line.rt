@@ -12,7 +12,7 @@ use std::fmt;
 /// What another program writes for the line of a manifest.
 #[derive(Clone, Copy, Debug, PartialEq, Eq)]
 pub enum OtherLine {
-    /// A line of `sha256sum` with a backslash in front, since the name in it is escaped.
+    /// A line of `sha256sum` that begins with a backslash, since the name in it is escaped.
     Escaped,
     /// A line of `sha256sum` or `sha512sum` with `--tag`, which has the path before the checksum.
     Tagged,
@@ -33,7 +33,7 @@ impl OtherLine {
     }
 }
 
-/// A line of a manifest without a checksum at its front, and what it looks like, to be printed as a
+/// A line of a manifest that begins with no checksum, and what it looks like, to be printed as a
 /// sentence.
 #[derive(Clone, Copy)]
 pub struct UnlikeLine<'a> {

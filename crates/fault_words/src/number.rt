@@ -33,9 +33,9 @@ impl fmt::Display for Thousands {
         if number < 1_000 {
             return write!(f, "{number}");
         }
-        let front = number / 1_000;
+        let before = number / 1_000;
         let last = LastDigits(number);
-        write!(f, "{front},{last}")
+        write!(f, "{before},{last}")
     }
 }
 
@@ -53,10 +53,10 @@ impl fmt::Display for Grouped {
             let number = Thousands(number);
             return write!(f, "{number}");
         }
-        let front = Thousands(number / 1_000_000);
+        let before = Thousands(number / 1_000_000);
         let middle = LastDigits(number / 1_000);
         let last = LastDigits(number);
-        write!(f, "{front},{middle},{last}")
+        write!(f, "{before},{middle},{last}")
     }
 }
 

@@ -23,7 +23,7 @@ pub enum OtherFile {
 }
 
 impl OtherFile {
-    /// What the bytes look like, by those at the front and, for a tar file, by those at 257.
+    /// What the bytes look like, by the first ones and, for a tar file, by those at 257.
     pub fn of(bytes: &[u8]) -> Option<OtherFile>
         ensures { result ≡ likeness bytes.now }
     {

@@ -99,7 +99,7 @@ fn location_in(tree: &Table, fault: PolicyFault) -> Location<'_>
     }
 }
 
-/// The fault's sentence and the place.
+/// The fault's sentence and the position.
 fn sentence_at(alloc: Global, fault: PolicyFault, place: Location<'_>) -> Result<String, AllocError>
     ensures { IfOk result (λ text.
         string_bytes text ≡ policy_words fault ++ location_words place.entry ++ 10 ∷ []) }
@@ -110,7 +110,7 @@ fn sentence_at(alloc: Global, fault: PolicyFault, place: Location<'_>) -> Result
     Ok(text)
 }
 
-/// What is told of a fault of the tree that the bytes spell.
+/// What is said of a fault of the tree that the bytes spell.
 fn tree_reason(alloc: Global, bytes: &[u8], fault: PolicyFault) -> Result<String, AllocError>
     ensures { IfOk result (λ text. string_bytes text ≡
         policy_words fault ++ option_map_or (location_in fault) (tree_in bytes.now) [] ++ 10 ∷ []) }

@@ -31,13 +31,17 @@ fn is_toml(alloc: Global, bytes: &[u8]) -> Result<bool, AllocError>
     Ok(tree_in(alloc, bytes)?.is_some())
 }
 
-/// The line that has the byte at this place, from 1.
-fn line_at(bytes: &[u8], place: usize) -> usize
-    requires { place ≤ length bytes.now }
-    ensures line { result ≡ line_at place bytes.now }
+/// The line that has the byte at this offset, from 1.
+fn line_at(bytes: &[u8], offset: usize) -> usize
+    requires { offset ≤ length bytes.now }
+    ensures line { result ≡ line_at offset bytes.now }
     ensures bound { result ≤ length bytes.now + 1 }
 {
-    bytes[..place].iter().filter(|byte| **byte == b'\n').count() + 1
+    bytes[..offset]
+        .iter()
+        .filter(|byte| **byte == b'\n')
+        .count()
+        + 1
 }
 
 /// This number of lines from the first on, each with its end.
@@ -45,9 +49,9 @@ fn first_lines(bytes: &[u8], count: usize) -> &[u8]
     ensures { result.now ≡ first_lines count bytes.now }
 {
     let mut left = count;
-    for (place, byte) in bytes.iter().enumerate() {
+    for (offset, byte) in bytes.iter().enumerate() {
         if left == 0 {
-            return &bytes[..place];
+            return &bytes[..offset];
         }
         if *byte == b'\n' {
             left -= 1;
@@ -93,7 +97,7 @@ fn breaking_line(alloc: Global, bytes: &[u8], named: usize) -> Result<usize, All
 /// The line of a file that is no TOML: that of the first byte that is no UTF-8, or one that breaks the
 /// TOML.
 pub fn line_location(alloc: Global, bytes: &[u8]) -> Result<Location<'static>, AllocError>
-    ensures { IfOk result (λ place. IsLineLocation bytes.now (location_words place)) }
+    ensures { IfOk result (λ location. IsLineLocation bytes.now (location_words location)) }
 {
     let text = match str::from_utf8(bytes) {
         Ok(text) => text,

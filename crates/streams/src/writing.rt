@@ -14,7 +14,7 @@ pub fn write_bytes<W: Write>(bytes: &[u8], writer: &mut W) -> io::Result<()>
     ensures whole { OnOk result
         (Appends (W.contents writer.old) (W.contents writer.new) bytes.now) }
     // Whatever comes of it, a beginning of them does.
-    ensures front { IsCutShort bytes.now (W.contents writer.old) (W.contents writer.new) }
+    ensures written { IsCutShort bytes.now (W.contents writer.old) (W.contents writer.new) }
 {
     let mut rest = bytes;
     'writes: for _ in 0..u64::MAX {
@@ -40,7 +40,7 @@ pub fn write_text<W: Write>(text: &str, writer: &mut W) -> io::Result<()>
     ensures whole { OnOk result
         (Appends (W.contents writer.old) (W.contents writer.new) text.now) }
     // Whatever comes of it, a beginning of the text does.
-    ensures front { IsCutShort text.now (W.contents writer.old) (W.contents writer.new) }
+    ensures written { IsCutShort text.now (W.contents writer.old) (W.contents writer.new) }
 {
     write_bytes(text.as_bytes(), writer)
 }

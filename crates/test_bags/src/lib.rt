@@ -10,7 +10,7 @@ pub use forms::{BAG, BAG_0_97, NO_PAYLOAD, PERCENT};
 pub use many::many_files;
 pub use marks::{bytes_of, text_of};
 
-/// A name, a transfer form, the line that `check` prints of it, what it tells standard error, and how it
+/// A name, a transfer form, the line that `check` prints of it, what it prints to standard error, and how it
 /// ends.
 pub type WorkedBag = (
     &'static str,
@@ -87,7 +87,7 @@ pub static BAGS: [WorkedBag; 8] = [
     ),
 ];
 
-/// A policy and what `explain` is asked, the line that it prints, what it tells standard error, and how
+/// A policy and what `explain` is asked, the line that it prints, what it prints to standard error, and how
 /// it ends.
 #[derive(Clone, Copy)]
 pub struct WorkedQuestion {

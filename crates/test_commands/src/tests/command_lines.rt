@@ -77,7 +77,7 @@ fn said_of(alloc: Global, words: &[&str]) -> Result<String, AllocError> {
         Ok(line) => line_text(alloc, line),
         Err(UseFault::Use(text)) => {
             let is_line = text.ends_with('\n');
-            String::from_str(alloc, if is_line { "no use" } else { "no line" })
+            String::from_str(alloc, if is_line { "invalid" } else { "no line" })
         }
         Err(UseFault::Memory) => Err(AllocError),
     }
@@ -89,19 +89,19 @@ check|- => check|-
 check|a.bagset => check|a.bagset
 check| => check|
 check|--|-x => check|-x
-check|-x => no use
-check|--help => no use
-check|a|b => no use
-check => no use
+check|-x => invalid
+check|--help => invalid
+check|a|b => invalid
+check => invalid
 # Two words in their places.
 pack|bag|bag.bagset => pack|bag|bag.bagset
 pack|--|-bag|-x => pack|-bag|-x
-pack|bag => no use
-pack|a|b|c => no use
+pack|bag => invalid
+pack|a|b|c => invalid
 unpack|bag.bagset|bag => unpack|bag.bagset|bag
-unpack => no use
+unpack => invalid
 policy|office.db|p.toml => policy|office.db|p.toml
-policy|office.db => no use
+policy|office.db => invalid
 # A caller is any text, and - is no option.
 explain|p.toml|anna|list|tax|- => explain|p.toml|anna|list|tax|-
 explain|-||hold|-|y-1_0.a => explain|-||hold|-|y-1_0.a
@@ -110,51 +110,51 @@ explain|p|anna|list|tax|y1 => explain|p|anna|list|tax|y1
 # A day, before the other words or after them.
 explain|--day|2024-12-31|p|anna|list|tax|y1 => explain|p|anna|list|tax|y1|2024-12-31
 explain|p|anna|list|tax|y1|--day=1900-01-01 => explain|p|anna|list|tax|y1|1900-01-01
-explain|--day|2025-02-29|p|anna|list|tax|y1 => no use
-explain|--day|p|anna|list|tax|y1 => no use
-explain|--day|2024-12-31|--day|2025-01-01|p|anna|list|tax|y1 => no use
+explain|--day|2025-02-29|p|anna|list|tax|y1 => invalid
+explain|--day|p|anna|list|tax|y1 => invalid
+explain|--day|2024-12-31|--day|2025-01-01|p|anna|list|tax|y1 => invalid
 # One word less, and one more.
-explain => no use
-explain|p|anna|list|tax => no use
-explain|p|anna|list|tax|y1|y2 => no use
+explain => invalid
+explain|p|anna|list|tax => invalid
+explain|p|anna|list|tax|y1|y2 => invalid
 # An action that is none, * too.
-explain|p|anna|destroy|tax|y1 => no use
-explain|p|anna|*|tax|y1 => no use
+explain|p|anna|destroy|tax|y1 => invalid
+explain|p|anna|*|tax|y1 => invalid
 # A collection and a class that are no names.
-explain|p|anna|list|Tax|y1 => no use
-explain|p|anna|list|tax| => no use
+explain|p|anna|list|Tax|y1 => invalid
+explain|p|anna|list|tax| => invalid
 # A word that clap takes for an option, and words of use.
-explain|p|-x|list|tax|y1 => no use
-explain|--help => no use
+explain|p|-x|list|tax|y1 => invalid
+explain|--help => invalid
 # A day of the office, and no other text.
 ask|office.db|2024-02-29 => ask|office.db
 ask|:memory:|1900-01-01 => ask|:memory:
-ask|office.db|2025-02-29 => no use
-ask|office.db|1899-12-31 => no use
-ask|office.db|2024-3-1 => no use
-ask|office.db => no use
+ask|office.db|2025-02-29 => invalid
+ask|office.db|1899-12-31 => invalid
+ask|office.db|2024-3-1 => invalid
+ask|office.db => invalid
 # A policy may be left out, and stands before or after the store.
 replay|office.db => replay|no policy|office.db
 replay|--policy|p.toml|office.db => replay|p.toml|office.db
 replay|office.db|--policy=p.toml => replay|p.toml|office.db
-replay|--policy|p.toml => no use
-replay|--policy|p|--policy|q|office.db => no use
+replay|--policy|p.toml => invalid
+replay|--policy|p|--policy|q|office.db => invalid
 # A port and a number of connections.
 serve|--port|8080|--count|1|office.db|2024-03-01 => serve|8080|1|office.db
 serve|office.db|--count|1000000|2024-03-01|--port|65535 => serve|65535|1000000|office.db
 serve|--port|000|--count|007|office.db|2024-03-01 => serve|0|7|office.db
-serve|--port|65536|--count|1|office.db|2024-03-01 => no use
-serve|--port|+1|--count|1|office.db|2024-03-01 => no use
-serve|--port||--count|1|office.db|2024-03-01 => no use
-serve|--port|0|--count|0|office.db|2024-03-01 => no use
-serve|--port|0|--count|1000001|office.db|2024-03-01 => no use
-serve|--port|0|--count|4294967297|office.db|2024-03-01 => no use
-serve|--port|0|--count|1|office.db|today => no use
-serve|--count|1|office.db|2024-03-01 => no use
-serve|--port|0|office.db|2024-03-01 => no use
+serve|--port|65536|--count|1|office.db|2024-03-01 => invalid
+serve|--port|+1|--count|1|office.db|2024-03-01 => invalid
+serve|--port||--count|1|office.db|2024-03-01 => invalid
+serve|--port|0|--count|0|office.db|2024-03-01 => invalid
+serve|--port|0|--count|1000001|office.db|2024-03-01 => invalid
+serve|--port|0|--count|4294967297|office.db|2024-03-01 => invalid
+serve|--port|0|--count|1|office.db|today => invalid
+serve|--count|1|office.db|2024-03-01 => invalid
+serve|--port|0|office.db|2024-03-01 => invalid
 # Words that name no subcommand.
-Check|- => no use
- => no use
+Check|- => invalid
+ => invalid
 ";
 
 /// Whether the words between the bars say this.

@@ -3,9 +3,9 @@ use Rattle.fault_words.proofs.toml_line.first_lines.Goals as goal
 
 pub returns-then-left-eq0 : goal.returns-then-left-eq0
 returns-then-left-eq0 c =
-    let empty : c.loop-place.left ≡ 0 = search rules in
-    let front = take c.loop-place.place c.args.bytes.now in
-    let rest = drop c.loop-place.place c.args.bytes.now in
-    sym (append-nil front)
-    ∙ ap (λ more. front ++ more) (sym (ap (λ left. first_lines left rest) empty ∙ first_lines-zero rest))
-    ∙ c.loop-place.invariant
+    let empty : c.loop-offset.left ≡ 0 = search rules in
+    let before = take c.loop-offset.offset c.args.bytes.now in
+    let rest = drop c.loop-offset.offset c.args.bytes.now in
+    sym (append-nil before)
+    ∙ ap (λ more. before ++ more) (sym (ap (λ left. first_lines left rest) empty ∙ first_lines-zero rest))
+    ∙ c.loop-offset.invariant
