@@ -11,7 +11,7 @@ pub use Rattle.matchit.specs.Router.{map_key, rename, RouteOf}
 pub use Rattle.matchit.specs.Rows.{catch_all_token, ends, param_token, prepend, Rows, rows_of, RowsOf, Seen}
 pub use Rattle.matchit.specs.Seek.{after_param, cuts, first, has_slash, longest_suffix, or_else, own, param_step, segment, step}
 unfoldable pub use Rattle.matchit.specs.Seek.{seek}
-pub use Rattle.std.proofs.Common.{◌&&◌, ◌+◌, ◌++◌, ◌-◌, ◌<◌, ◌==◌, [], ◌^◌, ap, append-nil, append_assoc, arith, Bool, bytes_eq, codes, cond, Contains, decimal, drop, Err, false, get_or, if◌then◌else◌, inl, inr, IsUtf8, leb, length, length-append, List, ltb, map, nat_eq, None, Ok, ok_or, Option, option_and_then, option_map, refl, Result, rules, Some, subst, suc, sym, take, true, zero, ℕ, ◌∙◌, ◌∷◌, ◌≡◌, ◌≢◌, ◌≤◌, ◌⊎◌}
+pub use Rattle.std.proofs.Common.{◌&&◌, ◌+◌, ◌++◌, ◌-◌, ◌<◌, ◌==◌, [], ◌^◌, ap, append-nil, append_assoc, arith, Bool, bytes_eq, codes, cond, Contains, decimal, drop, Err, false, get_or, inl, inr, IsUtf8, leb, length, length-append, List, ltb, map, nat_eq, None, Ok, ok_or, Option, option_and_then, option_map, refl, Result, rules, Some, subst, suc, sym, take, true, zero, ℕ, ◌∙◌, ◌∷◌, ◌≡◌, ◌≢◌, ◌≤◌, ◌⊎◌}
 pub use Rattle.std.proofs.Math.Seq.{drop-append-add, drop-append_seam, get_or-append_seam, take-append_seam}
 pub use Rattle.std.proofs.lemmas.Bool.{and_parts, and_right}
 pub use Rattle.std.proofs.lemmas.Bool.Decides.{nat_tests}
