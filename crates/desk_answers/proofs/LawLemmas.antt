@@ -5,8 +5,8 @@ use Rattle.httparse.proofs.GrammarLemmas.{response_unique}
 use Rattle.office_core.specs.declared.answer.Answer.TheVariants as answers
 use Rattle.office_core.specs.declared.refusal.Refusal.TheVariants as refusals
 use Rattle.desk_routes.specs.Table.{methods_of}
-use Rattle.desk_routes.specs.declared.resource.Pattern.{Pattern}
-use Rattle.desk_routes.specs.declared.resource.Pattern.TheVariants as patterns
+use Rattle.desk_routes.specs.declared.resource.PathPattern.{PathPattern}
+use Rattle.desk_routes.specs.declared.resource.PathPattern.TheVariants as patterns
 use Rattle.desk_routes.specs.declared.refusal.DeskRefusal.{DeskRefusal}
 use Rattle.desk_routes.specs.declared.refusal.DeskRefusal.TheVariants as desks
 use Rattle.desk_answers.specs.DeskRefusals.{desk_status, desk_data, methods_text, allow_fields, lines_text}
@@ -26,7 +26,7 @@ unfolding is_token_byte
 token_allow = (lit< tt, AllPass-from_list_all is_token_byte (codes "Allow") refl)
 
 -- the methods of a pattern may be the value of a field
-methods_value : (pattern : Pattern) → IsValue (methods_text (methods_of pattern))
+methods_value : (pattern : PathPattern) → IsValue (methods_text (methods_of pattern))
 methods_value patterns.Deposits = is_value (methods_text (methods_of patterns.Deposits)) refl refl refl
 methods_value pattern = is_value (methods_text (methods_of pattern)) refl refl refl
 
@@ -45,7 +45,7 @@ record AreRead (fields : List (List ℕ × List ℕ)) : Type 0 where
 none_are_read : AreRead []
 none_are_read = record { lines = All-nil IsField; printed = refl; named = refl; one_length = λ content. refl }
 
-allow_is_read : (pattern : Pattern) → AreRead ((codes "Allow", methods_text (methods_of pattern)) ∷ [])
+allow_is_read : (pattern : PathPattern) → AreRead ((codes "Allow", methods_text (methods_of pattern)) ∷ [])
 allow_is_read pattern =
     let value = methods_value pattern in
     record {

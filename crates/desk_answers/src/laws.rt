@@ -9,7 +9,7 @@ ghost use Rattle.office_core.specs.declared.answer.Answer.{Answer};
 ghost use Rattle.office_core.specs.declared.answer.Answer.TheVariants.{Refused};
 ghost use Rattle.office_core.specs.declared.refusal.Refusal.{Refusal};
 ghost use Rattle.desk_routes.specs.Table.{method_text, methods_of};
-ghost use Rattle.desk_routes.specs.declared.resource.Pattern.{Pattern};
+ghost use Rattle.desk_routes.specs.declared.resource.PathPattern.{PathPattern};
 ghost use Rattle.desk_routes.specs.declared.refusal.DeskRefusal.{DeskRefusal};
 ghost use Rattle.desk_routes.specs.declared.refusal.DeskRefusal.TheVariants.{Method as WrongMethod};
 ghost use Rattle.desk_answers.specs.Statuses.{code_of};
@@ -59,9 +59,9 @@ pub fn allowed_methods()
     ensures stands { (refusal : DeskRefusal)
         → (allow_fields refusal ≢ []) ↔ (code_of (desk_status refusal) ≡ 405) }
     ensures not_of_the_office { (answer : Answer) → code_of (status_of answer) ≢ 405 }
-    ensures names { (pattern : Pattern) → allow_fields (WrongMethod pattern)
+    ensures names { (pattern : PathPattern) → allow_fields (WrongMethod pattern)
         ≡ (codes "Allow", methods_text (methods_of pattern)) ∷ [] }
-    ensures in_order { (pattern : Pattern)
+    ensures in_order { (pattern : PathPattern)
         → IsStrictlySortedBy (slice_cmp nat_cmp) (map method_text (methods_of pattern)) }
 {}
 

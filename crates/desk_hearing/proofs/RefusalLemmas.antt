@@ -2,7 +2,7 @@
 use Rattle.desk_hearing.proofs.Common.{◌≡◌, ℕ, ◌≤◌, ◌⊎◌, inl, inr, List, ◌++◌, length, take, drop, Option, Some, None, Ok, Err, refl, sym, ap, ◌∙◌, subst, arith, length-append, Result, ok_or, option_and_then, take-append-drop, length-take-le, take-append_seam, drop-append_seam, head_at, IsHeadEnd, HeadEnd, found_first, first_found, short_none, none_short, large_none, none_large, HeadContents, Judges, HeadRefusal, refused_first, first_refused, pattern_of, resource_named, method_of, route_at, route_of, route_of_resource, path_part, Resource, DeskRefusal, TooLarge, Truncated, BadHead, Chunked, BadLength, TwoCallers, NoRoute, Method, BadQuery, BadBody, Route, asked-found, nothing-named, named-nothing, method-refused, refused-method, Hearing, refusal_of_head, HearsBody, HearsRest, HearsQuery, route_of_head, HearsRoute, HearsHead, HearsFront, HearsAt, Hears, Question}
 use Rattle.desk_heads.specs.declared.head_end.HeadEnd.TheVariants as ends
 use Rattle.desk_heads.specs.declared.refusal.HeadRefusal.TheVariants as heads
-use Rattle.desk_routes.specs.declared.resource.Pattern.{Pattern}
+use Rattle.desk_routes.specs.declared.resource.PathPattern.{PathPattern}
 use Rattle.desk_hearing.specs.Refused.{BeginsWithHead, TakesHead, TakesRoute, TakesQuery, RefusesHead, IsRefused}
 use Rattle.desk_hearing.proofs.HearingLemmas.{hears_large, hears_short}
 use Rattle.desk_hearing.proofs.JudgingLemmas.{asked_route, head_refused, route_refused}
@@ -23,7 +23,7 @@ or_fault (Some route) refusal other e = absurd (cc)
 or_fault None refusal other e = cc
 
 place_fault : (method : List ℕ) (place : Option Resource) (refusal : DeskRefusal) → route_of_resource method place ≡ Err refusal
-    → (refusal ≡ NoRoute) ⊎ ((pattern : Pattern) × (refusal ≡ Method pattern))
+    → (refusal ≡ NoRoute) ⊎ ((pattern : PathPattern) × (refusal ≡ Method pattern))
 place_fault method None refusal e = inl (cc)
 place_fault method (Some place) refusal e =
     inr (pattern_of place, or_fault (option_and_then (λ m. route_at m place) (method_of method)) refusal (Method (pattern_of place)) e)

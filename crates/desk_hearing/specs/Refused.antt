@@ -9,7 +9,7 @@ use Rattle.desk_heads.specs.declared.refusal.HeadRefusal.TheVariants as heads
 use Rattle.desk_routes.specs.Resources.{SpellsResource}
 use Rattle.desk_routes.specs.Table.{AsksFor, IsOtherMethod}
 use Rattle.desk_routes.specs.Targets.{path_part, query_part}
-use Rattle.desk_routes.specs.declared.resource.Pattern.{Pattern}
+use Rattle.desk_routes.specs.declared.resource.PathPattern.{PathPattern}
 use Rattle.desk_routes.specs.declared.resource.Resource.{Resource}
 use Rattle.desk_routes.specs.declared.refusal.DeskRefusal.{DeskRefusal}
 use Rattle.desk_routes.specs.declared.refusal.DeskRefusal.TheVariants.{TooLarge, Truncated, BadHead, Chunked, BadLength, TwoCallers, NoRoute, Method, BadQuery, BadBody}
@@ -69,7 +69,7 @@ NamesNothing input =
     (contents : HeadContents) × (rest : List ℕ) × TakesHead input contents rest × ((resource : Resource) → SpellsResource (path_part contents.target) resource → ⊥)
 
 -- its path names a place of this pattern, which doesn't take the method
-abbrev pub RefusesMethod : List ℕ → Pattern → Type 0
+abbrev pub RefusesMethod : List ℕ → PathPattern → Type 0
 RefusesMethod input pattern =
     (contents : HeadContents) × (rest : List ℕ) × TakesHead input contents rest × IsOtherMethod contents.method (path_part contents.target) pattern
 

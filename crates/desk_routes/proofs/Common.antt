@@ -2,7 +2,7 @@
 pub use Rattle.desk_routes.specs.PathReading.{after_prefix, all_of, audit, bag, by_part, class, collection, cut, deposit, deposits, due, file, file_path_of, hold, holds, holds_of_deposit, is_number, last_part, name_of, no_more, nothing_more, number_of, Parts, parts_of, resource_by_parts, resource_named, under_deposit, under_deposits, with_byte}
 pub use Rattle.desk_routes.specs.Resources.{IsResource, IsShortNumber, path_of, pattern_of, SpellsResource}
 pub use Rattle.desk_routes.specs.Rows.{resource_by_texts, row_of, Texts, the_rows}
-pub use Rattle.desk_routes.specs.declared.resource.Pattern.{Pattern}
+pub use Rattle.desk_routes.specs.declared.resource.PathPattern.{PathPattern}
 pub use Rattle.desk_routes.specs.declared.resource.Resource.{Resource}
 pub use Rattle.matchit.proofs.SeekLemmas.{first-prefix, or_else-none, own-append, own-prepend, param_step-empty, prepend-nil, seek-empty, seek-lit, step-append, step-hit, step-miss}
 pub use Rattle.matchit.specs.Level.{AllSegment, AreSuffixes, IsText}

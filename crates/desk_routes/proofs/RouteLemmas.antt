@@ -1,5 +1,5 @@
 -- The router finds the row of what the parts of a path say, and its parameters take these parts.
-use Rattle.desk_routes.proofs.Common.{◌≡◌, ℕ, suc, zero, ◌<◌, List, [], ◌∷◌, ◌++◌, get_or, Option, Some, None, Bool, true, refl, ap, ◌∙◌, arith, codes, ltb, ◌&&◌, and_parts, nat_tests, option_map, Rows, prepend, ends, param_token, catch_all_token, RouteOf, map_key, rename, first, IsText, Pattern, Parts, nothing_more, last_part, all_of, under_deposit, under_deposits, parts_of, class, collection, deposit, holds_of_deposit, bag, audit, hold, file, deposits, holds, due, row_of, the_rows, ◌+◌, length, drop, sym, subst, append_assoc, length-append, IsUtf8, option_and_then, take-append_seam, drop-append-add, get_or-append_seam, walk, part_of, AllText, RowsOf, segment, Resource, resource_by_parts, resource_named, Texts, resource_by_texts}
+use Rattle.desk_routes.proofs.Common.{◌≡◌, ℕ, suc, zero, ◌<◌, List, [], ◌∷◌, ◌++◌, get_or, Option, Some, None, Bool, true, refl, ap, ◌∙◌, arith, codes, ltb, ◌&&◌, and_parts, nat_tests, option_map, Rows, prepend, ends, param_token, catch_all_token, RouteOf, map_key, rename, first, IsText, PathPattern, Parts, nothing_more, last_part, all_of, under_deposit, under_deposits, parts_of, class, collection, deposit, holds_of_deposit, bag, audit, hold, file, deposits, holds, due, row_of, the_rows, ◌+◌, length, drop, sym, subst, append_assoc, length-append, IsUtf8, option_and_then, take-append_seam, drop-append-add, get_or-append_seam, walk, part_of, AllText, RowsOf, segment, Resource, resource_by_parts, resource_named, Texts, resource_by_texts}
 use Rattle.matchit.proofs.RenameLemmas.{first-rename}
 use Rattle.desk_routes.proofs.PathLemmas.{param-says, rows-after, row-after, end-says, all-says, last-says, IsPart}
 use Rattle.std.proofs.lemmas.Str.{IsUtf8-take, IsUtf8-drop, IsCharBoundary-after_ascii, IsCharBoundary-before_ascii}
@@ -21,10 +21,10 @@ key due = 8
 key (hold number) = 9
 key holds = 10
 
-abbrev pub numbered : List (RouteOf Pattern)
+abbrev pub numbered : List (RouteOf PathPattern)
 numbered = row_of (class []) ∷ row_of (collection []) ∷ row_of (audit []) ∷ row_of (bag []) ∷ row_of (file [] []) ∷ row_of (holds_of_deposit []) ∷ row_of (deposit []) ∷ row_of deposits ∷ row_of due ∷ row_of (hold []) ∷ row_of holds ∷ []
 
-abbrev pub at_number : ℕ → RouteOf Pattern
+abbrev pub at_number : ℕ → RouteOf PathPattern
 at_number n = get_or numbered n (row_of due)
 
 row_is : (parts : Parts) → at_number (key parts) ≡ row_of parts
@@ -195,11 +195,11 @@ by-texts parts = refl
 
 -- ---- what is found
 
-pub nothing-found : (path : List ℕ) (held : RowsOf (RouteOf Pattern)) → IsText path → held ≡ the_rows → first held path ≡ None → resource_named path ≡ None
+pub nothing-found : (path : List ℕ) (held : RowsOf (RouteOf PathPattern)) → IsText path → held ≡ the_rows → first held path ≡ None → resource_named path ≡ None
 nothing-found path held text hold_them e =
     ap (option_and_then resource_by_parts) (option_map_none row_of (parts_of path) (sym (router-says path text) ∙ ap (λ r. first r path) (sym hold_them) ∙ e))
 
-pub resource-found : (path seen : List ℕ) (held : RowsOf (RouteOf Pattern)) (row : RouteOf Pattern) (result : Option Resource) → IsText path → IsUtf8 path → held ≡ the_rows → first held path ≡ Some row → seen ≡ path
+pub resource-found : (path seen : List ℕ) (held : RowsOf (RouteOf PathPattern)) (row : RouteOf PathPattern) (result : Option Resource) → IsText path → IsUtf8 path → held ≡ the_rows → first held path ≡ Some row → seen ≡ path
     → (AllText (walk row.pattern row.text seen row.names 0 0) → result ≡ resource_by_texts row.value (walk row.pattern row.text seen row.names 0 0)) → result ≡ resource_named path
 resource-found path seen held row result text u hold_them e same gives =
     option_map_some row_of (parts_of path) row (sym (router-says path text) ∙ ap (λ r. first r path) (sym hold_them) ∙ e)

@@ -1,10 +1,10 @@
 -- The table of the routes, read by method and place.
-use Rattle.desk_routes.proofs.Common.{◌≡◌, ◌⊎◌, inl, inr, ℕ, zero, suc, List, [], ◌∷◌, Option, Some, None, Ok, Err, true, refl, sym, ap, ◌∙◌, subst, arith, codes, bytes_eq, ok_or, option_and_then, Contains, map, slice_cmp, bytes_decides, Pattern, Resource, SpellsResource, pattern_of, resource_named}
+use Rattle.desk_routes.proofs.Common.{◌≡◌, ◌⊎◌, inl, inr, ℕ, zero, suc, List, [], ◌∷◌, Option, Some, None, Ok, Err, true, refl, sym, ap, ◌∙◌, subst, arith, codes, bytes_eq, ok_or, option_and_then, Contains, map, slice_cmp, bytes_decides, PathPattern, Resource, SpellsResource, pattern_of, resource_named}
 use Rattle.std.specs.List.Sorted.{IsStrictlySortedBy}
 use Rattle.std.specs.Ordering.{nat_cmp}
 use Rattle.desk_routes.specs.declared.method.Method.{Method}
 use Rattle.desk_routes.specs.declared.method.Method.TheVariants.{Delete, Get, Post, Put}
-use Rattle.desk_routes.specs.declared.resource.Pattern.TheVariants as patterns
+use Rattle.desk_routes.specs.declared.resource.PathPattern.TheVariants as patterns
 use Rattle.desk_routes.specs.declared.resource.Resource.TheVariants as resources
 use Rattle.desk_routes.specs.declared.refusal.DeskRefusal.{DeskRefusal}
 use Rattle.desk_routes.specs.declared.refusal.DeskRefusal.TheVariants as refusals
@@ -95,7 +95,7 @@ route-allowed Delete (resources.Hold number) route e = (0, omega arith, refl)
 route-allowed Get resources.Due route e = (0, omega arith, refl)
 route-allowed method resource route e = absurd (let z = e in cc)
 
-pub methods-sorted : (pattern : Pattern) → IsStrictlySortedBy (slice_cmp nat_cmp) (map method_text (methods_of pattern))
+pub methods-sorted : (pattern : PathPattern) → IsStrictlySortedBy (slice_cmp nat_cmp) (map method_text (methods_of pattern))
 unfolding IsStrictlySortedBy
 methods-sorted patterns.Deposits = ((refl, tt), (tt, tt))
 methods-sorted patterns.Deposit = ((refl, tt), (tt, tt))
@@ -140,7 +140,7 @@ found-asked method path route e =
     let r = row-only m resource route (refused-gives (route_at m resource) _ route (rw (is, w) at e)) in
     (method-written method m w ∙ ap method_text (sym r.0), subst (SpellsResource path) (sym r.1) (reading-spelled path resource is))))
 
-no_route : (found : Option Route) (pattern : Pattern) → ok_or found (refusals.Method pattern) ≡ Err refusals.NoRoute → ⊥
+no_route : (found : Option Route) (pattern : PathPattern) → ok_or found (refusals.Method pattern) ≡ Err refusals.NoRoute → ⊥
 no_route None pattern e = let z = e in cc
 no_route (Some r) pattern e = let z = e in cc
 
@@ -151,11 +151,11 @@ nothing-named method path e resource h =
 pub named-nothing : (method path : List ℕ) → ((resource : Resource) → SpellsResource path resource → ⊥) → route_of method path ≡ Err refusals.NoRoute
 named-nothing method path h = by_Option (resource_named path) (λ none. rw none refl) (λ resource is. absurd (h resource (reading-spelled path resource is)))
 
-refused-none : (found : Option Route) (was pattern : Pattern) → ok_or found (refusals.Method was) ≡ Err (refusals.Method pattern) → (found ≡ None) × (was ≡ pattern)
+refused-none : (found : Option Route) (was pattern : PathPattern) → ok_or found (refusals.Method was) ≡ Err (refusals.Method pattern) → (found ≡ None) × (was ≡ pattern)
 refused-none None was pattern e = (refl, let z = e in cc)
 refused-none (Some r) was pattern e = absurd (let z = e in cc)
 
-pub method-refused : (method path : List ℕ) (pattern : Pattern) → route_of method path ≡ Err (refusals.Method pattern) → IsOtherMethod method path pattern
+pub method-refused : (method path : List ℕ) (pattern : PathPattern) → route_of method path ≡ Err (refusals.Method pattern) → IsOtherMethod method path pattern
 method-refused method path pattern e =
     by_Option (resource_named path) (λ none. absurd (let z = rw none at e in cc))
     (λ resource is.
@@ -172,7 +172,7 @@ method-refused method path pattern e =
           let z = both in cc,
     ))
 
-pub refused-method : (method path : List ℕ) (pattern : Pattern) → IsOtherMethod method path pattern → route_of method path ≡ Err (refusals.Method pattern)
+pub refused-method : (method path : List ℕ) (pattern : PathPattern) → IsOtherMethod method path pattern → route_of method path ≡ Err (refusals.Method pattern)
 refused-method method path pattern (resource, spells, same, never) =
     rw (spelling-read path resource spells) (by_Option (method_of method) (λ none. rw none (ap (λ p. Err (refusals.Method p)) same))
     (λ m w. rw w (by_Option (route_at m resource) (λ none. rw none (ap (λ p. Err (refusals.Method p)) same))

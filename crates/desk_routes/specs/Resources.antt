@@ -2,8 +2,8 @@
 -- in them is decoded, are Depot's own rule.
 use Rattle.std.specs.Prelude.{◌≡◌, ◌<◌, ℕ, List, ◌++◌, length, codes, decimal}
 use Rattle.office_core.specs.Names.{IsName}
-use Rattle.desk_routes.specs.declared.resource.Pattern.{Pattern}
-use Rattle.desk_routes.specs.declared.resource.Pattern.TheVariants as patterns
+use Rattle.desk_routes.specs.declared.resource.PathPattern.{PathPattern}
+use Rattle.desk_routes.specs.declared.resource.PathPattern.TheVariants as patterns
 use Rattle.desk_routes.specs.declared.resource.Resource.{Resource}
 use Rattle.desk_routes.specs.declared.resource.Resource.TheVariants.{Class, Collection, Deposits, Deposit, HoldsOfDeposit, Bag, File, Audit, Holds, Hold, Due}
 
@@ -42,7 +42,7 @@ IsResource Due = Unit {0}
 abbrev pub SpellsResource : List ℕ → Resource → Type 0
 SpellsResource path resource = (path ≡ path_of resource) × IsResource resource
 
-abbrev pub pattern_of : Resource → Pattern
+abbrev pub pattern_of : Resource → PathPattern
 pattern_of (Class name) = patterns.Class
 pattern_of (Collection name) = patterns.Collection
 pattern_of Deposits = patterns.Deposits

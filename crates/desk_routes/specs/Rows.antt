@@ -5,17 +5,17 @@ use Rattle.matchit.specs.Params.{walk, named}
 use Rattle.matchit.specs.Router.{RouteOf}
 use Rattle.matchit.specs.Rows.{RowsOf}
 use Rattle.matchit.specs.declared.params.Params.{Params}
-use Rattle.desk_routes.specs.declared.resource.Pattern.{Pattern}
-use Rattle.desk_routes.specs.declared.resource.Pattern.TheVariants as patterns
+use Rattle.desk_routes.specs.declared.resource.PathPattern.{PathPattern}
+use Rattle.desk_routes.specs.declared.resource.PathPattern.TheVariants as patterns
 use Rattle.desk_routes.specs.declared.resource.Resource.{Resource}
 use Rattle.desk_routes.specs.declared.resource.Resource.TheVariants as resources
 use Rattle.desk_routes.specs.PathReading.{Parts, class, collection, deposit, holds_of_deposit, bag, audit, hold, file, deposits, holds, due, name_of, number_of, file_path_of}
 
-abbrev pub route_row : List ℕ → List ℕ → List (ℕ × ℕ) → Pattern → RouteOf Pattern
+abbrev pub route_row : List ℕ → List ℕ → List (ℕ × ℕ) → PathPattern → RouteOf PathPattern
 route_row tokens text names value = record { pattern = tokens; text = text; names = names; value = value }
 
 -- the router's row for a path with these parts
-abbrev pub row_of : Parts → RouteOf Pattern
+abbrev pub row_of : Parts → RouteOf PathPattern
 row_of (class name) = route_row (codes "/classes/" ++ 256 ∷ []) (codes "/classes/{name}") ((10, 14) ∷ []) patterns.Class
 row_of (collection name) = route_row (codes "/collections/" ++ 256 ∷ []) (codes "/collections/{name}") ((14, 18) ∷ []) patterns.Collection
 row_of (audit number) = route_row (codes "/deposits/" ++ 256 ∷ codes "/audit") (codes "/deposits/{number}/audit") ((11, 17) ∷ []) patterns.Audit
@@ -29,11 +29,11 @@ row_of (hold number) = route_row (codes "/holds/" ++ 256 ∷ []) (codes "/holds/
 row_of holds = route_row (codes "/holds") (codes "/holds") [] patterns.Holds
 
 -- with its pattern, as the router keeps it
-abbrev pub router_row : Parts → List ℕ × RouteOf Pattern
+abbrev pub router_row : Parts → List ℕ × RouteOf PathPattern
 router_row parts = ((row_of parts).pattern, row_of parts)
 
 -- in the order in which the router keeps them
-abbrev pub the_rows : RowsOf (RouteOf Pattern)
+abbrev pub the_rows : RowsOf (RouteOf PathPattern)
 the_rows =
     router_row (class []) ∷ router_row (collection []) ∷ router_row (audit []) ∷ router_row (bag []) ∷ router_row (file [] []) ∷ router_row (holds_of_deposit []) ∷ router_row (deposit [])
     ∷ router_row deposits ∷ router_row due ∷ router_row (hold []) ∷ router_row holds ∷ []
@@ -57,7 +57,7 @@ abbrev pub path_in : Texts → Option (List ℕ)
 path_in texts = option_and_then file_path_of (named (codes "path") texts)
 
 -- the place of a path that has this pattern and these texts
-abbrev pub resource_by_texts : Pattern → Texts → Option Resource
+abbrev pub resource_by_texts : PathPattern → Texts → Option Resource
 resource_by_texts patterns.Class texts = option_map resources.Class (name_in texts)
 resource_by_texts patterns.Collection texts = option_map resources.Collection (name_in texts)
 resource_by_texts patterns.Deposits texts = Some resources.Deposits
@@ -73,15 +73,15 @@ resource_by_texts patterns.Due texts = Some resources.Due
 -- ---- for private clauses: the router as it is filled, each time in its own order
 
 -- with the paths of what is defined
-abbrev pub definition_rows : RowsOf (RouteOf Pattern)
+abbrev pub definition_rows : RowsOf (RouteOf PathPattern)
 definition_rows = router_row (class []) ∷ router_row (collection []) ∷ []
 
 -- with the paths of all deposits and of one besides
-abbrev pub rows_with_deposits : RowsOf (RouteOf Pattern)
+abbrev pub rows_with_deposits : RowsOf (RouteOf PathPattern)
 rows_with_deposits = router_row (class []) ∷ router_row (collection []) ∷ router_row (deposit []) ∷ router_row deposits ∷ []
 
 -- with the paths below a deposit besides
-abbrev pub rows_with_parts_of_deposit : RowsOf (RouteOf Pattern)
+abbrev pub rows_with_parts_of_deposit : RowsOf (RouteOf PathPattern)
 rows_with_parts_of_deposit =
     router_row (class []) ∷ router_row (collection []) ∷ router_row (audit []) ∷ router_row (bag []) ∷ router_row (file [] []) ∷ router_row (holds_of_deposit []) ∷ router_row (deposit [])
     ∷ router_row deposits ∷ []

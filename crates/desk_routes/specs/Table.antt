@@ -3,8 +3,8 @@
 use Rattle.std.specs.Prelude.{◌≡◌, ◌≢◌, ℕ, List, [], ◌∷◌, Contains, codes, bytes_eq, Option, Some, None, option_and_then, Result, Err, ok_or, if◌then◌else◌}
 use Rattle.desk_routes.specs.declared.method.Method.{Method}
 use Rattle.desk_routes.specs.declared.method.Method.TheVariants.{Delete, Get, Post, Put}
-use Rattle.desk_routes.specs.declared.resource.Pattern.{Pattern}
-use Rattle.desk_routes.specs.declared.resource.Pattern.TheVariants as patterns
+use Rattle.desk_routes.specs.declared.resource.PathPattern.{PathPattern}
+use Rattle.desk_routes.specs.declared.resource.PathPattern.TheVariants as patterns
 use Rattle.desk_routes.specs.declared.resource.Resource.{Resource}
 use Rattle.desk_routes.specs.declared.resource.Resource.TheVariants as resources
 use Rattle.desk_routes.specs.declared.refusal.DeskRefusal.{DeskRefusal}
@@ -37,7 +37,7 @@ row (routes.Release number) = (Delete, resources.Hold number)
 row routes.DueList = (Get, resources.Due)
 
 -- the methods that the paths of each pattern take, in the order of the alphabet
-abbrev pub methods_of : Pattern → List Method
+abbrev pub methods_of : PathPattern → List Method
 methods_of patterns.Class = Put ∷ []
 methods_of patterns.Collection = Put ∷ []
 methods_of patterns.Deposits = Get ∷ Post ∷ []
@@ -55,7 +55,7 @@ abbrev pub AsksFor : List ℕ → List ℕ → Route → Type 0
 AsksFor method path route = (method ≡ method_text (row route).0) × SpellsResource path (row route).1
 
 -- the path names a place of this pattern, and the method is none of those that such a place takes
-abbrev pub IsOtherMethod : List ℕ → List ℕ → Pattern → Type 0
+abbrev pub IsOtherMethod : List ℕ → List ℕ → PathPattern → Type 0
 IsOtherMethod method path pattern =
     (resource : Resource) × SpellsResource path resource × (pattern_of resource ≡ pattern)
     × ((allowed : Method) → Contains (methods_of pattern) allowed → method ≢ method_text allowed)

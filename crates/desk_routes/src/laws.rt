@@ -5,7 +5,7 @@ ghost use Rattle.std.specs.Cmp.Lexicographic.{slice_cmp};
 ghost use Rattle.std.specs.List.Sorted.{IsStrictlySortedBy};
 ghost use Rattle.std.specs.Ordering.{nat_cmp};
 ghost use Rattle.desk_routes.specs.declared.method.Method.{Method as AnyMethod};
-ghost use Rattle.desk_routes.specs.declared.resource.Pattern.{Pattern as AnyPattern};
+ghost use Rattle.desk_routes.specs.declared.resource.PathPattern.{PathPattern as AnyPattern};
 ghost use Rattle.desk_routes.specs.declared.resource.Resource.{Resource as AnyResource};
 ghost use Rattle.desk_routes.specs.declared.refusal.DeskRefusal.TheVariants.{NoRoute, Method};
 ghost use Rattle.desk_routes.specs.declared.route.Route.{Route as AnyRoute};

@@ -14,7 +14,7 @@ mod target;
 pub use file_path::FilePath;
 pub use method::Method;
 pub use refusal::DeskRefusal;
-pub use resource::{Pattern, Resource};
+pub use resource::{PathPattern, Resource};
 pub use route::Route;
 pub use routes::Routes;
 pub use target::split_target;

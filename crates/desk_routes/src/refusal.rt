@@ -1,6 +1,6 @@
 //! What the desk refuses before the office is asked.
 
-use crate::resource::Pattern;
+use crate::resource::PathPattern;
 
 /// Why the desk refuses a request. The office is not asked.
 #[derive(Clone, Copy, Debug, PartialEq, Eq)]
@@ -20,7 +20,7 @@ pub enum DeskRefusal {
     /// The path names nothing.
     NoRoute,
     /// The path names something that doesn't take the method.
-    Method(Pattern),
+    Method(PathPattern),
     /// The query isn't as the route says.
     BadQuery,
     /// The body isn't as the route says.

@@ -14,7 +14,7 @@ use office_core::Name;
 
 /// A pattern of paths that name something.
 #[derive(Clone, Copy, Debug, PartialEq, Eq)]
-pub enum Pattern {
+pub enum PathPattern {
     /// `/classes/NAME`
     Class,
     /// `/collections/NAME`
@@ -39,27 +39,27 @@ pub enum Pattern {
     Due,
 }
 
-impl Pattern {
+impl PathPattern {
     /// The methods that a path of the pattern takes, in the order of the alphabet.
     pub fn methods(self) -> &'static [Method]
         ensures { result.now ≡ methods_of self }
     {
         match self {
-            Pattern::Class | Pattern::Collection => &[Method::Put],
-            Pattern::Deposits => &[Method::Get, Method::Post],
-            Pattern::Deposit => &[Method::Delete, Method::Get],
-            Pattern::HoldsOfDeposit
-            | Pattern::Bag
-            | Pattern::File
-            | Pattern::Audit
-            | Pattern::Due => &[Method::Get],
-            Pattern::Holds => &[Method::Post],
-            Pattern::Hold => &[Method::Delete],
+            PathPattern::Class | PathPattern::Collection => &[Method::Put],
+            PathPattern::Deposits => &[Method::Get, Method::Post],
+            PathPattern::Deposit => &[Method::Delete, Method::Get],
+            PathPattern::HoldsOfDeposit
+            | PathPattern::Bag
+            | PathPattern::File
+            | PathPattern::Audit
+            | PathPattern::Due => &[Method::Get],
+            PathPattern::Holds => &[Method::Post],
+            PathPattern::Hold => &[Method::Delete],
         }
     }
 }
 
-/// What a path names: a case for each `Pattern`, with the parts of the path. Names are names as
+/// What a path names: a case for each `PathPattern`, with the parts of the path. Names are names as
 /// they stand, and numbers have 1 to 7 digits, without a leading zero: nothing is decoded.
 #[derive(Drop)]
 pub enum Resource<'p> {
@@ -78,21 +78,21 @@ pub enum Resource<'p> {
 
 impl Resource<'_> {
     /// The pattern of the paths that name such a place.
-    pub fn pattern(&self) -> Pattern
+    pub fn pattern(&self) -> PathPattern
         ensures { result ≡ pattern_of self.now }
     {
         match self {
-            Resource::Class(_) => Pattern::Class,
-            Resource::Collection(_) => Pattern::Collection,
-            Resource::Deposits => Pattern::Deposits,
-            Resource::Deposit(_) => Pattern::Deposit,
-            Resource::HoldsOfDeposit(_) => Pattern::HoldsOfDeposit,
-            Resource::Bag(_) => Pattern::Bag,
-            Resource::File { .. } => Pattern::File,
-            Resource::Audit(_) => Pattern::Audit,
-            Resource::Holds => Pattern::Holds,
-            Resource::Hold(_) => Pattern::Hold,
-            Resource::Due => Pattern::Due,
+            Resource::Class(_) => PathPattern::Class,
+            Resource::Collection(_) => PathPattern::Collection,
+            Resource::Deposits => PathPattern::Deposits,
+            Resource::Deposit(_) => PathPattern::Deposit,
+            Resource::HoldsOfDeposit(_) => PathPattern::HoldsOfDeposit,
+            Resource::Bag(_) => PathPattern::Bag,
+            Resource::File { .. } => PathPattern::File,
+            Resource::Audit(_) => PathPattern::Audit,
+            Resource::Holds => PathPattern::Holds,
+            Resource::Hold(_) => PathPattern::Hold,
+            Resource::Due => PathPattern::Due,
         }
     }
 }
@@ -117,26 +117,26 @@ fn path_in<'p>(params: &Params<'_, 'p>) -> Option<FilePath<'p>>
 
 /// The place of a path that has the pattern, by what the parameters took of it.
 pub(crate) fn resource_by_params<'p>(
-    pattern: Pattern,
+    pattern: PathPattern,
     params: &Params<'_, 'p>,
 ) -> Option<Resource<'p>>
     ensures { AllText (texts_in params.now)
         → result ≡ resource_by_texts pattern (texts_in params.now) }
 {
     match pattern {
-        Pattern::Class => Some(Resource::Class(name_in(params)?)),
-        Pattern::Collection => Some(Resource::Collection(name_in(params)?)),
-        Pattern::Deposits => Some(Resource::Deposits),
-        Pattern::Deposit => Some(Resource::Deposit(number_in(params)?)),
-        Pattern::HoldsOfDeposit => Some(Resource::HoldsOfDeposit(number_in(params)?)),
-        Pattern::Bag => Some(Resource::Bag(number_in(params)?)),
-        Pattern::File => Some(Resource::File {
+        PathPattern::Class => Some(Resource::Class(name_in(params)?)),
+        PathPattern::Collection => Some(Resource::Collection(name_in(params)?)),
+        PathPattern::Deposits => Some(Resource::Deposits),
+        PathPattern::Deposit => Some(Resource::Deposit(number_in(params)?)),
+        PathPattern::HoldsOfDeposit => Some(Resource::HoldsOfDeposit(number_in(params)?)),
+        PathPattern::Bag => Some(Resource::Bag(number_in(params)?)),
+        PathPattern::File => Some(Resource::File {
             deposit: number_in(params)?,
             path: path_in(params)?,
         }),
-        Pattern::Audit => Some(Resource::Audit(number_in(params)?)),
-        Pattern::Holds => Some(Resource::Holds),
-        Pattern::Hold => Some(Resource::Hold(number_in(params)?)),
-        Pattern::Due => Some(Resource::Due),
+        PathPattern::Audit => Some(Resource::Audit(number_in(params)?)),
+        PathPattern::Holds => Some(Resource::Holds),
+        PathPattern::Hold => Some(Resource::Hold(number_in(params)?)),
+        PathPattern::Due => Some(Resource::Due),
     }
 }

@@ -7,57 +7,57 @@ ghost use Rattle.desk_routes.specs.Table.{route_of};
 
 use crate::method::Method;
 use crate::refusal::DeskRefusal;
-use crate::resource::{Pattern, Resource, resource_by_params};
+use crate::resource::{PathPattern, Resource, resource_by_params};
 use crate::route::{Route, route_at};
 use matchit::{InsertError, Router};
 use std::alloc::{AllocError, Global};
 use std::marker::Model;
 
 /// Adds the paths of what is defined: of a class, and of a collection.
-fn insert_definitions(router: &mut Router<Pattern>) -> Result<(), InsertError>
+fn insert_definitions(router: &mut Router<PathPattern>) -> Result<(), InsertError>
     requires { router.now ≡ [] }
     ensures { OnOk result (router.new ≡ definition_rows) }
 {
-    router.insert("/classes/{name}", Pattern::Class)?;
-    router.insert("/collections/{name}", Pattern::Collection)?;
+    router.insert("/classes/{name}", PathPattern::Class)?;
+    router.insert("/collections/{name}", PathPattern::Collection)?;
     Ok(())
 }
 
 /// Adds the paths of all deposits, and of one.
-fn insert_deposits(router: &mut Router<Pattern>) -> Result<(), InsertError>
+fn insert_deposits(router: &mut Router<PathPattern>) -> Result<(), InsertError>
     requires { router.now ≡ definition_rows }
     ensures { OnOk result (router.new ≡ rows_with_deposits) }
 {
-    router.insert("/deposits", Pattern::Deposits)?;
-    router.insert("/deposits/{number}", Pattern::Deposit)?;
+    router.insert("/deposits", PathPattern::Deposits)?;
+    router.insert("/deposits/{number}", PathPattern::Deposit)?;
     Ok(())
 }
 
 /// Adds the paths below a deposit: of its holds, its bag, a file of it, and its audit.
-fn insert_parts_of_deposit(router: &mut Router<Pattern>) -> Result<(), InsertError>
+fn insert_parts_of_deposit(router: &mut Router<PathPattern>) -> Result<(), InsertError>
     requires { router.now ≡ rows_with_deposits }
     ensures { OnOk result (router.new ≡ rows_with_parts_of_deposit) }
 {
-    router.insert("/deposits/{number}/holds", Pattern::HoldsOfDeposit)?;
-    router.insert("/deposits/{number}/bag", Pattern::Bag)?;
-    router.insert("/deposits/{number}/files/{*path}", Pattern::File)?;
-    router.insert("/deposits/{number}/audit", Pattern::Audit)?;
+    router.insert("/deposits/{number}/holds", PathPattern::HoldsOfDeposit)?;
+    router.insert("/deposits/{number}/bag", PathPattern::Bag)?;
+    router.insert("/deposits/{number}/files/{*path}", PathPattern::File)?;
+    router.insert("/deposits/{number}/audit", PathPattern::Audit)?;
     Ok(())
 }
 
 /// Adds the paths of all holds, of one, and of what is due.
-fn insert_holds_and_due(router: &mut Router<Pattern>) -> Result<(), InsertError>
+fn insert_holds_and_due(router: &mut Router<PathPattern>) -> Result<(), InsertError>
     requires { router.now ≡ rows_with_parts_of_deposit }
     ensures { OnOk result (router.new ≡ the_rows) }
 {
-    router.insert("/holds", Pattern::Holds)?;
-    router.insert("/holds/{number}", Pattern::Hold)?;
-    router.insert("/due", Pattern::Due)?;
+    router.insert("/holds", PathPattern::Holds)?;
+    router.insert("/holds/{number}", PathPattern::Hold)?;
+    router.insert("/due", PathPattern::Due)?;
     Ok(())
 }
 
 /// Adds each path with its pattern.
-fn insert_patterns(router: &mut Router<Pattern>) -> Result<(), InsertError>
+fn insert_patterns(router: &mut Router<PathPattern>) -> Result<(), InsertError>
     requires { router.now ≡ [] }
     ensures { OnOk result (router.new ≡ the_rows) }
 {
@@ -68,7 +68,7 @@ fn insert_patterns(router: &mut Router<Pattern>) -> Result<(), InsertError>
 }
 
 /// The router of all paths.
-fn pattern_router(alloc: Global) -> Result<Router<Pattern>, InsertError>
+fn pattern_router(alloc: Global) -> Result<Router<PathPattern>, InsertError>
     ensures { IfOk result (λ router. router ≡ the_rows) }
 {
     let mut router = Router::new(alloc);
@@ -79,7 +79,7 @@ fn pattern_router(alloc: Global) -> Result<Router<Pattern>, InsertError>
 /// The table of the routes. There is one such table, and contracts see its rows.
 #[derive(Drop)]
 pub struct Routes {
-    router: Router<Pattern>,
+    router: Router<PathPattern>,
 }
 
 impl Model for Routes {
@@ -87,9 +87,9 @@ impl Model for Routes {
     ghost use Rattle.matchit.specs.Router.{RouteOf};
     ghost use Rattle.matchit.specs.Rows.{RowsOf};
     ghost use Rattle.desk_routes.specs.Rows.{the_rows};
-    ghost use Rattle.desk_routes.specs.declared.resource.Pattern.{Pattern};
+    ghost use Rattle.desk_routes.specs.declared.resource.PathPattern.{PathPattern};
 
-    ghost Value = { RowsOf (RouteOf Pattern) };
+    ghost Value = { RowsOf (RouteOf PathPattern) };
 
     ghost view = { λ routes. routes.router };
 

@@ -1,14 +1,14 @@
 //! The calls of `desk_routes`, on their happy paths. Each path and each method that is refused is in
 //! the stored replay.
 
-use desk_routes::{DeskRefusal, Method, Pattern, Resource, Route, Routes, split_target};
+use desk_routes::{DeskRefusal, Method, PathPattern, Resource, Route, Routes, split_target};
 use std::test::*;
 
 #[test]
 fn finds_a_place(rt: HostRuntime) -> Result<(), Fail> {
     let routes = Routes::new(rt.alloc())?;
     let place = routes.find("/deposits/12/files//a%20b").ok_or("no place")?;
-    assert!(rt; matches!(place.pattern(), Pattern::File));
+    assert!(rt; matches!(place.pattern(), PathPattern::File));
     let Resource::File { deposit, path } = place else {
         return Err(Fail::new("no file"));
     };
@@ -23,13 +23,13 @@ fn finds_a_route(rt: HostRuntime) -> Result<(), Fail> {
     let found = routes.route("DELETE", "/holds/9999999");
     assert!(rt; matches!(found, Ok(Route::Release(9_999_999))));
     let found = routes.route("PUT", "/holds/3");
-    assert!(rt; matches!(found, Err(DeskRefusal::Method(Pattern::Hold))));
+    assert!(rt; matches!(found, Err(DeskRefusal::Method(PathPattern::Hold))));
     Ok(())
 }
 
 #[test]
 fn lists_methods(rt: HostRuntime) {
-    let methods = Pattern::Deposits.methods();
+    let methods = PathPattern::Deposits.methods();
     assert!(rt; matches!(methods, [Method::Get, Method::Post]));
     assert!(rt; Method::Delete.as_str() == "DELETE");
 }
