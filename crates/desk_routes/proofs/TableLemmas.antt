@@ -1,4 +1,4 @@
--- The table of the routes, read by method and place.
+-- The table of the routes, read by method and resource.
 use Rattle.desk_routes.proofs.Common.{◌≡◌, ◌⊎◌, inl, inr, ℕ, zero, suc, List, [], ◌∷◌, Option, Some, None, Ok, Err, true, refl, sym, ap, ◌∙◌, subst, arith, codes, bytes_eq, ok_or, option_and_then, Contains, map, slice_cmp, bytes_decides, PathPattern, Resource, SpellsResource, pattern_of, resource_named}
 use Rattle.std.specs.List.Sorted.{IsStrictlySortedBy}
 use Rattle.std.specs.Ordering.{nat_cmp}

@@ -3,7 +3,7 @@ use Rattle.desk_routes.proofs.Common.{◌≡◌, ◌≢◌, inl, inr, ℕ, suc, 
 use Rattle.desk_routes.specs.Targets.{Splits, path_part, query_part}
 use Rattle.office_core.proofs.OptionLemmas.{by_Bool}
 
--- the parts of a target are what stands before its first question mark, and after it
+-- the parts of a target are what comes before its first question mark, and after it
 parts_cut : (target : List ℕ) → (before_first (λ b. b == 63) target ≡ path_part target) × (after_first (λ b. b == 63) target ≡ query_part target)
 parts_cut [] = (refl, refl)
 parts_cut (b ∷ rest) =

@@ -86,7 +86,7 @@ name_of text = if is_name text then Some text else None
 abbrev pub file_path_of : List ℕ → Option (List ℕ)
 file_path_of text = if nat_le 1 (length text) then Some text else None
 
--- the place of a path with these parts, where they are a name, numbers and the path of a file
+-- the resource of a path with these parts, where they are a name, numbers and the path of a file
 abbrev pub resource_by_parts : Parts → Option Resource
 resource_by_parts (class name) = option_map resources.Class (name_of name)
 resource_by_parts (collection name) = option_map resources.Collection (name_of name)

@@ -38,7 +38,7 @@ IsResource Holds = Unit {0}
 IsResource (Hold number) = IsShortNumber number
 IsResource Due = Unit {0}
 
--- the path is the spelling of this place, whose parts are in their ranges
+-- the path is the spelling of this resource, whose parts are in their ranges
 abbrev pub SpellsResource : List ℕ → Resource → Type 0
 SpellsResource path resource = (path ≡ path_of resource) × IsResource resource
 

@@ -56,7 +56,7 @@ number_in texts = option_and_then number_of (named (codes "number") texts)
 abbrev pub path_in : Texts → Option (List ℕ)
 path_in texts = option_and_then file_path_of (named (codes "path") texts)
 
--- the place of a path that has this pattern and these texts
+-- the resource of a path that has this pattern and these texts
 abbrev pub resource_by_texts : PathPattern → Texts → Option Resource
 resource_by_texts patterns.Class texts = option_map resources.Class (name_in texts)
 resource_by_texts patterns.Collection texts = option_map resources.Collection (name_in texts)

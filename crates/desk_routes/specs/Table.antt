@@ -20,7 +20,7 @@ method_text Get = codes "GET"
 method_text Post = codes "POST"
 method_text Put = codes "PUT"
 
--- the method and the place of each route
+-- the method and the resource of each route
 abbrev pub row : Route → Method × Resource
 row (routes.DefineClass name) = (Put, resources.Class name)
 row (routes.DefineCollection name) = (Put, resources.Collection name)
@@ -54,7 +54,7 @@ methods_of patterns.Due = Get ∷ []
 abbrev pub AsksFor : List ℕ → List ℕ → Route → Type 0
 AsksFor method path route = (method ≡ method_text (row route).0) × SpellsResource path (row route).1
 
--- the path names a place of this pattern, and the method is none of those that such a place takes
+-- the path names a resource of this pattern, and the method is none of those that such a resource takes
 abbrev pub IsOtherMethod : List ℕ → List ℕ → PathPattern → Type 0
 IsOtherMethod method path pattern =
     (resource : Resource) × SpellsResource path resource × (pattern_of resource ≡ pattern)
@@ -62,7 +62,7 @@ IsOtherMethod method path pattern =
 
 -- ---- the same, found from the method and the path
 
--- what a method asks of a place, if the place takes it
+-- what a method asks of a resource, if the resource takes it
 abbrev pub route_at : Method → Resource → Option Route
 route_at Put (resources.Class name) = Some (routes.DefineClass name)
 route_at Put (resources.Collection name) = Some (routes.DefineCollection name)
@@ -91,6 +91,6 @@ abbrev pub route_of_resource : List ℕ → Option Resource → Result Route Des
 route_of_resource method None = Err refusals.NoRoute
 route_of_resource method (Some resource) = ok_or (option_and_then (λ m. route_at m resource) (method_of method)) (refusals.Method (pattern_of resource))
 
--- what a method and a path ask for, or why that is refused: the path names nothing, or its place doesn't take the method
+-- what a method and a path ask for, or why that is refused: the path names nothing, or its resource doesn't take the method
 abbrev pub route_of : List ℕ → List ℕ → Result Route DeskRefusal
 route_of method path = route_of_resource method (resource_named path)

@@ -14,26 +14,26 @@ ghost use Rattle.desk_routes.specs.Resources.{SpellsResource, pattern_of};
 ghost use Rattle.desk_routes.specs.Table.{AsksFor, IsOtherMethod, method_text, methods_of, row, route_at, route_of};
 ghost use Rattle.desk_routes.specs.Targets.{Splits, path_part, query_part};
 
-/// A path is read as a place exactly where it is the spelling of that place.
+/// A path is read as a resource exactly where it is the spelling of that resource.
 pub fn spelled_resources()
     ensures { (path : List ℕ) (resource : AnyResource)
         → (resource_named path ≡ Some resource) ↔ SpellsResource path resource }
 {}
 
-/// A path is the spelling of one place at most.
+/// A path is the spelling of one resource at most.
 pub fn one_resource()
     ensures { (path : List ℕ) (one other : AnyResource)
         → SpellsResource path one → SpellsResource path other → one ≡ other }
 {}
 
-/// A method and a place give a route exactly where they are the route's row of the table.
+/// A method and a resource give a route exactly where they are the route's row of the table.
 pub fn rows_of_routes()
     ensures { (method : AnyMethod) (resource : AnyResource) (route : AnyRoute)
         → (route_at method resource ≡ Some route)
         ↔ (((row route).0 ≡ method) × ((row route).1 ≡ resource)) }
 {}
 
-/// A place takes exactly the methods that its pattern lists.
+/// A resource takes exactly the methods that its pattern lists.
 pub fn allowed_methods()
     ensures { (method : AnyMethod) (resource : AnyResource)
         → Contains (methods_of (pattern_of resource)) method
@@ -47,9 +47,9 @@ pub fn methods_in_order()
 {}
 
 /// A method on a path asks for a route exactly where the route's row has that method and the path
-/// is the spelling of its place. It is refused with `NoRoute` exactly where the path is the
-/// spelling of no place, and with `Method` exactly where it is the spelling of a place that does
-/// not take the method.
+/// is the spelling of its resource. It is refused with `NoRoute` exactly where the path is the
+/// spelling of no resource. It is refused with `Method` exactly where the path is the spelling of a
+/// resource that does not take the method.
 pub fn asked_routes()
     ensures asked { (method path : List ℕ) (route : AnyRoute)
         → (route_of method path ≡ Ok route) ↔ AsksFor method path route }

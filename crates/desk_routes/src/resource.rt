@@ -60,7 +60,7 @@ impl PathPattern {
 }
 
 /// What a path names: a case for each `PathPattern`, with the parts of the path. Names are names as
-/// they stand, and numbers have 1 to 7 digits, without a leading zero: nothing is decoded.
+/// they are written, and numbers have 1 to 7 digits, without a leading zero: nothing is decoded.
 #[derive(Drop)]
 pub enum Resource<'p> {
     Class(Name<'p>),
@@ -77,7 +77,7 @@ pub enum Resource<'p> {
 }
 
 impl Resource<'_> {
-    /// The pattern of the paths that name such a place.
+    /// The pattern of the paths that name such a resource.
     pub fn pattern(&self) -> PathPattern
         ensures { result ≡ pattern_of self.now }
     {
@@ -115,7 +115,7 @@ fn path_in<'p>(params: &Params<'_, 'p>) -> Option<FilePath<'p>>
     FilePath::read(params.get("path")?)
 }
 
-/// The place of a path that has the pattern, by what the parameters took of it.
+/// The resource of a path that has the pattern, by what the parameters took of it.
 pub(crate) fn resource_by_params<'p>(
     pattern: PathPattern,
     params: &Params<'_, 'p>,

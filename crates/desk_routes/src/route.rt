@@ -1,4 +1,4 @@
-//! What a method asks of a place.
+//! What a method asks of a resource.
 
 ghost use Rattle.std.specs.Prelude.{◌≡◌};
 ghost use Rattle.desk_routes.specs.Table.{route_at};
@@ -8,7 +8,7 @@ use crate::method::Method;
 use crate::resource::Resource;
 use office_core::Name;
 
-/// What a method asks of a place. Deposits and holds are given by their numbers.
+/// What a method asks of a resource. Deposits and holds are given by their numbers.
 #[derive(Drop)]
 pub enum Route<'p> {
     /// `PUT /classes/NAME`
@@ -84,7 +84,7 @@ fn put_route<'p>(resource: Resource<'p>) -> Option<Route<'p>>
     }
 }
 
-/// What the method asks of the place, where the place takes it.
+/// What the method asks of the resource, where the resource takes it.
 pub(crate) fn route_at<'p>(method: Method, resource: Resource<'p>) -> Option<Route<'p>>
     ensures { result ≡ route_at method resource.entry }
 {

@@ -107,7 +107,7 @@ impl Routes {
         }
     }
 
-    /// What a path names, if anything: the place of which the path is the spelling.
+    /// What a path names, if anything: the resource of which the path is the spelling.
     pub fn find<'p>(&self, path: &'p str) -> Option<Resource<'p>>
         ensures { result ≡ resource_named path.now }
     {
@@ -119,8 +119,8 @@ impl Routes {
 
     /// What a method on a path asks for.
     ///
-    /// Refuses with `NoRoute` where the path names nothing, and with `Method` where the place that
-    /// it names doesn't take the method. Methods are compared exactly.
+    /// Refuses with `NoRoute` where the path names nothing, and with `Method` where the resource
+    /// that it names doesn't take the method. Methods are compared exactly.
     pub fn route<'p>(&self, method: &str, path: &'p str) -> Result<Route<'p>, DeskRefusal>
         ensures { result ≡ route_of method.now path.now }
     {
