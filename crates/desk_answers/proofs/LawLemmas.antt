@@ -88,8 +88,8 @@ refusal_reading refusal =
 pub desk_code : (refusal : DeskRefusal) → 400 ≤ code_of (desk_status refusal)
 desk_code refusal = (is_answered refusal).code
 
-pub allow_stands : (refusal : DeskRefusal) → (allow_fields refusal ≢ []) ↔ (code_of (desk_status refusal) ≡ 405)
-allow_stands refusal = (is_answered refusal).allow
+pub allow_present : (refusal : DeskRefusal) → (allow_fields refusal ≢ []) ↔ (code_of (desk_status refusal) ≡ 405)
+allow_present refusal = (is_answered refusal).allow
 
 -- ---- lengths
 

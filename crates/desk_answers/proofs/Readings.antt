@@ -49,7 +49,7 @@ printed status extra content =
 
 -- ---- the status line
 
--- a code has three digits, and a phrase may stand after it
+-- a code has three digits, and a phrase may follow it
 record IsStatus (status : Status) : Type 0 where
   small : code_of status < 2 ^ 64
   three_digits : length (decimal (code_of status)) ≡ 3
@@ -95,8 +95,8 @@ are_lines extra content are small =
     let len = line (codes "Content-Length") number in
     let close = line (codes "Connection") (codes "close") in
     let last = All-cons IsField close [] (is_line (codes "Connection") (codes "close") token_connection close_is_value) (All-nil IsField) in
-    let behind = All-append IsField extra (close ∷ []) are last in
-    let more = All-cons IsField len (extra ++ close ∷ []) (is_line (codes "Content-Length") number token_length (decimal_is_value (length (body_of content)) small)) behind in
+    let following = All-append IsField extra (close ∷ []) are last in
+    let more = All-cons IsField len (extra ++ close ∷ []) (is_line (codes "Content-Length") number token_length (decimal_is_value (length (body_of content)) small)) following in
     All-cons IsField kind (len ∷ (extra ++ close ∷ [])) (is_line (codes "Content-Type") media token_type (media_is_value (media_type_of content))) more
 
 named_lines : (extra : List Field) (content : Content) → length (body_of content) < 2 ^ 64 → map named_value (lines_of extra content) ≡ response_fields (map named_value extra) content

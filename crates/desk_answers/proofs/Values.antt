@@ -1,4 +1,4 @@
--- Field values: what may stand in one, and that the blank before it is dropped when it is read.
+-- Field values: what may be in one, and that the blank before it is dropped when it is read.
 use Rattle.desk_answers.proofs.Common.{◌≡◌, ℕ, ◌+◌, ◌^◌, ◌<◌, ◌≤◌, ◌%◌, false, true, IsTrue, List, [], ◌∷◌, reverse, decimal, refl, sym, subst, arith, All, list_all, decimal_by_steps, reverse-append, All-nil, All-cons, All-head, All-tail, All-push, All-weaker, AllPass-from_list_all, AllPass, is_value_byte, is_ows, skip_ows, trim_ows}
 use Rattle.std.specs.Char.{is_ascii_digit}
 use Rattle.std.proofs.lemmas.Bool.Decides.{nat_tests}
@@ -37,7 +37,7 @@ skip_ows-digits (d ∷ ds) pass = rw (digit_no_blank d (All-head IsDigit d ds pa
 
 -- ---- values
 
--- the text may stand in a field after a blank, and is read there as it is
+-- the text may be in a field after a blank, and is read there as it is
 pub record IsValue (text : List ℕ) : Type 0 where
   pub bytes : AllPass is_value_byte (32 ∷ text)
   pub read : trim_ows (32 ∷ text) ≡ text

@@ -22,7 +22,7 @@ member_data (Due due) = string (due_text due)
 member_data (Years years) = years_data years
 member_data (Version version) = string (version_text version)
 
--- the members with one more, in its place
+-- the members with one more, in the order of the keys
 abbrev pub with_member : Members → Bor (List ℕ) × MemberValue → Members
 with_member ms m = put m.0.now (member_data m.1) ms
 

@@ -16,7 +16,7 @@ abbrev pub due_text : Due → List ℕ
 due_text (On date) = date_text date
 due_text Never = codes "permanent"
 
--- what is told of a deposit
+-- what an answer says of a deposit
 abbrev pub record_data : DepositRecord → Data
 record_data row = object_of (
     (codes "accession", string row.description.accession)
@@ -35,7 +35,7 @@ scope_text Deposit = codes "deposit"
 scope_text Collection = codes "collection"
 scope_text Class = codes "class"
 
--- what is told of a live hold
+-- what an answer says of a live hold
 abbrev pub live_hold_data : LiveHold → Data
 live_hold_data hold = object_of (
     (codes "hold", whole hold.number)

@@ -56,7 +56,7 @@ pub(crate) fn response(
     Ok(bytes)
 }
 
-/// The bytes of a response. The body is moved up in its place, and the head put before it.
+/// The bytes of a response. The body is moved up where it is, and the head put before it.
 pub(crate) fn response_around(
     alloc: Global,
     status: Status,

@@ -56,7 +56,7 @@ pub fn statuses()
 /// There is an `Allow` where the status is 405, and nowhere else. It names the methods of the target, in
 /// the order of the alphabet.
 pub fn allowed_methods()
-    ensures stands { (refusal : DeskRefusal)
+    ensures present { (refusal : DeskRefusal)
         → (allow_fields refusal ≢ []) ↔ (code_of (desk_status refusal) ≡ 405) }
     ensures not_of_the_office { (answer : Answer) → code_of (status_of answer) ≢ 405 }
     ensures names { (pattern : PathPattern) → allow_fields (WrongMethod pattern)

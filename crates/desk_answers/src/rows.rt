@@ -21,7 +21,7 @@ fn scope_text(scope: Scope) -> &'static str
     }
 }
 
-/// What is told of a deposit.
+/// What an answer says of a deposit.
 pub(crate) fn record_data(alloc: Global, row: &DepositRecord) -> Result<Value, AllocError>
     ensures { IfOk result (λ value. view value ≡ record_data row.now) }
 {
@@ -40,7 +40,7 @@ pub(crate) fn record_data(alloc: Global, row: &DepositRecord) -> Result<Value, A
     object(alloc, &members)
 }
 
-/// What is told of a live hold.
+/// What an answer says of a live hold.
 fn live_hold_data(alloc: Global, hold: &LiveHold) -> Result<Value, AllocError>
     ensures { IfOk result (λ value. view value ≡ live_hold_data hold.now) }
 {

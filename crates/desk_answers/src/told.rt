@@ -8,12 +8,12 @@ ghost use Rattle.desk_answers.specs.Objects.{object_of, list_of};
 use serde_json::Value;
 use std::alloc::{AllocError, Global};
 
-/// What is told of in a list.
+/// What a list has an item for.
 pub(crate) trait Told {
-    /// What is told of it.
+    /// What its item says.
     ghost told: { Self → Data };
 
-    /// What is told of it, in JSON.
+    /// What its item says, in JSON.
     fn text(&self, alloc: Global) -> Result<Vec<u8>, AllocError>
         ensures { IfOk result (λ text. text.items ≡ compact_text (told self.now)) };
 }
@@ -27,7 +27,7 @@ fn opening(alloc: Global, key: &str) -> Result<Vec<u8>, AllocError>
     Ok(format!(in alloc; "{{{key}:[")?.into_bytes())
 }
 
-/// Puts what is told of the item after the text, and a comma before it unless it is the first.
+/// Puts the item after the text, and a comma before it unless it is the first.
 fn push_item<T: Told>(
     alloc: Global,
     text: &mut Vec<u8>,
@@ -43,7 +43,7 @@ fn push_item<T: Told>(
     text.extend_from_slice(&item.text(alloc)?)
 }
 
-/// The object whose one member is the list of what is told of the items, in JSON.
+/// The object whose one member is the list of the items, in JSON.
 pub(crate) fn list_text<T: Told>(
     alloc: Global,
     key: &str,

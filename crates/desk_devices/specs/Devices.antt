@@ -31,7 +31,7 @@ one_more failures = min (failures + 1) (2 ^ 64 - 1)
 abbrev pub CountsFailure : {T E : Type 0} → ℕ → ℕ → Result T E → Type 0
 CountsFailure old new result = MatchResult result (λ _. new ≡ old) (λ _. new ≡ one_more old)
 
--- a write that says it took so many bytes took nothing of some
+-- a write that says it took this number of bytes took nothing of some
 abbrev pub took_nothing : ℕ → List ℕ → Bool
 took_nothing n bytes = n == 0 && nat_lt 0 (length bytes)
 
@@ -58,7 +58,7 @@ NotesWriteError old new result bytes =
 abbrev pub HasFailed : ℕ → ℕ → Type 0
 HasFailed old new = (old < new) ⊎ (new ≡ 2 ^ 64 - 1)
 
--- how many of so many bytes a call of a test device gives or takes
+-- how many of this number of bytes a call of a test device gives or takes
 abbrev pub count_in : Portion → ℕ → ℕ
 count_in OneByte bytes = min bytes 1
 count_in All bytes = bytes

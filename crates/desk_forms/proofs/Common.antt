@@ -1,5 +1,5 @@
 -- The names that several proofs of this crate cite, passed on from one place. Declares nothing.
-pub use Rattle.desk_forms.specs.Queries.{AsksListing, count_of, DescribesDeposit, GivesName, HasOnly, HaveForm, IsDayText, IsDepositQuery, IsListing, query_pairs, StandsOnce, text_of, values_under}
+pub use Rattle.desk_forms.specs.Queries.{AsksListing, count_of, DescribesDeposit, GivesName, HasOnly, HaveForm, IsDayText, IsDepositQuery, IsListing, query_pairs, OccursOnce, text_of, values_under}
 pub use Rattle.desk_forms.specs.QueryReading.{has_only}
 pub use Rattle.office_core.specs.Descriptions.{Description}
 pub use Rattle.desk_forms.specs.declared.query.Listing.{Listing}

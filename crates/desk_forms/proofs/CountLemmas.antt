@@ -1,5 +1,5 @@
 -- The values under a key, by counting its pairs.
-use Rattle.desk_forms.proofs.Common.{◌≡◌, ℕ, true, false, ◌⊎◌, List, [], ◌∷◌, length, map, filter, nat_eq, Contains, refl, sym, ap, ◌∙◌, subst, inl, inr, arith, pointwise, bytes_decides, cases_Bool, cond-true, cond-false, Contains-append_right, Contains-append_cases, Contains-push_cases, values_under, count_of, StandsOnce}
+use Rattle.desk_forms.proofs.Common.{◌≡◌, ℕ, true, false, ◌⊎◌, List, [], ◌∷◌, length, map, filter, nat_eq, Contains, refl, sym, ap, ◌∙◌, subst, inl, inr, arith, pointwise, bytes_decides, cases_Bool, cond-true, cond-false, Contains-append_right, Contains-append_cases, Contains-push_cases, values_under, count_of, OccursOnce}
 use Rattle.std.proofs.lemmas.List.{length-map, nil_from_length}
 use Rattle.std.proofs.lemmas.List.Sums.{length-filter}
 
@@ -45,7 +45,7 @@ pub length-values_of : (key : List ℕ) (pairs : List Pair) → length (values_u
 length-values_of key pairs =
     length-map (filter (λ (p : Pair). pointwise nat_eq p.0 key) pairs) (λ p. p.1) ∙ length-filter (λ (p : Pair). pointwise nat_eq p.0 key) pairs
 
--- a value under the key stands in a pair with it
+-- a value under the key is in a pair with it
 pub pair_of_value : (key value : List ℕ) (pairs : List Pair) → Contains (values_under key pairs) value → Contains pairs (key, value)
 pair_of_value key value [] h = absurd (none_contained value h)
 pair_of_value key value (p ∷ pairs) h =
@@ -82,7 +82,7 @@ value_of_pair key value (p ∷ pairs) h =
       ]
     ]
 
-pub once_by_count : (key value : List ℕ) (pairs : List Pair) → (StandsOnce key pairs value → (count_of key pairs ≡ 1) × Contains pairs (key, value)) × ((count_of key pairs ≡ 1) × Contains pairs (key, value) → StandsOnce key pairs value)
+pub once_by_count : (key value : List ℕ) (pairs : List Pair) → (OccursOnce key pairs value → (count_of key pairs ≡ 1) × Contains pairs (key, value)) × ((count_of key pairs ≡ 1) × Contains pairs (key, value) → OccursOnce key pairs value)
 once_by_count key value pairs = (
   λ once. (
     sym (length-values_of key pairs) ∙ ap length once,

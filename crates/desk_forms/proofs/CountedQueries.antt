@@ -1,5 +1,5 @@
 -- Which queries say something, by counting their keys.
-use Rattle.desk_forms.proofs.Common.{◌≡◌, ℕ, zero, suc, ◌≤◌, ◌⊎◌, List, [], ◌∷◌, length, Option, Some, None, Contains, codes, refl, sym, ◌∙◌, subst, inl, inr, arith, All-contains, Contains-get_or, day_text, Listing, Description, values_under, count_of, StandsOnce, GivesName, AsksListing, DescribesDeposit, HaveForm, IsDayText, IsListing, IsDepositQuery}
+use Rattle.desk_forms.proofs.Common.{◌≡◌, ℕ, zero, suc, ◌≤◌, ◌⊎◌, List, [], ◌∷◌, length, Option, Some, None, Contains, codes, refl, sym, ◌∙◌, subst, inl, inr, arith, All-contains, Contains-get_or, day_text, Listing, Description, values_under, count_of, OccursOnce, GivesName, AsksListing, DescribesDeposit, HaveForm, IsDayText, IsListing, IsDepositQuery}
 use Rattle.std.specs.Prelude.{slice_index_or}
 use Rattle.office_core.specs.Names.{IsName, IsAccession}
 use Rattle.desk_forms.proofs.CountLemmas.{Pair, none_contained, first_contained, contained, same_pair, length-values_of, pair_of_value, value_of_pair, once_by_count, nowhere_by_count}
@@ -14,8 +14,8 @@ at_most_one zero small = inl refl
 at_most_one (suc zero) small = inr refl
 at_most_one (suc (suc n)) small = absurd (omega arith)
 
--- a key that one pair has stands once, with a value of the form
-once_of_count : (Form : List ℕ → Type 0) (key : List ℕ) (pairs : List Pair) → count_of key pairs ≡ 1 → HaveForm Form key pairs → (v : List ℕ) × StandsOnce key pairs v × Form v
+-- a key that one pair has occurs once, with a value of the form
+once_of_count : (Form : List ℕ → Type 0) (key : List ℕ) (pairs : List Pair) → count_of key pairs ≡ 1 → HaveForm Form key pairs → (v : List ℕ) × OccursOnce key pairs v × Form v
 once_of_count Form key pairs count forms =
     let one = some_one (values_under key pairs) (length-values_of key pairs ∙ count) in
     let P : List (List ℕ) → Type 0 = λ vs. Contains vs one.0 in
@@ -28,7 +28,7 @@ value_here key pairs p here same =
     let P : Pair → Type 0 = λ q. Contains pairs q in
     value_of_pair key p.1 pairs (subst P (same_pair p key p.1 same refl) here)
 
-forms_of_once : (Form : List ℕ → Type 0) (key : List ℕ) (pairs : List Pair) (v : List ℕ) → StandsOnce key pairs v → Form v → HaveForm Form key pairs
+forms_of_once : (Form : List ℕ → Type 0) (key : List ℕ) (pairs : List Pair) (v : List ℕ) → OccursOnce key pairs v → Form v → HaveForm Form key pairs
 forms_of_once Form key pairs v once form = λ k d within same.
     let p : Pair = slice_index_or pairs k d in
     let P : List (List ℕ) → Type 0 = λ vs. Contains vs p.1 in
@@ -43,7 +43,7 @@ forms_of_none Form key pairs none = λ k d within same.
     let P : List (List ℕ) → Type 0 = λ vs. Contains vs p.1 in
     absurd (none_contained p.1 (subst P none (value_here key pairs p (Contains-get_or pairs k d within) same)))
 
-counts_of_once : (Form : List ℕ → Type 0) (key : List ℕ) (pairs : List Pair) (v : List ℕ) → StandsOnce key pairs v → Form v → (count_of key pairs ≡ 1) × HaveForm Form key pairs
+counts_of_once : (Form : List ℕ → Type 0) (key : List ℕ) (pairs : List Pair) (v : List ℕ) → OccursOnce key pairs v → Form v → (count_of key pairs ≡ 1) × HaveForm Form key pairs
 counts_of_once Form key pairs v once form =
     (((once_by_count key v pairs).0 once).0, forms_of_once Form key pairs v once form)
 
@@ -86,7 +86,7 @@ deposit_by_counts pairs = (
       let class = once_of_count IsName (codes "class") pairs h.class.0 h.class.1 in
       let accession = once_of_count IsAccession (codes "accession") pairs h.accession.0 h.accession.1 in
       let closed = once_of_count IsDayText (codes "closed") pairs h.closed.0 h.closed.1 in
-      let P : List ℕ → Type 0 = λ v. StandsOnce (codes "closed") pairs v in (
+      let P : List ℕ → Type 0 = λ v. OccursOnce (codes "closed") pairs v in (
         record { collection = collection.0; class = class.0; accession = accession.0; closed = closed.2.0 },
         record {
           keys = h.keys;

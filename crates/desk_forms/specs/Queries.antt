@@ -26,13 +26,13 @@ abbrev pub HasOnly : List (List ℕ) → List (List ℕ × List ℕ) → Type 0
 HasOnly keys pairs = All (λ p. Contains keys p.0) pairs
 
 -- the key occurs in one pair, whose value is this
-abbrev pub StandsOnce : List ℕ → List (List ℕ × List ℕ) → List ℕ → Type 0
-StandsOnce key pairs value = values_under key pairs ≡ value ∷ []
+abbrev pub OccursOnce : List ℕ → List (List ℕ × List ℕ) → List ℕ → Type 0
+OccursOnce key pairs value = values_under key pairs ≡ value ∷ []
 
 -- the key occurs in one pair, whose value is this name, or in none
 abbrev pub GivesName : List ℕ → List (List ℕ × List ℕ) → Option (List ℕ) → Type 0
 GivesName key pairs None = values_under key pairs ≡ []
-GivesName key pairs (Some name) = StandsOnce key pairs name × IsName name
+GivesName key pairs (Some name) = OccursOnce key pairs name × IsName name
 
 -- what the query of a list asks for
 pub record AsksListing (pairs : List (List ℕ × List ℕ)) (listing : Listing) : Type 0 where
@@ -43,10 +43,10 @@ pub record AsksListing (pairs : List (List ℕ × List ℕ)) (listing : Listing)
 -- what the query of a deposit says of the deposit
 pub record DescribesDeposit (pairs : List (List ℕ × List ℕ)) (deposit : Description) : Type 0 where
   pub keys : HasOnly (codes "collection" ∷ (codes "class" ∷ (codes "accession" ∷ (codes "closed" ∷ [])))) pairs
-  pub collection : StandsOnce (codes "collection") pairs deposit.collection × IsName deposit.collection
-  pub class : StandsOnce (codes "class") pairs deposit.class × IsName deposit.class
-  pub accession : StandsOnce (codes "accession") pairs deposit.accession × IsAccession deposit.accession
-  pub closed : StandsOnce (codes "closed") pairs (day_text deposit.closed) × IsDay deposit.closed
+  pub collection : OccursOnce (codes "collection") pairs deposit.collection × IsName deposit.collection
+  pub class : OccursOnce (codes "class") pairs deposit.class × IsName deposit.class
+  pub accession : OccursOnce (codes "accession") pairs deposit.accession × IsAccession deposit.accession
+  pub closed : OccursOnce (codes "closed") pairs (day_text deposit.closed) × IsDay deposit.closed
 
 -- how many pairs have the key
 abbrev pub count_of : List ℕ → List (List ℕ × List ℕ) → ℕ

@@ -5,7 +5,7 @@ ghost use Rattle.percent_encoding.specs.Percent.{percent_decode};
 ghost use Rattle.serde_json.specs.Data.{Data};
 ghost use Rattle.desk_forms.specs.Bodies.{IsJsonOf, SaysYears, SaysHold};
 ghost use Rattle.desk_forms.specs.Paths.{StandsFor};
-ghost use Rattle.desk_forms.specs.Queries.{values_under, count_of, StandsOnce, AsksListing, DescribesDeposit, IsListing, IsDepositQuery};
+ghost use Rattle.desk_forms.specs.Queries.{values_under, count_of, OccursOnce, AsksListing, DescribesDeposit, IsListing, IsDepositQuery};
 ghost use Rattle.desk_forms.specs.declared.body.HoldBody.{HoldBody};
 ghost use Rattle.office_core.specs.Descriptions.{Description};
 ghost use Rattle.desk_forms.specs.declared.query.Listing.{Listing};
@@ -20,7 +20,7 @@ pub fn decoded_paths()
 /// values exactly where no pair has it.
 pub fn counted_keys()
     ensures once { (key value : List ℕ) (pairs : List (List ℕ × List ℕ))
-        → StandsOnce key pairs value
+        → OccursOnce key pairs value
         ↔ ((count_of key pairs ≡ 1) × Contains pairs (key, value)) }
     ensures nowhere { (key : List ℕ) (pairs : List (List ℕ × List ℕ))
         → (values_under key pairs ≡ []) ↔ (count_of key pairs ≡ 0) }

@@ -11,7 +11,7 @@ ghost use Rattle.office_core.specs.Descriptions.{Description};
 ghost use Rattle.office_core.specs.Names.{IsName, IsAccession};
 ghost use Rattle.office_core.specs.Policies.{is_one_of};
 ghost use Rattle.desk_forms.specs.declared.query.QueryFault.TheVariants.{Memory};
-ghost use Rattle.desk_forms.specs.Queries.{text_of, query_pairs, values_under, StandsOnce, GivesName, AsksListing, DescribesDeposit};
+ghost use Rattle.desk_forms.specs.Queries.{text_of, query_pairs, values_under, OccursOnce, GivesName, AsksListing, DescribesDeposit};
 ghost use Rattle.desk_forms.specs.QueryReading.{has_only};
 
 use form_urlencoded::{decode, raw_pairs};
@@ -125,9 +125,9 @@ fn need_value<'a>(
     key: &str,
 ) -> Result<CowStr<'a, Global>, QueryFault>
     ensures found { IfOk result
-        (λ value. StandsOnce key.now (query_pairs query.now) (cow_str_bytes value)) }
+        (λ value. OccursOnce key.now (query_pairs query.now) (cow_str_bytes value)) }
     ensures refused { result ≡ Err QueryFault.BadQuery → (value : List ℕ)
-        → ¬ StandsOnce key.now (query_pairs query.now) value }
+        → ¬ OccursOnce key.now (query_pairs query.now) value }
 {
     match find_value(alloc, query, key)? {
         Some(value) => Ok(value),
@@ -173,9 +173,9 @@ fn find_name(alloc: Global, query: &[u8], key: &str) -> Result<Option<OwnedName>
 /// The name under a key that has to be there.
 fn need_name(alloc: Global, query: &[u8], key: &str) -> Result<OwnedName, QueryFault>
     ensures found { IfOk result
-        (λ name. StandsOnce key.now (query_pairs query.now) name × IsName name) }
+        (λ name. OccursOnce key.now (query_pairs query.now) name × IsName name) }
     ensures refused { result ≡ Err QueryFault.BadQuery → (name : List ℕ)
-        → ¬ (StandsOnce key.now (query_pairs query.now) name × IsName name) }
+        → ¬ (OccursOnce key.now (query_pairs query.now) name × IsName name) }
 {
     own_name(alloc, need_value(alloc, query, key)?.as_str())
 }
@@ -183,9 +183,9 @@ fn need_name(alloc: Global, query: &[u8], key: &str) -> Result<OwnedName, QueryF
 /// The accession number under a key that has to be there.
 fn need_accession(alloc: Global, query: &[u8], key: &str) -> Result<OwnedAccession, QueryFault>
     ensures found { IfOk result (λ accession.
-        StandsOnce key.now (query_pairs query.now) accession × IsAccession accession) }
+        OccursOnce key.now (query_pairs query.now) accession × IsAccession accession) }
     ensures refused { result ≡ Err QueryFault.BadQuery → (accession : List ℕ)
-        → ¬ (StandsOnce key.now (query_pairs query.now) accession × IsAccession accession) }
+        → ¬ (OccursOnce key.now (query_pairs query.now) accession × IsAccession accession) }
 {
     own_accession(alloc, need_value(alloc, query, key)?.as_str())
 }
@@ -193,9 +193,9 @@ fn need_accession(alloc: Global, query: &[u8], key: &str) -> Result<OwnedAccessi
 /// The day under a key that has to be there.
 fn need_day(alloc: Global, query: &[u8], key: &str) -> Result<Day, QueryFault>
     ensures found { IfOk result
-        (λ day. StandsOnce key.now (query_pairs query.now) (day_text day) × IsDay day) }
+        (λ day. OccursOnce key.now (query_pairs query.now) (day_text day) × IsDay day) }
     ensures refused { result ≡ Err QueryFault.BadQuery → (day : Date)
-        → ¬ (StandsOnce key.now (query_pairs query.now) (day_text day) × IsDay day) }
+        → ¬ (OccursOnce key.now (query_pairs query.now) (day_text day) × IsDay day) }
 {
     match Day::read(need_value(alloc, query, key)?.as_str()) {
         Some(day) => Ok(day),

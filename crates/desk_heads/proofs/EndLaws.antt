@@ -107,7 +107,7 @@ suc_none : (o : Option ℕ) → option_map suc o ≡ None → o ≡ None
 suc_none None h = refl
 suc_none (Some k) h = absurd (cc h)
 
--- an end that stands in a front stands in the whole
+-- an end that is in a front is in the whole
 whole_end : (x k m : ℕ) (rest : List ℕ) → end_after_line_feed (x ∷ take k rest) ≡ Some m → end_after_line_feed (x ∷ rest) ≡ Some m
 whole_end x k m rest h = ap (λ l. end_after_line_feed (x ∷ l)) (sym (take-append-drop k rest)) ∙ ends_here_more (x ∷ take k rest) (drop k rest) m h
 

@@ -101,7 +101,7 @@ low_short m h = grind (arith, common_steps)
 pub high_large : (m : ℕ) → max_head ≤ m → head_end_found None m ≡ TooLarge
 high_large m h = grind (arith, common_steps)
 
--- the head stands in the front
+-- the head is in the front
 place_more : (e f : Option ℕ) (m n : ℕ) → m ≤ n → ((k : ℕ) → e ≡ Some k → f ≡ Some k) → (max_head ≤ m → f ≡ e) → head_end_found e m ≢ Short → head_end_found f n ≡ head_end_found e m
 place_more (Some k) f m n up some same h = ap (λ o. head_end_found o n) (some k refl)
 place_more None f m n up some same h =
@@ -123,10 +123,10 @@ head_at_more b more h =
     place_more (head_end (take max_head b)) (head_end (take max_head (b ++ more))) (length b) (length (b ++ more)) longer (λ k e. ap head_end (front_more b more).1 ∙ head_end_more (take max_head b) (front_more b more).0 k e) (λ full. ap head_end (take-append-le max_head b more full)) h
 
 -- what is decided of what was given is decided of all
-pub whole_head : (a b : Option (List ℕ)) (given : List ℕ) (place : HeadEnd) → Consumes a b given → head_at given ≡ place → place ≢ Short → IfSome a (λ input. head_at input ≡ place)
-whole_head None b given place c h not = tt
-whole_head (Some xs) None given place c h not = absurd c
-whole_head (Some xs) (Some ys) given place c h not = ap head_at c ∙ head_at_more given ys (λ e. not (sym h ∙ e)) ∙ h
+pub whole_head : (a b : Option (List ℕ)) (given : List ℕ) (found : HeadEnd) → Consumes a b given → head_at given ≡ found → found ≢ Short → IfSome a (λ input. head_at input ≡ found)
+whole_head None b given found c h not = tt
+whole_head (Some xs) None given found c h not = absurd c
+whole_head (Some xs) (Some ys) given found c h not = ap head_at c ∙ head_at_more given ys (λ e. not (sym h ∙ e)) ∙ h
 
 min_cases : (n : ℕ) (b : List ℕ) → length b ≡ n → take (min n max_head) b ≡ take max_head b
 min_cases n b e = elim (cases_lt n max_head) [ inl h ↦ ap (λ k. take k b) (let m : min n max_head ≡ n = omega arith in m) ∙ take_all n b (omega arith) ∙ sym (take_all max_head b (omega arith)) | inr h ↦ ap (λ k. take k b) (let m : min n max_head ≡ max_head = omega arith in m) ]

@@ -3,7 +3,7 @@ use Rattle.desk_heads.proofs.Common.{◌≡◌, ℕ, ◌<◌, ◌⊎◌, inl, in
 use Rattle.httparse.specs.Grammar.{RequestHead}
 use Rattle.httparse.proofs.GrammarLemmas.{request_unique}
 use Rattle.desk_heads.specs.Heads.{SpellsHead, IsHead, HeadContents, occurrence_in, encoding_refusal, length_refusal, caller_refusal, is_length_text, body_length_of, caller_of, head_contents, unless_refused, judgement_of, Judges}
-use Rattle.desk_heads.specs.Steps.{IsLengthText, StandsOfHead, RefusalStands, step_of, StandsFirst, NamesCaller, AnnouncesBody, SaysContents}
+use Rattle.desk_heads.specs.Steps.{IsLengthText, AppliesToHead, RefusalApplies, step_of, AppliesFirst, NamesCaller, AnnouncesBody, SaysContents}
 use Rattle.desk_heads.specs.declared.refusal.HeadRefusal.{HeadRefusal}
 use Rattle.desk_heads.specs.declared.refusal.HeadRefusal.TheVariants.{BadHead, Chunked, BadLength, TooLarge, TwoCallers}
 use Rattle.desk_heads.proofs.DigitLemmas.{all_digits}
@@ -53,7 +53,7 @@ one_judgement front first second (inr a) (inr b) = a.2 ∙ ap judgement_of (spel
 
 -- ---- what the code found
 
--- what was found among the pairs of a head is what stands in it
+-- what was found among the pairs of a head is what is in it
 pub found : (name : List ℕ) (pairs : List (List ℕ × List ℕ)) (head : RequestHead) (o : Occurrence) → o ≡ occurrence_of (values_among name pairs) → pairs ≡ fields_of head → o ≡ occurrence_in head name
 found name pairs head o e f = e ∙ ap (λ p. occurrence_of (values_among name p)) f
 
@@ -111,15 +111,15 @@ is_length text h =
     let few = h.few in
     grind (arith, nat_tests)
 
-encoding_stands : (values : List (List ℕ)) (refusal : HeadRefusal) → encoding_refusal (occurrence_of values) ≡ Some refusal → (refusal ≡ Chunked) × (0 < length values)
-encoding_stands [] refusal e = absurd (cc)
-encoding_stands (value ∷ []) refusal e = (cc, omega arith)
-encoding_stands (value ∷ second ∷ more) refusal e = (cc, omega arith)
+encoding_applies : (values : List (List ℕ)) (refusal : HeadRefusal) → encoding_refusal (occurrence_of values) ≡ Some refusal → (refusal ≡ Chunked) × (0 < length values)
+encoding_applies [] refusal e = absurd (cc)
+encoding_applies (value ∷ []) refusal e = (cc, omega arith)
+encoding_applies (value ∷ second ∷ more) refusal e = (cc, omega arith)
 
-stands_encoding : (values : List (List ℕ)) → 0 < length values → encoding_refusal (occurrence_of values) ≡ Some Chunked
-stands_encoding [] h = absurd (omega arith)
-stands_encoding (value ∷ []) h = refl
-stands_encoding (value ∷ second ∷ more) h = refl
+applies_encoding : (values : List (List ℕ)) → 0 < length values → encoding_refusal (occurrence_of values) ≡ Some Chunked
+applies_encoding [] h = absurd (omega arith)
+applies_encoding (value ∷ []) h = refl
+applies_encoding (value ∷ second ∷ more) h = refl
 
 -- what `BadLength` and `TooLarge` say of the values
 abbrev IsBadLength : List (List ℕ) → Type 0
@@ -138,10 +138,10 @@ one_length text refusal e = by (is_length_text text) refl (nat_lt max_body (digi
     by true t false l e = absurd (cc)
     by false f d l e = inl (cc, λ h. let t = is_length text h in let wrong : true ≡ false = sym t ∙ f in cc)
 
-length_stands : (values : List (List ℕ)) (refusal : HeadRefusal) → length_refusal (occurrence_of values) ≡ Some refusal → ((refusal ≡ BadLength) × IsBadLength values) ⊎ ((refusal ≡ TooLarge) × IsTooLarge values)
-length_stands [] refusal e = absurd (cc)
-length_stands (text ∷ []) refusal e = elim (one_length text refusal e) [ inl bad ↦ inl (bad.0, inr (text, refl, bad.1)) | inr large ↦ inr (large.0, (text, refl, large.1, large.2)) ]
-length_stands (text ∷ second ∷ more) refusal e = inl (cc, inl (omega arith))
+length_applies : (values : List (List ℕ)) (refusal : HeadRefusal) → length_refusal (occurrence_of values) ≡ Some refusal → ((refusal ≡ BadLength) × IsBadLength values) ⊎ ((refusal ≡ TooLarge) × IsTooLarge values)
+length_applies [] refusal e = absurd (cc)
+length_applies (text ∷ []) refusal e = elim (one_length text refusal e) [ inl bad ↦ inl (bad.0, inr (text, refl, bad.1)) | inr large ↦ inr (large.0, (text, refl, large.1, large.2)) ]
+length_applies (text ∷ second ∷ more) refusal e = inl (cc, inl (omega arith))
 
 repeated_length : (values : List (List ℕ)) → 1 < length values → length_refusal (occurrence_of values) ≡ Some BadLength
 repeated_length [] h = absurd (omega arith)
@@ -160,74 +160,74 @@ large_length text is large =
     let over : nat_lt max_body (digits_value 10 text) ≡ true = grind (arith, nat_tests) in
     ap (λ b. if b then answer_if (nat_lt max_body (digits_value 10 text)) TooLarge else Some BadLength) (is_length text is) ∙ ap (λ b. answer_if b TooLarge) over
 
-stands_bad : (values : List (List ℕ)) → IsBadLength values → length_refusal (occurrence_of values) ≡ Some BadLength
-stands_bad values (inl long) = repeated_length values long
-stands_bad values (inr bad) = ap (λ v. length_refusal (occurrence_of v)) bad.1 ∙ bad_length bad.0 bad.2
+applies_bad : (values : List (List ℕ)) → IsBadLength values → length_refusal (occurrence_of values) ≡ Some BadLength
+applies_bad values (inl long) = repeated_length values long
+applies_bad values (inr bad) = ap (λ v. length_refusal (occurrence_of v)) bad.1 ∙ bad_length bad.0 bad.2
 
-stands_large : (values : List (List ℕ)) → IsTooLarge values → length_refusal (occurrence_of values) ≡ Some TooLarge
-stands_large values h = ap (λ v. length_refusal (occurrence_of v)) h.1 ∙ large_length h.0 h.2 h.3
+applies_large : (values : List (List ℕ)) → IsTooLarge values → length_refusal (occurrence_of values) ≡ Some TooLarge
+applies_large values h = ap (λ v. length_refusal (occurrence_of v)) h.1 ∙ large_length h.0 h.2 h.3
 
-caller_stands : (values : List (List ℕ)) (refusal : HeadRefusal) → caller_refusal (occurrence_of values) ≡ Some refusal → (refusal ≡ TwoCallers) × (1 < length values)
-caller_stands [] refusal e = absurd (cc)
-caller_stands (value ∷ []) refusal e = absurd (cc)
-caller_stands (value ∷ second ∷ more) refusal e = (cc, omega arith)
+caller_applies : (values : List (List ℕ)) (refusal : HeadRefusal) → caller_refusal (occurrence_of values) ≡ Some refusal → (refusal ≡ TwoCallers) × (1 < length values)
+caller_applies [] refusal e = absurd (cc)
+caller_applies (value ∷ []) refusal e = absurd (cc)
+caller_applies (value ∷ second ∷ more) refusal e = (cc, omega arith)
 
-stands_caller : (values : List (List ℕ)) → 1 < length values → caller_refusal (occurrence_of values) ≡ Some TwoCallers
-stands_caller [] h = absurd (omega arith)
-stands_caller (value ∷ []) h = absurd (omega arith)
-stands_caller (value ∷ second ∷ more) h = refl
+applies_caller : (values : List (List ℕ)) → 1 < length values → caller_refusal (occurrence_of values) ≡ Some TwoCallers
+applies_caller [] h = absurd (omega arith)
+applies_caller (value ∷ []) h = absurd (omega arith)
+applies_caller (value ∷ second ∷ more) h = refl
 
 -- ---- the first refusal
 
--- what stands of some head of the front stands of this one
+-- what applies to some head of the front applies to this one
 of_head : (front : List ℕ) (head : RequestHead) (P : RequestHead → Type 0) → SpellsHead front head → (other : RequestHead) × SpellsHead front other × P other → P head
 of_head front head P spells h = subst P (spells_unique front h.0 head h.1 spells) h.2
 
--- what a question of this head does not find stands of no head of the front
-never : (front : List ℕ) (head : RequestHead) (refusal : HeadRefusal) (found : Option HeadRefusal) → SpellsHead front head → found ≡ None → (StandsOfHead head refusal → found ≡ Some refusal)
-    → (other : RequestHead) × SpellsHead front other × StandsOfHead other refusal → ⊥
+-- what a question of this head does not find applies to no head of the front
+never : (front : List ℕ) (head : RequestHead) (refusal : HeadRefusal) (found : Option HeadRefusal) → SpellsHead front head → found ≡ None → (AppliesToHead head refusal → found ≡ Some refusal)
+    → (other : RequestHead) × SpellsHead front other × AppliesToHead other refusal → ⊥
 never front head refusal found spells none finds h =
-    let some = finds (of_head front head (λ other. StandsOfHead other refusal) spells h) in
+    let some = finds (of_head front head (λ other. AppliesToHead other refusal) spells h) in
     let wrong : None ≡ Some refusal = sym none ∙ some in cc
 
-before_1 : (front : List ℕ) (earlier : HeadRefusal) → step_of earlier < 1 → RefusalStands front earlier → ⊥
+before_1 : (front : List ℕ) (earlier : HeadRefusal) → step_of earlier < 1 → RefusalApplies front earlier → ⊥
 before_1 front BadHead low h = omega arith
 before_1 front _ low h = omega arith
 
 -- nor does a refusal of a step before this one, where what was asked before found none
 before : (front : List ℕ) (head : RequestHead) (step : ℕ) → SpellsHead front head → (2 < step → encoding head ≡ None) → (3 < step → content_length head ≡ None) → (4 < step → caller head ≡ None)
-    → (earlier : HeadRefusal) → step_of earlier < step → RefusalStands front earlier → ⊥
+    → (earlier : HeadRefusal) → step_of earlier < step → RefusalApplies front earlier → ⊥
 before front head step spells none no_length no_caller BadHead low h = h (head, spells)
-before front head step spells none no_length no_caller Chunked low h = never front head Chunked (encoding head) spells (none low) (stands_encoding (values_of (codes "transfer-encoding") head)) h
-before front head step spells none no_length no_caller BadLength low h = never front head BadLength (content_length head) spells (no_length low) (stands_bad (values_of (codes "content-length") head)) h
-before front head step spells none no_length no_caller TooLarge low h = never front head TooLarge (content_length head) spells (no_length low) (stands_large (values_of (codes "content-length") head)) h
-before front head step spells none no_length no_caller TwoCallers low h = never front head TwoCallers (caller head) spells (no_caller low) (stands_caller (values_of (codes "depot-caller") head)) h
+before front head step spells none no_length no_caller Chunked low h = never front head Chunked (encoding head) spells (none low) (applies_encoding (values_of (codes "transfer-encoding") head)) h
+before front head step spells none no_length no_caller BadLength low h = never front head BadLength (content_length head) spells (no_length low) (applies_bad (values_of (codes "content-length") head)) h
+before front head step spells none no_length no_caller TooLarge low h = never front head TooLarge (content_length head) spells (no_length low) (applies_large (values_of (codes "content-length") head)) h
+before front head step spells none no_length no_caller TwoCallers low h = never front head TwoCallers (caller head) spells (no_caller low) (applies_caller (values_of (codes "depot-caller") head)) h
 
 step_is_small : (refusal : HeadRefusal) → step_of refusal < 5
 step_is_small BadHead = omega arith
 step_is_small _ = omega arith
 
-none_stands : (front : List ℕ) (head : RequestHead) → SpellsHead front head → encoding head ≡ None → content_length head ≡ None → caller head ≡ None → (refusal : HeadRefusal) → RefusalStands front refusal → ⊥
-none_stands front head spells none no_length no_caller refusal h = before front head 5 spells (λ _. none) (λ _. no_length) (λ _. no_caller) refusal (step_is_small refusal) h
+none_applies : (front : List ℕ) (head : RequestHead) → SpellsHead front head → encoding head ≡ None → content_length head ≡ None → caller head ≡ None → (refusal : HeadRefusal) → RefusalApplies front refusal → ⊥
+none_applies front head spells none no_length no_caller refusal h = before front head 5 spells (λ _. none) (λ _. no_length) (λ _. no_caller) refusal (step_is_small refusal) h
 
-first_bad_head : (front : List ℕ) → (IsHead front → ⊥) → StandsFirst front BadHead
-first_bad_head front bad = record { stands = bad; first = before_1 front }
+first_bad_head : (front : List ℕ) → (IsHead front → ⊥) → AppliesFirst front BadHead
+first_bad_head front bad = record { applies = bad; first = before_1 front }
 
-first_chunked : (front : List ℕ) (head : RequestHead) (refusal : HeadRefusal) → SpellsHead front head → encoding head ≡ Some refusal → StandsFirst front refusal
+first_chunked : (front : List ℕ) (head : RequestHead) (refusal : HeadRefusal) → SpellsHead front head → encoding head ≡ Some refusal → AppliesFirst front refusal
 first_chunked front head refusal spells e =
-    let s = encoding_stands _ refusal e in
-    subst (StandsFirst front) (sym s.0) (record { stands = (head, spells, s.1); first = before front head 2 spells (λ l. absurd (omega arith)) (λ l. absurd (omega arith)) (λ l. absurd (omega arith)) })
+    let s = encoding_applies _ refusal e in
+    subst (AppliesFirst front) (sym s.0) (record { applies = (head, spells, s.1); first = before front head 2 spells (λ l. absurd (omega arith)) (λ l. absurd (omega arith)) (λ l. absurd (omega arith)) })
 
-first_length : (front : List ℕ) (head : RequestHead) (refusal : HeadRefusal) → SpellsHead front head → encoding head ≡ None → content_length head ≡ Some refusal → StandsFirst front refusal
-first_length front head refusal spells none e = elim (length_stands (values_of (codes "content-length") head) refusal e) [
-  | inl bad ↦ subst (StandsFirst front) (sym bad.0) (record { stands = (head, spells, bad.1); first = before front head 3 spells (λ _. none) (λ l. absurd (omega arith)) (λ l. absurd (omega arith)) })
-  | inr large ↦ subst (StandsFirst front) (sym large.0) (record { stands = (head, spells, large.1); first = before front head 3 spells (λ _. none) (λ l. absurd (omega arith)) (λ l. absurd (omega arith)) })
+first_length : (front : List ℕ) (head : RequestHead) (refusal : HeadRefusal) → SpellsHead front head → encoding head ≡ None → content_length head ≡ Some refusal → AppliesFirst front refusal
+first_length front head refusal spells none e = elim (length_applies (values_of (codes "content-length") head) refusal e) [
+  | inl bad ↦ subst (AppliesFirst front) (sym bad.0) (record { applies = (head, spells, bad.1); first = before front head 3 spells (λ _. none) (λ l. absurd (omega arith)) (λ l. absurd (omega arith)) })
+  | inr large ↦ subst (AppliesFirst front) (sym large.0) (record { applies = (head, spells, large.1); first = before front head 3 spells (λ _. none) (λ l. absurd (omega arith)) (λ l. absurd (omega arith)) })
 ]
 
-first_callers : (front : List ℕ) (head : RequestHead) (refusal : HeadRefusal) → SpellsHead front head → encoding head ≡ None → content_length head ≡ None → caller head ≡ Some refusal → StandsFirst front refusal
+first_callers : (front : List ℕ) (head : RequestHead) (refusal : HeadRefusal) → SpellsHead front head → encoding head ≡ None → content_length head ≡ None → caller head ≡ Some refusal → AppliesFirst front refusal
 first_callers front head refusal spells none no_length e =
-    let s = caller_stands _ refusal e in
-    subst (StandsFirst front) (sym s.0) (record { stands = (head, spells, s.1); first = before front head 4 spells (λ _. none) (λ _. no_length) (λ l. absurd (omega arith)) })
+    let s = caller_applies _ refusal e in
+    subst (AppliesFirst front) (sym s.0) (record { applies = (head, spells, s.1); first = before front head 4 spells (λ _. none) (λ _. no_length) (λ l. absurd (omega arith)) })
 
 -- at which step a head is refused
 data Outcome (head : RequestHead) : Type 0 where
@@ -245,7 +245,7 @@ outcome head = by (encoding head) refl (content_length head) refl (caller head) 
     by None e None f (Some refusal) g = at_caller_step refusal e f g
     by None e None f None g = at_no_step e f g
 
-head_refused : (front : List ℕ) (head : RequestHead) (refusal : HeadRefusal) → SpellsHead front head → Err refusal ≡ judgement_of head → StandsFirst front refusal
+head_refused : (front : List ℕ) (head : RequestHead) (refusal : HeadRefusal) → SpellsHead front head → Err refusal ≡ judgement_of head → AppliesFirst front refusal
 head_refused front head refusal spells j = elim (outcome head) [
   | at_encoding_step other e ↦ (let same : Err refusal ≡ Err other = j ∙ at_encoding head other e in first_chunked front head refusal spells (cc))
   | at_length_step other e f ↦ (let same : Err refusal ≡ Err other = j ∙ at_length head other e f in first_length front head refusal spells e (cc))
@@ -253,8 +253,8 @@ head_refused front head refusal spells j = elim (outcome head) [
   | at_no_step e f g ↦ absurd (let same : Err refusal ≡ Ok (head_contents head) = j ∙ at_none head e f g in cc)
 ]
 
-pub refused_first : (front : List ℕ) (refusal : HeadRefusal) → Judges front (Err refusal) → StandsFirst front refusal
-refused_first front refusal (inl bad) = let e = bad.1 in let same : refusal ≡ BadHead = cc in subst (StandsFirst front) (sym same) (first_bad_head front bad.0)
+pub refused_first : (front : List ℕ) (refusal : HeadRefusal) → Judges front (Err refusal) → AppliesFirst front refusal
+refused_first front refusal (inl bad) = let e = bad.1 in let same : refusal ≡ BadHead = cc in subst (AppliesFirst front) (sym same) (first_bad_head front bad.0)
 refused_first front refusal (inr h) = head_refused front h.0 refusal h.1 h.2
 
 -- ---- and the other way round
@@ -264,31 +264,31 @@ never_some : (found : Option HeadRefusal) → ((refusal : HeadRefusal) → found
 never_some None never = refl
 never_some (Some refusal) never = absurd (never refusal refl)
 
-no_encoding : (front : List ℕ) (head : RequestHead) → SpellsHead front head → (RefusalStands front Chunked → ⊥) → encoding head ≡ None
-no_encoding front head spells bad = never_some (encoding head) (λ refusal e. bad (head, spells, (encoding_stands (values_of (codes "transfer-encoding") head) refusal e).1))
+no_encoding : (front : List ℕ) (head : RequestHead) → SpellsHead front head → (RefusalApplies front Chunked → ⊥) → encoding head ≡ None
+no_encoding front head spells bad = never_some (encoding head) (λ refusal e. bad (head, spells, (encoding_applies (values_of (codes "transfer-encoding") head) refusal e).1))
 
-no_length : (front : List ℕ) (head : RequestHead) → SpellsHead front head → (RefusalStands front BadLength → ⊥) → (RefusalStands front TooLarge → ⊥) → content_length head ≡ None
-no_length front head spells bad large = never_some (content_length head) (λ refusal e. elim (length_stands (values_of (codes "content-length") head) refusal e) [
+no_length : (front : List ℕ) (head : RequestHead) → SpellsHead front head → (RefusalApplies front BadLength → ⊥) → (RefusalApplies front TooLarge → ⊥) → content_length head ≡ None
+no_length front head spells bad large = never_some (content_length head) (λ refusal e. elim (length_applies (values_of (codes "content-length") head) refusal e) [
   | inl h ↦ bad (head, spells, h.1)
   | inr h ↦ large (head, spells, h.1)
 ])
 
-no_caller : (front : List ℕ) (head : RequestHead) → SpellsHead front head → (RefusalStands front TwoCallers → ⊥) → caller head ≡ None
-no_caller front head spells bad = never_some (caller head) (λ refusal e. bad (head, spells, (caller_stands (values_of (codes "depot-caller") head) refusal e).1))
+no_caller : (front : List ℕ) (head : RequestHead) → SpellsHead front head → (RefusalApplies front TwoCallers → ⊥) → caller head ≡ None
+no_caller front head spells bad = never_some (caller head) (λ refusal e. bad (head, spells, (caller_applies (values_of (codes "depot-caller") head) refusal e).1))
 
-pub first_refused : (front : List ℕ) (refusal : HeadRefusal) → StandsFirst front refusal → Judges front (Err refusal)
-first_refused front BadHead h = inl (h.stands, refl)
-first_refused front Chunked h = let s = h.stands in inr (s.0, s.1, sym (at_encoding s.0 Chunked (stands_encoding _ s.2)))
-first_refused front BadLength h = let s = h.stands in
-    inr (s.0, s.1, sym (at_length s.0 BadLength (no_encoding front s.0 s.1 (h.first Chunked (omega arith))) (stands_bad _ s.2)))
-first_refused front TooLarge h = let s = h.stands in
-    inr (s.0, s.1, sym (at_length s.0 TooLarge (no_encoding front s.0 s.1 (h.first Chunked (omega arith))) (stands_large _ s.2)))
-first_refused front TwoCallers h = let s = h.stands in
+pub first_refused : (front : List ℕ) (refusal : HeadRefusal) → AppliesFirst front refusal → Judges front (Err refusal)
+first_refused front BadHead h = inl (h.applies, refl)
+first_refused front Chunked h = let s = h.applies in inr (s.0, s.1, sym (at_encoding s.0 Chunked (applies_encoding _ s.2)))
+first_refused front BadLength h = let s = h.applies in
+    inr (s.0, s.1, sym (at_length s.0 BadLength (no_encoding front s.0 s.1 (h.first Chunked (omega arith))) (applies_bad _ s.2)))
+first_refused front TooLarge h = let s = h.applies in
+    inr (s.0, s.1, sym (at_length s.0 TooLarge (no_encoding front s.0 s.1 (h.first Chunked (omega arith))) (applies_large _ s.2)))
+first_refused front TwoCallers h = let s = h.applies in
     inr (
       s.0,
       s.1,
       sym (at_caller s.0 TwoCallers (no_encoding front s.0 s.1 (h.first Chunked (omega arith)))
-          (no_length front s.0 s.1 (h.first BadLength (omega arith)) (h.first TooLarge (omega arith))) (stands_caller _ s.2)),
+          (no_length front s.0 s.1 (h.first BadLength (omega arith)) (h.first TooLarge (omega arith))) (applies_caller _ s.2)),
     )
 
 -- ---- what a head says
@@ -336,20 +336,20 @@ head_says front head spells f g = record {
 }
 
 head_taken : (front : List ℕ) (head : RequestHead) (contents : HeadContents) → SpellsHead front head → Ok contents ≡ judgement_of head
-    → SaysContents front contents × ((refusal : HeadRefusal) → RefusalStands front refusal → ⊥)
+    → SaysContents front contents × ((refusal : HeadRefusal) → RefusalApplies front refusal → ⊥)
 head_taken front head contents spells j = elim (outcome head) [
   | at_encoding_step other e ↦ absurd (let same : Ok contents ≡ Err other = j ∙ at_encoding head other e in cc)
   | at_length_step other e f ↦ absurd (let same : Ok contents ≡ Err other = j ∙ at_length head other e f in cc)
   | at_caller_step other e f g ↦ absurd (let same : Ok contents ≡ Err other = j ∙ at_caller head other e f g in cc)
   | at_no_step e f g ↦ (let equal : Ok contents ≡ Ok (head_contents head) = j ∙ at_none head e f g in let same : contents ≡ head_contents head = cc in
-      (subst (SaysContents front) (sym same) (head_says front head spells f g), none_stands front head spells e f g))
+      (subst (SaysContents front) (sym same) (head_says front head spells f g), none_applies front head spells e f g))
 ]
 
-pub taken_says : (front : List ℕ) (contents : HeadContents) → Judges front (Ok contents) → SaysContents front contents × ((refusal : HeadRefusal) → RefusalStands front refusal → ⊥)
+pub taken_says : (front : List ℕ) (contents : HeadContents) → Judges front (Ok contents) → SaysContents front contents × ((refusal : HeadRefusal) → RefusalApplies front refusal → ⊥)
 taken_says front contents (inl bad) = absurd (let e = bad.1 in cc)
 taken_says front contents (inr h) = head_taken front h.0 contents h.1 h.2
 
-pub says_taken : (front : List ℕ) (contents : HeadContents) → SaysContents front contents → ((refusal : HeadRefusal) → RefusalStands front refusal → ⊥) → Judges front (Ok contents)
+pub says_taken : (front : List ℕ) (contents : HeadContents) → SaysContents front contents → ((refusal : HeadRefusal) → RefusalApplies front refusal → ⊥) → Judges front (Ok contents)
 says_taken front contents says none = taken front says.head _ _ _ contents says.spells
     refl (no_encoding front says.head says.spells (none Chunked))
     refl (no_length front says.head says.spells (none BadLength) (none TooLarge))

@@ -7,7 +7,7 @@ use Rattle.desk_heads.specs.declared.reading.HeadFault.{HeadFault}
 use Rattle.desk_heads.specs.declared.reading.HeadFault.TheVariants as faults
 use Rattle.desk_heads.specs.declared.reading.HeadBytes.{HeadBytes}
 
--- of the bytes that it was given, and of what is left: an end of the input and a failure are told only where the bytes don't decide
+-- of the bytes that it was given, and of what is left: an end of the input and a failure are reported only where the bytes don't decide
 abbrev pub EndRead : List ℕ → Result ℕ HeadFault → Option (List ℕ) → Type 0
 EndRead given (Ok n) left = head_at given ≡ Found n
 EndRead given (Err faults.TooLarge) left = head_at given ≡ TooLarge

@@ -17,17 +17,17 @@ pub record IsLengthText (text : List ℕ) : Type 0 where
   pub digits : All IsAsciiDigit text
 
 -- the refusal applies to a head, whatever else does
-abbrev pub StandsOfHead : RequestHead → HeadRefusal → Type 0
-StandsOfHead head BadHead = ⊥
-StandsOfHead head Chunked = 0 < length (values_of (codes "transfer-encoding") head)
-StandsOfHead head BadLength = (1 < length (values_of (codes "content-length") head)) ⊎ ((text : List ℕ) × (values_of (codes "content-length") head ≡ text ∷ []) × (IsLengthText text → ⊥))
-StandsOfHead head TooLarge = (text : List ℕ) × (values_of (codes "content-length") head ≡ text ∷ []) × IsLengthText text × (max_body < digits_value 10 text)
-StandsOfHead head TwoCallers = 1 < length (values_of (codes "depot-caller") head)
+abbrev pub AppliesToHead : RequestHead → HeadRefusal → Type 0
+AppliesToHead head BadHead = ⊥
+AppliesToHead head Chunked = 0 < length (values_of (codes "transfer-encoding") head)
+AppliesToHead head BadLength = (1 < length (values_of (codes "content-length") head)) ⊎ ((text : List ℕ) × (values_of (codes "content-length") head ≡ text ∷ []) × (IsLengthText text → ⊥))
+AppliesToHead head TooLarge = (text : List ℕ) × (values_of (codes "content-length") head ≡ text ∷ []) × IsLengthText text × (max_body < digits_value 10 text)
+AppliesToHead head TwoCallers = 1 < length (values_of (codes "depot-caller") head)
 
 -- the refusal applies to a front
-abbrev pub RefusalStands : List ℕ → HeadRefusal → Type 0
-RefusalStands front BadHead = IsHead front → ⊥
-RefusalStands front refusal = (head : RequestHead) × SpellsHead front head × StandsOfHead head refusal
+abbrev pub RefusalApplies : List ℕ → HeadRefusal → Type 0
+RefusalApplies front BadHead = IsHead front → ⊥
+RefusalApplies front refusal = (head : RequestHead) × SpellsHead front head × AppliesToHead head refusal
 
 -- the step of hearing at which a refusal is found
 abbrev pub step_of : HeadRefusal → ℕ
@@ -38,9 +38,9 @@ step_of TooLarge = 3
 step_of TwoCallers = 4
 
 -- the refusal applies, and none of an earlier step does
-pub record StandsFirst (front : List ℕ) (refusal : HeadRefusal) : Type 0 where
-  pub stands : RefusalStands front refusal
-  pub first : (earlier : HeadRefusal) → step_of earlier < step_of refusal → RefusalStands front earlier → ⊥
+pub record AppliesFirst (front : List ℕ) (refusal : HeadRefusal) : Type 0 where
+  pub applies : RefusalApplies front refusal
+  pub first : (earlier : HeadRefusal) → step_of earlier < step_of refusal → RefusalApplies front earlier → ⊥
 
 -- the caller is the one name under `Depot-Caller`
 abbrev pub NamesCaller : List (List ℕ) → Option (List ℕ) → Type 0

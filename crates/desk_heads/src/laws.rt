@@ -4,7 +4,7 @@ ghost use Rattle.std.specs.Prelude.{◌≡◌, ◌≢◌, ◌↔◌, ◌<◌, �
 ghost use Rattle.desk_heads.specs.Bounds.{max_head};
 ghost use Rattle.desk_heads.specs.Ends.{IsHeadEnd, HasNoHead, head_at};
 ghost use Rattle.desk_heads.specs.Heads.{HeadContents, Judges};
-ghost use Rattle.desk_heads.specs.Steps.{RefusalStands, StandsFirst, SaysContents};
+ghost use Rattle.desk_heads.specs.Steps.{RefusalApplies, AppliesFirst, SaysContents};
 ghost use Rattle.desk_heads.specs.declared.head_end.HeadEnd.TheVariants.{Short, TooLarge, Found};
 ghost use Rattle.desk_heads.specs.declared.refusal.HeadRefusal.{HeadRefusal};
 
@@ -37,11 +37,11 @@ pub fn one_judgement()
 /// `Depot-Caller`.
 pub fn first_refusal()
     ensures { (front : List ℕ) (refusal : HeadRefusal)
-        → Judges front (Err refusal) ↔ StandsFirst front refusal }
+        → Judges front (Err refusal) ↔ AppliesFirst front refusal }
 {}
 
 /// A front is taken as saying something exactly where its head says that and no refusal applies.
 pub fn taken_heads()
     ensures { (front : List ℕ) (contents : HeadContents) → Judges front (Ok contents)
-        ↔ (SaysContents front contents × ((refusal : HeadRefusal) → RefusalStands front refusal → ⊥)) }
+        ↔ (SaysContents front contents × ((refusal : HeadRefusal) → RefusalApplies front refusal → ⊥)) }
 {}

@@ -27,7 +27,7 @@ no_fill fault = Err fault
 abbrev pub unheard : HeardFault → Result HeardValue HeardFault
 unheard fault = Err fault
 
--- the bytes that the reader gave, memory aside, and what is heard of them
+-- the bytes that the reader gave, and what is heard of them, unless memory ran out
 abbrev pub GivenTo : Option (List ℕ) → Option (List ℕ) → Result HeardValue HeardFault → Type 0
 GivenTo old new result = result ≢ Err Memory → (given : List ℕ) × Consumes old new given × HeardOf given result
 
@@ -141,6 +141,6 @@ ask_uncut judging.Memory question body h = λ e. cc
 pub part_is : (a b : List ℕ) (n count : ℕ) → a ≡ b → take ((n + count) - n) (drop n a) ≡ take count (drop n b)
 part_is a b n count e = let d : (n + count) - n ≡ count = omega arith in ap (λ k. take k (drop n a)) d ∙ ap (λ l. take count (drop n l)) e
 
--- want of memory says nothing
+-- where memory ran out nothing is said
 pub unremembered : (old : Option (List ℕ)) → IfSome old (λ input. HeardOfAll input (Err Memory))
 unremembered old = nothing_said old Memory (λ input. tt)

@@ -22,15 +22,15 @@ or_fault : (found : Option Route) (refusal other : DeskRefusal) → ok_or found 
 or_fault (Some route) refusal other e = absurd (cc)
 or_fault None refusal other e = cc
 
-place_fault : (method : List ℕ) (place : Option Resource) (refusal : DeskRefusal) → route_of_resource method place ≡ Err refusal
+resource_fault : (method : List ℕ) (resource : Option Resource) (refusal : DeskRefusal) → route_of_resource method resource ≡ Err refusal
     → (refusal ≡ NoRoute) ⊎ ((pattern : PathPattern) × (refusal ≡ Method pattern))
-place_fault method None refusal e = inl (cc)
-place_fault method (Some place) refusal e =
-    inr (pattern_of place, or_fault (option_and_then (λ m. route_at m place) (method_of method)) refusal (Method (pattern_of place)) e)
+resource_fault method None refusal e = inl (cc)
+resource_fault method (Some resource) refusal e =
+    inr (pattern_of resource, or_fault (option_and_then (λ m. route_at m resource) (method_of method)) refusal (Method (pattern_of resource)) e)
 
 route_fault : (input : List ℕ) (contents : HeadContents) (rest : List ℕ) (refusal : DeskRefusal) → TakesHead input contents rest
     → route_of contents.method (path_part contents.target) ≡ Err refusal → IsRefused input refusal
-route_fault input contents rest refusal took e = elim (place_fault contents.method (resource_named (path_part contents.target)) refusal e) [
+route_fault input contents rest refusal took e = elim (resource_fault contents.method (resource_named (path_part contents.target)) refusal e) [
   | inl same ↦ refused_as input refusal NoRoute same (contents, rest, took, nothing-named contents.method (path_part contents.target) (e ∙ ap Err same))
   | inr some ↦ refused_as input refusal (Method some.0) some.1 (contents, rest, took, method-refused contents.method (path_part contents.target) some.0 (e ∙ ap Err some.1))
 ]
@@ -46,7 +46,7 @@ refused_body input contents question rest refusal asks fits (inr h) =
       take count rest,
       record {
         contents = contents;
-        behind = drop count rest;
+        following = drop count rest;
         asks = subst (TakesQuery input contents question) (sym (take-append-drop count rest)) asks;
         body_length = length-take-le count rest fits;
       },
@@ -91,7 +91,7 @@ begins_found input n found = let is = found_first input n found in record {
   is = subst (IsHeadEnd input) (sym (length-take-le n input is.within)) is;
 }
 
-refused_at : (input : List ℕ) (refusal : DeskRefusal) (place : HeadEnd) → head_at input ≡ place → HearsAt place input (Err refusal) → IsRefused input refusal
+refused_at : (input : List ℕ) (refusal : DeskRefusal) (end : HeadEnd) → head_at input ≡ end → HearsAt end input (Err refusal) → IsRefused input refusal
 refused_at input refusal (ends.Found n) found h = refused_head input (take n input) (drop n input) refusal (begins_found input n found) h.0 h.1 h.2
 refused_at input refusal ends.TooLarge found h = let same : refusal ≡ TooLarge = cc in refused_as input refusal TooLarge same (inl (large_none input found))
 refused_at input refusal ends.Short found h = let same : refusal ≡ Truncated = cc in refused_as input refusal Truncated same (inl (short_none input found))
@@ -109,9 +109,9 @@ hears_parts input head rest hearing begins h =
     let n = length head in
     let found = first_found input n begins.is in
     let front : head ≡ take n input = sym (take-append_seam head rest) ∙ ap (take n) (sym begins.parts) in
-    let behind : rest ≡ drop n input = sym (drop-append_seam head rest) ∙ ap (drop n) (sym begins.parts) in
+    let following : rest ≡ drop n input = sym (drop-append_seam head rest) ∙ ap (drop n) (sym begins.parts) in
     subst (λ p. HearsAt p input hearing) (sym found)
-    (subst (λ l. HearsFront (take n input) l hearing) behind (subst (λ l. HearsFront l rest hearing) front h))
+    (subst (λ l. HearsFront (take n input) l hearing) following (subst (λ l. HearsFront l rest hearing) front h))
 
 hears_head : (input : List ℕ) (refusal : HeadRefusal) → RefusesHead input refusal → Hears input (Err (refusal_of_head refusal))
 hears_head input refusal h = hears_parts input h.0 h.1 _ h.2 (head_refused h.0 h.1 refusal (first_refused h.0 refusal h.3))
@@ -134,11 +134,11 @@ hears_rest : (input : List ℕ) (contents : HeadContents) (question : Question) 
     → HearsRest contents.caller question contents.body_length rest hearing → Hears input hearing
 hears_rest input contents question rest hearing asks h = hears_query input contents asks.route rest hearing asks.found (inl (question, asks.query, h))
 
-whole_body : (caller : Option (List ℕ)) (question : Question) (body behind : List ℕ) (count : ℕ) (hearing : Hearing) → length body ≡ count
-    → HearsBody caller question body hearing → HearsRest caller question count (body ++ behind) hearing
-whole_body caller question body behind count hearing e h =
-    let fits : count ≤ length (body ++ behind) = (let l = length-append body behind in omega arith) in
-    let part : body ≡ take count (body ++ behind) = sym (take-append_seam body behind) ∙ ap (λ n. take n (body ++ behind)) e in
+whole_body : (caller : Option (List ℕ)) (question : Question) (body following : List ℕ) (count : ℕ) (hearing : Hearing) → length body ≡ count
+    → HearsBody caller question body hearing → HearsRest caller question count (body ++ following) hearing
+whole_body caller question body following count hearing e h =
+    let fits : count ≤ length (body ++ following) = (let l = length-append body following in omega arith) in
+    let part : body ≡ take count (body ++ following) = sym (take-append_seam body following) ∙ ap (λ n. take n (body ++ following)) e in
     inl (fits, subst (λ l. HearsBody caller question l hearing) part h)
 
 pub is_refused : (input : List ℕ) (refusal : DeskRefusal) → IsRefused input refusal → Hears input (Err refusal)
@@ -155,4 +155,4 @@ is_refused input (Method pattern) h = hears_no_route input h.0 h.1 (Method patte
 is_refused input BadQuery h = hears_query input h.0 h.1 h.2 _ h.3 (inr (h.4, refl))
 is_refused input BadBody h =
     let has = h.2 in
-    hears_rest input has.contents h.0 (h.1 ++ has.behind) _ has.asks (whole_body has.contents.caller h.0 h.1 has.behind has.contents.body_length _ has.body_length (inr (h.3, refl)))
+    hears_rest input has.contents h.0 (h.1 ++ has.following) _ has.asks (whole_body has.contents.caller h.0 h.1 has.following has.contents.body_length _ has.body_length (inr (h.3, refl)))

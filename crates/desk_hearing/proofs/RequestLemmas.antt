@@ -62,7 +62,7 @@ heard_spells input heard h =
     record {
       front = take n input;
       body = take contents.body_length rest;
-      behind = drop contents.body_length rest;
+      following = drop contents.body_length rest;
       parts = sym (take-append-drop n input) ∙ ap (λ l. take n input ++ l) (sym (take-append-drop contents.body_length rest));
       head = subst (IsHeadEnd input) (sym (length-take-le n input is.within)) is;
       contents = contents;
@@ -79,11 +79,11 @@ heard_spells input heard h =
 
 -- ---- a request is heard
 
-spelled_body : (caller : Option (List ℕ)) (question : Question) (body behind : List ℕ) (count : ℕ) (heard : HeardValue) → length body ≡ count → BodyAsks question body heard.ask → heard.bag ≡ bag_in heard.ask body → heard.caller ≡ caller_text caller
-    → HearsRest caller question count (body ++ behind) (Ok heard)
-spelled_body caller question body behind count heard e asked bag same =
-    let fits : count ≤ length (body ++ behind) = (let l = length-append body behind in omega arith) in
-    let part : body ≡ take count (body ++ behind) = sym (take-append_seam body behind) ∙ ap (λ n. take n (body ++ behind)) e in
+spelled_body : (caller : Option (List ℕ)) (question : Question) (body following : List ℕ) (count : ℕ) (heard : HeardValue) → length body ≡ count → BodyAsks question body heard.ask → heard.bag ≡ bag_in heard.ask body → heard.caller ≡ caller_text caller
+    → HearsRest caller question count (body ++ following) (Ok heard)
+spelled_body caller question body following count heard e asked bag same =
+    let fits : count ≤ length (body ++ following) = (let l = length-append body following in omega arith) in
+    let part : body ≡ take count (body ++ following) = sym (take-append_seam body following) ∙ ap (λ n. take n (body ++ following)) e in
     inl (fits, subst (λ l. HearsBody caller question l (Ok heard)) part (inl (heard.ask, asked, ap (λ name. Ok (record { caller = name; ask = heard.ask; bag = heard.bag })) same ∙ ap (λ b. Ok (record { caller = caller_text caller; ask = heard.ask; bag = b })) bag)))
 
 pub spelled_hears : (input : List ℕ) (heard : HeardValue) → SpellsRequest input heard → Hears input (Ok heard)
@@ -91,11 +91,11 @@ unfolding Hears
 spelled_hears input heard s =
     let n = length s.front in
     let found = first_found input n s.head in
-    let front : s.front ≡ take n input = sym (take-append_seam s.front (s.body ++ s.behind)) ∙ ap (take n) (sym s.parts) in
-    let rest : s.body ++ s.behind ≡ drop n input = sym (drop-append_seam s.front (s.body ++ s.behind)) ∙ ap (drop n) (sym s.parts) in
-    let body = spelled_body s.contents.caller s.question s.body s.behind s.contents.body_length heard s.body_length s.asked s.bag s.caller in
+    let front : s.front ≡ take n input = sym (take-append_seam s.front (s.body ++ s.following)) ∙ ap (take n) (sym s.parts) in
+    let rest : s.body ++ s.following ≡ drop n input = sym (drop-append_seam s.front (s.body ++ s.following)) ∙ ap (drop n) (sym s.parts) in
+    let body = spelled_body s.contents.caller s.question s.body s.following s.contents.body_length heard s.body_length s.asked s.bag s.caller in
     let route = asked_route s.contents (path_part s.contents.target) (Ok s.route) refl (asked-found s.contents.method (path_part s.contents.target) s.route s.asks) in
-    let here : HearsFront s.front (s.body ++ s.behind) (Ok heard) =
-    (Ok s.contents, s.says, subst (λ r. HearsRoute s.contents r (s.body ++ s.behind) (Ok heard)) (sym route) (inl (s.question, s.query, body))) in
+    let here : HearsFront s.front (s.body ++ s.following) (Ok heard) =
+    (Ok s.contents, s.says, subst (λ r. HearsRoute s.contents r (s.body ++ s.following) (Ok heard)) (sym route) (inl (s.question, s.query, body))) in
     subst (λ p. HearsAt p input (Ok heard)) (sym found)
-    (subst (λ l. HearsFront (take n input) l (Ok heard)) rest (subst (λ l. HearsFront l (s.body ++ s.behind) (Ok heard)) front here))
+    (subst (λ l. HearsFront (take n input) l (Ok heard)) rest (subst (λ l. HearsFront l (s.body ++ s.following) (Ok heard)) front here))

@@ -3,7 +3,7 @@ use Rattle.std.specs.Prelude.{◌≡◌, ◌<◌, ◌≤◌, ◌⊎◌, ℕ, Lis
 use Rattle.desk_heads.specs.Bounds.{max_head}
 use Rattle.desk_heads.specs.Ends.{IsHeadEnd, HasNoHead}
 use Rattle.desk_heads.specs.Heads.{HeadContents, Judges}
-use Rattle.desk_heads.specs.Steps.{StandsFirst}
+use Rattle.desk_heads.specs.Steps.{AppliesFirst}
 use Rattle.desk_heads.specs.declared.refusal.HeadRefusal.{HeadRefusal}
 use Rattle.desk_heads.specs.declared.refusal.HeadRefusal.TheVariants as heads
 use Rattle.desk_routes.specs.Resources.{SpellsResource}
@@ -45,8 +45,8 @@ pub record TakesQuery (input : List ℕ) (contents : HeadContents) (question : Q
 -- its body has come
 pub record HasBody (input : List ℕ) (question : Question) (body : List ℕ) : Type 0 where
   pub contents : HeadContents
-  pub behind : List ℕ
-  pub asks : TakesQuery input contents question (body ++ behind)
+  pub following : List ℕ
+  pub asks : TakesQuery input contents question (body ++ following)
   pub body_length : length body ≡ contents.body_length
 
 -- ---- the step that fails, with those before it, which pass
@@ -61,14 +61,14 @@ EndsInHead input = (length input < max_head) × HasNoHead input
 
 -- its head is refused for this, the first reason that applies
 abbrev pub RefusesHead : List ℕ → HeadRefusal → Type 0
-RefusesHead input refusal = (head rest : List ℕ) × BeginsWithHead input head rest × StandsFirst head refusal
+RefusesHead input refusal = (head rest : List ℕ) × BeginsWithHead input head rest × AppliesFirst head refusal
 
 -- its path names nothing
 abbrev pub NamesNothing : List ℕ → Type 0
 NamesNothing input =
     (contents : HeadContents) × (rest : List ℕ) × TakesHead input contents rest × ((resource : Resource) → SpellsResource (path_part contents.target) resource → ⊥)
 
--- its path names a place of this pattern, which doesn't take the method
+-- its path names a resource of this pattern, which doesn't take the method
 abbrev pub RefusesMethod : List ℕ → PathPattern → Type 0
 RefusesMethod input pattern =
     (contents : HeadContents) × (rest : List ℕ) × TakesHead input contents rest × IsOtherMethod contents.method (path_part contents.target) pattern

@@ -12,8 +12,8 @@ use Rattle.desk_hearing.specs.declared.question.Question.{Question}
 pub record SpellsRequest (input : List ℕ) (heard : HeardValue) : Type 0 where
   pub front : List ℕ
   pub body : List ℕ
-  pub behind : List ℕ
-  pub parts : input ≡ front ++ (body ++ behind)
+  pub following : List ℕ
+  pub parts : input ≡ front ++ (body ++ following)
   pub head : IsHeadEnd input (length front)
   pub contents : HeadContents
   pub says : Judges front (Ok contents)

@@ -28,8 +28,8 @@ pub fn spelled_requests()
 {}
 
 /// A whole input is refused for a reason exactly where each step before it passes and its own fails.
-/// The steps are: the end of the head is found; the head is taken; the path names a place that takes
-/// the method; the query is as the route says; the body has come; the body is as the route says.
+/// The steps are: the end of the head is found; the head is taken; the path names a resource that
+/// takes the method; the query is as the route says; the body has come; the body is as the route says.
 pub fn first_refusals()
     ensures { (input : List ℕ) (refusal : DeskRefusal)
         → Hears input (Err refusal) ↔ IsRefused input refusal }

@@ -128,7 +128,7 @@ untouched p r w patience link = record {
 }
 
 module _ {S : Type 0} (g : Ghosts S) (day : Date) where
-  -- ---- one connection, of which this is told and noted
+  -- ---- one connection, of which this is reported and noted
 
   record Came (old new : Held S) (held holds : Option (List ℕ)) (bytes : List ℕ) (whole done : Bool) (note : Option OfficeNote) : Type 0 where
     connection : Connection
@@ -158,7 +158,7 @@ module _ {S : Type 0} (g : Ghosts S) (day : Date) where
   cut old new held holds true bytes text note it begins = by_office old new held holds false bytes note it.0 it.1 (subst (WritesBeginning held holds) it.2 begins)
   cut old new held holds false bytes text note it begins = nothing old new held holds bytes note it.2 it.4 (it.0, subst (WritesBeginning held holds) it.3 begins)
 
-  -- ---- what is told of it
+  -- ---- what is reported of it
 
   module _ {W : Type 0} (contents : W → Option (List ℕ)) (old new : Held S) (reader reader' : Option (List ℕ)) (writer writer' : Counted W) (note : Option OfficeNote) (failed failed' : Type 0) where
     pub record Told {T : Type 0} (result : Result T DeskFault) : Type 0 where

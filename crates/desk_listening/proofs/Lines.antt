@@ -1,4 +1,4 @@
--- What the log is told of one connection more, and of the end.
+-- What is logged of one connection more, and of the end.
 use Rattle.desk_listening.proofs.Common.{◌≡◌, ◌++◌, ◌∷◌, [], List, Option, map, append-nil, subst, sym, map-append, IsLogged, Log, first_watch, lines_at, watch_after, Watch, OfficeNote, more_lines, lines_after, one_after, Connection, noted, lines_of, watch_of}
 
 pub watch_more : (connections : List Connection) (last : Connection) (watch next : Watch) (note : Option OfficeNote) → watch ≡ watch_of connections → note ≡ noted last → next ≡ watch_after watch note

@@ -29,7 +29,7 @@ abbrev pub served_of : Result Served AcceptFailed → Served
 served_of (Ok served) = served
 served_of (Err failure) = failure.served
 
--- so many of these connections were answered, and so many weren't
+-- how many of these connections were answered, and how many weren't
 abbrev pub CountsAs : List Connection → Served → Type 0
 CountsAs connections served = (length connections ≡ served.answered + served.failed) × (count_by is_answered connections ≡ served.answered)
 

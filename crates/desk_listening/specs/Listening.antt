@@ -55,7 +55,7 @@ is_served (served bytes item answer whole) = true
 is_served (refused bytes refusal) = false
 is_served lost = false
 
--- what a call tells of its connection: that all of an answer was written, or else whether the office served what was heard
+-- what a call reports of its connection: that all of an answer was written, or else whether the office served what was heard
 abbrev pub done_of : DeskFault → Bool
 done_of faults.Read = false
 done_of (faults.Write done) = done

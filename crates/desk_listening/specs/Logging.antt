@@ -1,4 +1,4 @@
--- What the log is told of connections, over the list of what came of each.
+-- What is logged of connections, over the list of what came of each.
 use Rattle.std.specs.Prelude.{ℕ, List, [], ◌∷◌, ◌++◌, map, Result, Ok, Err}
 use Rattle.desk_log.specs.Lines.{end_line}
 use Rattle.desk_log.specs.Watching.{first_watch, lines_from, watch_from}

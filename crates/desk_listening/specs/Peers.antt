@@ -52,7 +52,7 @@ Stops r enough old new End = IsAtEnd (r.remaining (device_of new)) × (failures_
 Stops r enough old new Enough = enough × (failures_of new ≡ failures_of old)
 Stops r enough old new Failed = failures_of new ≡ one_more (failures_of old)
 
--- it was read and dropped, so many bytes at most
+-- it was read and dropped, at most this number of bytes
 pub record Drops {R : Type 0} (r : Reads R) (most : ℕ) (old new : Counted R) (drained : Drained) : Type 0 where
   pub bytes : List ℕ
   pub came : Consumes (r.remaining (device_of old)) (r.remaining (device_of new)) bytes

@@ -18,7 +18,7 @@ pub(crate) struct Ends<R, W> {
     pub(crate) writer: Counted<W>,
 }
 
-/// The ends of a connection, each call of which waits so long at most.
+/// The ends of a connection, each call of which waits that long at most.
 pub(crate) fn open<P: Peer>(peer: &mut P, wait: Duration) -> io::Result<Ends<P::Reader, P::Writer>>
     ensures { Opens P.Peer wait peer.old result peer.new }
 {

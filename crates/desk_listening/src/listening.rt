@@ -132,7 +132,7 @@ fn serve_next<S: Alter, P: Peer, L: Listener<Stream = P>>(
 /// ends that one alone, and so does an `accept` whose connection was aborted, or that a signal
 /// interrupted. Any other `accept` that fails ends the serving at once.
 ///
-/// The log is told where requests fail because memory ran out or the store failed, and that they succeed
+/// The log says where requests fail because memory ran out or the store failed, and that they succeed
 /// again. A line that can't be written is dropped.
 pub fn serve_connections<S: Alter, P: Peer, L: Listener<Stream = P>, E: Write>(
     alloc: Global,

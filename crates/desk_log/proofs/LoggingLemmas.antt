@@ -1,4 +1,4 @@
--- Lines that are told, one after the other.
+-- Lines that are logged, one after the other.
 use Rattle.std.proofs.Common.{◌≡◌, ◌<◌, ◌++◌, ◌∷◌, [], ℕ, List, Result, Ok, Err, OnErr, OnOk, arith, inl, inr, length, refl, subst, sym, take}
 use Rattle.std.specs.Io.KnownBytes.{Appends}
 use Rattle.std.proofs.lemmas.List.{take_all}

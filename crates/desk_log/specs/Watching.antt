@@ -1,4 +1,4 @@
--- What the log is told as connections are served, one after the other.
+-- What is logged as connections are served, one after the other.
 use Rattle.std.specs.Prelude.{◌+◌, ◌++◌, ◌≤◌, ◌==◌, ◌||◌, ◌∷◌, [], ℕ, List, Bool, Option, None, Some, if◌then◌else◌}
 use Rattle.desk_log.specs.Lines.{failed_line, success_line}
 use Rattle.desk_log.specs.declared.note.OfficeNote.{OfficeNote}
@@ -12,7 +12,7 @@ use Rattle.desk_log.specs.declared.watch.Watch.{Watch}
 
 -- ---- requests of one kind
 
--- how many failures in a row are told: 1, 10, 100 and so on, as far as connections are counted
+-- how many failures in a row are logged: 1, 10, 100 and so on, as far as connections are counted
 abbrev pub is_told : ℕ → Bool
 is_told count =
     count == 1 || count == 10 || count == 100 || count == 1_000 || count == 10_000 || count == 100_000 || count == 1_000_000
@@ -24,7 +24,7 @@ streak_after streak (Failed failure) = record { count = streak.count + 1; last =
 streak_after streak Refused = streak
 streak_after streak Succeeded = record streak { count = 0 }
 
--- a streak is told at the lengths above, and at its end
+-- a streak is logged at the lengths above, and at its end
 abbrev pub streak_lines : ℕ → RequestKind → Streak → OfficeOutcome → List (List ℕ)
 streak_lines number kind streak (Failed failure) =
     if is_told (streak.count + 1) then failed_line number kind failure (streak.count + 1) ∷ [] else []

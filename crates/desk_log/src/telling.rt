@@ -15,7 +15,7 @@ pub(crate) fn tell<E: Write>(line: &Line, log: &mut Counted<E>)
     let _ = write_whole(log, line.as_str().as_bytes());
 }
 
-/// Tells the log that as many connections were served as were asked for.
+/// Logs that as many connections were served as were asked for.
 pub fn tell_end<E: Write>(count: u32, log: &mut Counted<E>)
     ensures { IsLogged (end_line count ∷ []) (log_of E.Write log.old) (log_of E.Write log.new) }
 {

@@ -1,4 +1,4 @@
-//! What the log is told as connections are served.
+//! What is logged as connections are served.
 
 ghost use Rattle.std.specs.Prelude.{◌≡◌, ◌+◌, ◌<◌, ◌≤◌, ◌^◌};
 ghost use Rattle.desk_log.specs.Logging.{IsLogged, log_of};
@@ -28,7 +28,7 @@ pub struct Watch {
     pub readings: Streak,
 }
 
-/// Whether the log is told of a failure that makes it this count in a row.
+/// Whether a failure that makes it this count in a row is logged.
 fn is_told(count: u32) -> bool
     ensures { result ≡ is_told count }
 {
@@ -60,7 +60,7 @@ impl Streak {
         }
     }
 
-    /// Tells the log of one more request, where there is something to tell.
+    /// Logs one more request, where there is something to log.
     fn tell<E: Write>(
         self,
         number: u32,
@@ -129,7 +129,7 @@ impl Watch {
         }
     }
 
-    /// Tells the log of one more connection, of which this is noted, where there is something to tell.
+    /// Logs one more connection, of which this is noted, where there is something to log.
     /// A line that can't be written is dropped.
     pub fn tell<E: Write>(self, note: Option<OfficeNote>, log: &mut Counted<E>) -> Watch
         requires counted { IsCounted self }

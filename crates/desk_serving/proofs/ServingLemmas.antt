@@ -13,7 +13,7 @@ pub on_ok : {T E P Q : Type 0} (result : Result T E) → OnOk result P → (P �
 on_ok (Ok x) is then = then is
 on_ok (Err e) is then = tt
 
--- what was noted of it aside
+-- without what was noted of it
 pub is_answered : {S : Type 0} (g : Ghosts S) (old new : Held S) (day : Date) (bytes text : List ℕ) (done : Bool) (note : Option OfficeNote)
     → IsNoted g (record { day = day; bytes = bytes }) (record { text = text; done = done }) note old new → IsAnswered g (record { day = day; bytes = bytes }) (record { text = text; done = done }) old new
 is_answered g old new day bytes text true _ it = (it.0, it.1.0, it.2)
@@ -50,7 +50,7 @@ module _ {S : Type 0} (g : Ghosts S) (old new : Held S) (day : Date) (note : Opt
     part.2,
   )
 
-  -- ---- what was noted of it aside
+  -- ---- without what was noted of it
 
   pub unnoted_served : (all : Option (List ℕ)) → IfSome all (λ input. (answer : Answer) × ServesNoted day input note (state g old) (state g new) answer)
       → IfSome all (λ input. (answer : Answer) × ServesBytes day input (state g old) (state g new) answer)

@@ -262,7 +262,7 @@ pub fn serve_with_routes<S: Alter, R: Read, W: Write>(
 /// Hears one request, has the office serve it on that day, and writes the answer.
 ///
 /// A request that the desk refuses is answered by that refusal, and the office is as it was. What is
-/// written is written after the office has committed what the answer tells.
+/// written is written after the office has committed what the answer says.
 pub fn serve_one<S: Alter, R: Read, W: Write>(
     alloc: Global,
     office: &mut Office<S>,

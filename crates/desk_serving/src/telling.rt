@@ -1,4 +1,4 @@
-//! What is told of an answer of the office: its bytes to who asked, a note to the log.
+//! What becomes of an answer of the office: bytes for who asked, and a note for the log.
 
 ghost use Rattle.std.specs.Prelude.{◌≡◌, IfOk};
 ghost use Rattle.desk_answers.specs.Answers.{answer_text};

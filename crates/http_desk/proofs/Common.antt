@@ -5,7 +5,7 @@ pub use Rattle.http_desk.specs.RecordLists.{answer_texts, AreRecords, IsSplit, m
 pub use Rattle.http_desk.specs.RecordReading.{has_length_form, has_marks, length_of, LineSays}
 pub use Rattle.http_desk.specs.Records.{answer_record, BeginsWithNone, CanNotBegin, HasLine, HasNoLineFeed, IsLine, IsRecord, WantsMore}
 unfoldable pub use Rattle.http_desk.specs.Records.{line_text, record_text}
-pub use Rattle.http_desk.specs.ReplaySteps.{AnswersNext, fault_behind, ReadsMore}
+pub use Rattle.http_desk.specs.ReplaySteps.{AnswersNext, fault_after, ReadsMore}
 pub use Rattle.http_desk.specs.Replaying.{AnswersEach, AnswersRecord, HasAnswered, HasDone, HasWritten, Moment, moment_of, Replayed}
 pub use Rattle.http_desk.specs.declared.record.Found.TheVariants.{Bad, More, Whole}
 pub use Rattle.jiff.specs.Types.{Date}

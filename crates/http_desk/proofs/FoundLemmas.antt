@@ -88,7 +88,7 @@ feed_place input day bytes rest e =
     let len : length input ≡ length (line_text day (length bytes)) + length (10 ∷ (bytes ++ 10 ∷ rest)) = ap length all ∙ length-append (line_text day (length bytes)) (10 ∷ (bytes ++ 10 ∷ rest)) in
     (omega arith, ap (λ l. get_or l (length (line_text day (length bytes))) 0) all ∙ get_or-append_seam (line_text day (length bytes)) 10 (bytes ++ 10 ∷ rest) 0)
 
--- where more bytes are wanted, no record stands yet
+-- where more bytes are wanted, there is no record yet
 pub wanted_none : (input : List ℕ) → WantsMore input → BeginsWithNone input
 wanted_none input (inl h) day bytes rest is e = let f = feed_place input day bytes rest e in h.1 (length (line_text day (length bytes))) f.0 f.1
 wanted_none input (inr h) day bytes rest is e =

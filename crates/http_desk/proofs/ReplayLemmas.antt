@@ -1,5 +1,5 @@
 -- One record more, and what a replay comes to.
-use Rattle.http_desk.proofs.Common.{◌≡◌, ◌≢◌, Bool, ℕ, ◌+◌, ◌<◌, ◌≤◌, ◌⊎◌, List, [], ◌∷◌, ◌++◌, true, false, Option, inl, inr, length, take, refl, sym, ap, ◌∙◌, subst, arith, length-append, append_assoc, append-nil, take_all, Ok, Err, Appends, Consumes, IsAtEnd, Appends-nil, Appends-trans, Consumes-nil, Consumes-trans, Held, state, Ghosts, Date, IsRecord, record_text, answer_record, BeginsWithNone, CanNotBegin, WantsMore, AreRecords, request_texts, answer_texts, max_records, AnswersRecord, AnswersEach, HasAnswered, HasDone, HasWritten, Moment, Replayed, AnswersNext, ReadsMore, fault_behind, DeskRequest, IsAnswered, ServesBytes}
+use Rattle.http_desk.proofs.Common.{◌≡◌, ◌≢◌, Bool, ℕ, ◌+◌, ◌<◌, ◌≤◌, ◌⊎◌, List, [], ◌∷◌, ◌++◌, true, false, Option, inl, inr, length, take, refl, sym, ap, ◌∙◌, subst, arith, length-append, append_assoc, append-nil, take_all, Ok, Err, Appends, Consumes, IsAtEnd, Appends-nil, Appends-trans, Consumes-nil, Consumes-trans, Held, state, Ghosts, Date, IsRecord, record_text, answer_record, BeginsWithNone, CanNotBegin, WantsMore, AreRecords, request_texts, answer_texts, max_records, AnswersRecord, AnswersEach, HasAnswered, HasDone, HasWritten, Moment, Replayed, AnswersNext, ReadsMore, fault_after, DeskRequest, IsAnswered, ServesBytes}
 use Rattle.http_desk.proofs.FoundLemmas.{wanted_none}
 use Rattle.http_desk.proofs.ListLemmas.{texts_more, are_all, rest_shorter}
 use Rattle.http_desk.specs.declared.answering.Unwritten.{Unwritten}
@@ -41,7 +41,7 @@ not_empty day bytes rest all e none = let h = rest_shorter all day bytes rest e 
 abbrev pub moment : {S : Type 0} → Held S → Option (List ℕ) → Option (List ℕ) → Moment S
 moment office input output = record { office = office; input = input; output = output }
 
--- so many records were done, the answers are written, and these bytes are pending
+-- this number of records was done, the answers are written, and these bytes are pending
 pub record Progress {S : Type 0} (g : Ghosts S) (old now : Moment S) (pending : List ℕ) (count : ℕ) : Type 0 where
   pub items : List DeskRequest
   pub texts : List (List ℕ)
@@ -212,7 +212,7 @@ more_items items item count e = let l = length-append items (item ∷ []) in ome
 -- an answer was not written whole
 pub unwritten_stop : {S : Type 0} (g : Ghosts S) (old now new : Held S) (input left output written more : Option (List ℕ)) (pending rest : List ℕ) (count : ℕ) (item : DeskRequest) (fault : Unwritten) (T : Type 0)
     → Progress g (moment old input output) (moment now left written) pending count → IsRecord item.day item.bytes → pending ≡ record_text item.day item.bytes ++ rest → count < max_records
-    → AnswersNext {T = T} (AnswersRecord g item now new) (new ≡ now) (Appends written more) (Err fault) → Replayed g (moment old input output) (moment new left more) (Err (fault_behind count fault))
+    → AnswersNext {T = T} (AnswersRecord g item now new) (new ≡ now) (Appends written more) (Err fault) → Replayed g (moment old input output) (moment new left more) (Err (fault_after count fault))
 unwritten_stop g old now new input left output written more pending rest count item unwritten.Write T p is e low a = (
   p.items ++ item ∷ [],
   p.texts ++ a.0 ∷ [],

@@ -16,7 +16,7 @@ abbrev pub AreRecords : List DeskRequest → Type 0
 AreRecords [] = ⊤
 AreRecords (item ∷ items) = IsRecord item.day item.bytes × AreRecords items
 
--- the input is these records, at most so many, and what follows them, which begins with none unless there are so many
+-- The input is these records, at most `most`, and what follows them. That begins with no record unless there are `most`.
 pub record IsSplit (most : ℕ) (input : List ℕ) (items : List DeskRequest) (rest : List ℕ) : Type 0 where
   pub text : input ≡ request_texts items ++ rest
   pub each : AreRecords items

@@ -1,4 +1,4 @@
--- A replay as a run of the office: what is heard of each record is an item of the run, and what the desk refuses is none. The rule is Depot's own.
+-- A replay as a run of the office: what is heard of each record is an item of the run, and what the desk refuses is no item. The rule is Depot's own.
 use Rattle.std.specs.Prelude.{ℕ, List, [], ◌∷◌, Ok, Err}
 use Rattle.sqlite.specs.Held.{Held, state}
 use Rattle.sqlite.specs.State.{HasCleanDisk}

@@ -13,10 +13,10 @@ use Rattle.http_desk.specs.declared.replaying.ReplayStop.TheVariants as stops
 use Rattle.http_desk.specs.declared.replaying.ReplayFault.{ReplayFault}
 
 -- what follows this number of records: a record; nothing, or a beginning; or what is no record, whatever follows
-abbrev pub FoundBehind : ℕ → Found → List ℕ → Type 0
-FoundBehind count (found.Whole day bytes rest) input = IsRecord day bytes.now × (input ≡ record_text day bytes.now ++ rest.now) × (count < max_records)
-FoundBehind count found.More input = WantsMore input
-FoundBehind count found.Bad input = (input ≢ []) × (CanNotBegin input ⊎ (count ≡ max_records))
+abbrev pub FoundAfter : ℕ → Found → List ℕ → Type 0
+FoundAfter count (found.Whole day bytes rest) input = IsRecord day bytes.now × (input ≡ record_text day bytes.now ++ rest.now) × (count < max_records)
+FoundAfter count found.More input = WantsMore input
+FoundAfter count found.Bad input = (input ≢ []) × (CanNotBegin input ⊎ (count ≡ max_records))
 
 -- one more call of the reader: what it gives is added, and it gives nothing only at the end of the input
 abbrev pub ReadsMore : Option (List ℕ) → Option (List ℕ) → List ℕ → List ℕ → Result Bool ReplayStop → Type 0
@@ -36,8 +36,8 @@ AnswersNext Answers untouched Writes (Err unwritten.Write) =
 AnswersNext Answers untouched Writes (Err (unwritten.Memory true)) = (text : List ℕ) × Answers text × Writes []
 AnswersNext Answers untouched Writes (Err (unwritten.Memory false)) = untouched × Writes []
 
--- the fault of a stop at the record after so many
-abbrev pub fault_behind : ℕ → Unwritten → ReplayFault
-fault_behind count unwritten.Write = record { stop = stops.Write; done = count + 1; answered = count }
-fault_behind count (unwritten.Memory true) = record { stop = stops.Memory; done = count + 1; answered = count }
-fault_behind count (unwritten.Memory false) = record { stop = stops.Memory; done = count; answered = count }
+-- the fault of a stop at the record after this number of them
+abbrev pub fault_after : ℕ → Unwritten → ReplayFault
+fault_after count unwritten.Write = record { stop = stops.Write; done = count + 1; answered = count }
+fault_after count (unwritten.Memory true) = record { stop = stops.Memory; done = count + 1; answered = count }
+fault_after count (unwritten.Memory false) = record { stop = stops.Memory; done = count; answered = count }

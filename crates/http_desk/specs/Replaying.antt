@@ -64,7 +64,7 @@ pub record HasDone {S : Type 0} (g : Ghosts S) (old new : Moment S) (items : Lis
 abbrev pub HasWritten : {S : Type 0} → Moment S → Moment S → List (List ℕ) → ℕ → List ℕ → Type 0
 HasWritten old new texts answered part = Appends old.output new.output (answer_texts (take answered texts) ++ part)
 
--- what follows so many records is no record: the input ended there, or no bytes that follow would make one, or there are as many records
+-- what follows this number of records is no record: the input ended there, or no bytes that follow would make one, or there are as many records
 -- as there may be
 abbrev pub IsNoRecord : Option (List ℕ) → ℕ → List ℕ → Type 0
 IsNoRecord left count rest = (rest ≢ []) × (IsAtEnd left ⊎ (CanNotBegin rest ⊎ (count ≡ max_records)))

@@ -4,7 +4,7 @@ ghost use Rattle.std.specs.Prelude.{◌≡◌, ◌≢◌, ◌≤◌, ◌<◌, �
 ghost use Rattle.desk_devices.specs.Devices.{HasFailed, device_of, failures_of};
 ghost use Rattle.http_desk.specs.RecordLists.{max_records};
 ghost use Rattle.http_desk.specs.Replaying.{Replayed, moment_of};
-ghost use Rattle.http_desk.specs.ReplaySteps.{FoundBehind, ReadsMore, fault_behind};
+ghost use Rattle.http_desk.specs.ReplaySteps.{FoundAfter, ReadsMore, fault_after};
 
 use crate::answering::{Unwritten, answer_next};
 use crate::record::{Found, record_at};
@@ -67,9 +67,9 @@ impl ReplayFault {
     }
 
     /// A stop at the record after this number of them.
-    fn behind(count: u64, unwritten: Unwritten) -> ReplayFault
+    fn after(count: u64, unwritten: Unwritten) -> ReplayFault
         requires { count < max_records }
-        ensures { result ≡ fault_behind count unwritten }
+        ensures { result ≡ fault_after count unwritten }
     {
         let next = ReplayFault {
             stop: ReplayStop::Memory,
@@ -91,9 +91,9 @@ impl ReplayFault {
 }
 
 /// What follows this number of records. After as many as there may be, anything is no record.
-fn found_behind(count: u64, pending: &[u8]) -> Found<'_>
+fn found_after(count: u64, pending: &[u8]) -> Found<'_>
     requires { count ≤ max_records }
-    ensures { FoundBehind count result pending.now }
+    ensures { FoundAfter count result pending.now }
 {
     if pending.is_empty() {
         Found::More
@@ -158,14 +158,14 @@ pub fn replay<S: Alter, R: Read, W: Write>(
     let mut pending = Vec::new(alloc);
     let mut count = 0;
     'records: loop {
-        match found_behind(count, &pending) {
+        match found_after(count, &pending) {
             Found::Whole { day, bytes, rest } => {
                 let Ok(kept) = Vec::from_slice(alloc, rest) else {
                     return Err(ReplayFault::between(ReplayStop::Memory, count));
                 };
                 match answer_next(alloc, &routes, office, writer, day, bytes) {
                     Ok(()) => {}
-                    Err(unwritten) => return Err(ReplayFault::behind(count, unwritten)),
+                    Err(unwritten) => return Err(ReplayFault::after(count, unwritten)),
                 }
                 pending = kept;
                 count += 1;

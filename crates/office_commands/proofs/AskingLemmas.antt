@@ -99,6 +99,6 @@ module _ {S : Type 0} (g : Ghosts S) (day : Date) (old new : Held S) (was_left l
       let asked = part.2 in
       (answers day (all_input was_left asked.0) part.0 ∷ [], (part.0, (asked.0, asked.2, refl), (part.1, part.3)), (new, (asked.1, asked.3), refl))
 
-  -- what the desk's fault is told as
+  -- what the desk's fault is reported as
   pub told_as : (T : Type 0) (held holds : Option (List ℕ)) (named fault : CommandFault) → named ≡ fault → Comes {T = T} (Err fault) held holds → Comes {T = T} (Err named) held holds
   told_as T held holds named fault is it = subst (λ (f : CommandFault). Comes {T = T} (Err f) held holds) (sym is) it

@@ -10,7 +10,7 @@ use Rattle.office_stores.specs.declared.fault.StoreFault.{StoreFault}
 use Rattle.office_stores.specs.declared.fault.StoreFault.TheVariants.{Device, Memory}
 use Rattle.office_commands.proofs.DeedLemmas.{as_many, records_are_done}
 
--- the records are read, and their answers are so many deeds
+-- the records are read, and their answers are as many deeds
 abbrev pub Comes : {S T : Type 0} → Ghosts S → Held S → Held S → Result T CommandFault → Traffic → Traffic → Type 0
 Comes g first last r was now = (deeds : List Deed) × ComesOfReplay r deeds was now × AreDone g deeds first last
 

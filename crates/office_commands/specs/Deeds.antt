@@ -67,7 +67,7 @@ abbrev pub deeds_of_records : List DeskRequest → List (List ℕ) → List Deed
 deeds_of_records (item ∷ items) (text ∷ texts) = answers item.day item.bytes text ∷ deeds_of_records items texts
 deeds_of_records _ _ = []
 
--- what was heard over each connection, as a record of that day; one that was lost is none
+-- what was heard over each connection, as a record of that day; one that was lost has none
 abbrev pub records_of_connections : Date → List Connection → List DeskRequest
 records_of_connections day [] = []
 records_of_connections day (served bytes item answer whole ∷ more) = record { day = day; bytes = bytes } ∷ records_of_connections day more

@@ -66,7 +66,7 @@ IsUnfound alone task upshot =
 abbrev pub IsUnopened : {T : Type 0} → Upshot T → Type 0
 IsUnopened upshot = IsErrAnd upshot.result (λ fault. IsUnopenable fault × (is_sought fault ≡ false) × (upshot.now ≡ upshot.was))
 
--- the task is done so with an open office, but the store could not be closed, which is what is told, however the task ended
+-- the task is done so with an open office, but the store could not be closed, which is what is reported, however the task ended
 pub record IsUnclosed {D T : Type 0} (g : disk.Ghosts D) (old : Held (FileStore D g)) (task : Task) (upshot : Upshot T) : Type 0 where
   pub failed : IsErrAnd upshot.result IsUnclosable
   pub did : Result T CommandFault

@@ -48,7 +48,7 @@ reads_input (Ask day) = true
 reads_input (Replay policy) = true
 reads_input (Serve day port count) = false
 
--- only of connections the log is told
+-- only connections are logged
 abbrev pub writes_log : {P : Type 0} → Work P → Bool
 writes_log (Policy policy) = false
 writes_log (Ask day) = false
@@ -120,8 +120,8 @@ ReplaysInPart (Failed Device (Some Output)) texts rest was now = PrintsAllOrBegi
 ReplaysInPart (Failed Memory None) texts rest was now = PrintsAllOrBut texts was now
 ReplaysInPart fault texts rest was now = ⊥
 
--- All that the input gives are records, to its end; or what follows them is none, and its number, from 1, is told. The records of the answers
--- are written. Where a device or memory fails, that was so up to some record.
+-- All that the input gives are records, to its end; or what follows them is no record, and the fault has its number, from 1. The records of the
+-- answers are written. Where a device or memory fails, that was so up to some record.
 abbrev pub ComesOfReplay : {T : Type 0} → Result T CommandFault → List Deed → Traffic → Traffic → Type 0
 ComesOfReplay (Ok _) deeds was now =
     (items : List DeskRequest) × (texts : List (List ℕ)) × AreAnsweredBy items texts [] was now × (deeds ≡ deeds_of_records items texts)
@@ -148,11 +148,11 @@ ReplaysAfter (Some policy) result deeds was now =
 abbrev pub listening_text : ℕ → List ℕ
 listening_text port = codes "listening " ++ (decimal port ++ 10 ∷ [])
 
--- the port that is told is the one that was asked for, and any where that is 0
+-- the port that is printed is the one that was asked for, and any where that is 0
 abbrev pub IsPortFor : ℕ → ℕ → Type 0
 IsPortFor port told = (told ≤ 65_535) × (port ≢ 0 → told ≡ port)
 
--- so many connections were served, or, where that fails, fewer
+-- this number of connections was served, or, where that fails, fewer
 abbrev pub AreServedFor : {T : Type 0} → Result T CommandFault → ℕ → List Connection → Type 0
 AreServedFor (Ok _) count served = length served ≡ count
 AreServedFor (Err _) count served = length served < count
@@ -173,8 +173,9 @@ IsServedItsOwn day listening.lost = ⊤
 abbrev pub IsLogOf : {T E : Type 0} → Date → Result T E → ℕ → List Connection → Log → Log → Type 0
 IsLogOf day result count connections was now = AllByRecursion (IsServedItsOwn day) connections × IsLogged (all_lines result count connections) was now
 
--- The port is told, and then so many connections are served on that day, one after the other, of which the log is told. Where the port can't be had, nothing
--- is written; where it can't be told, a beginning of the line; and no connection is served. Where one can't be accepted, those before it were served.
+-- The port is printed, and then that number of connections is served on that day, one after the other; they are logged. Where the port can't be had,
+-- nothing is written; where it can't be printed, a beginning of the line; and no connection is served. Where one can't be accepted, those before it were
+-- served.
 abbrev pub Listens : {T : Type 0} → Listening → Result T CommandFault → List Deed → Said → Said → Type 0
 Listens desk result deeds was now =
     (IsErrAnd result IsUnheard × (deeds ≡ []) × (now ≡ was))

@@ -45,7 +45,7 @@ ComesOfNamed {F} reads unread ComesFrom = unread ⊎ ((file : F) × ComesFrom (r
 
 -- ---- an install
 
--- the fault is printed, and why is to be told; or the output or memory fails
+-- the fault is printed, and why is left to print to standard error; or the output or memory fails
 abbrev pub SaysRefused : RefusedPolicy → Result Done CommandFault → Traffic → Traffic → Type 0
 SaysRefused refused (Ok done) was now =
     (option_map string_bytes done.reason ≡ Some (string_bytes refused.reason)) × (done.ending ≡ Refused) × WritesText (bad_policy_text refused.fault) was now

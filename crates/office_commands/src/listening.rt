@@ -24,7 +24,7 @@ use std::io::{Error, ErrorKind, Write};
 use std::net::{Ipv4Addr, TcpListener};
 use std::rt::HostRuntime;
 
-/// A listening socket, and the port that is told.
+/// A listening socket, and the port that is printed.
 #[derive(Drop)]
 struct Desk {
     listener: TcpListener,
@@ -55,7 +55,7 @@ fn unaccepted(error: Error) -> CommandFault
     failed_by(device_failure(&error), Cause::Accept(error))
 }
 
-/// The port that is told: the one that was asked for, or, where that is 0, the one that the machine
+/// The port that is printed: the one that was asked for, or, where that is 0, the one that the machine
 /// picked.
 fn port_told(asked: u16, picked: u16) -> u16
     ensures { IsPortFor asked result }
@@ -107,7 +107,7 @@ fn say_listening<O: Write>(
     }
 }
 
-/// Serves that number of connections on that day, one after the other, and tells the log where requests fail.
+/// Serves that number of connections on that day, one after the other, and logs where requests fail.
 fn serve_sockets<S: Alter, E: Write>(
     alloc: Global,
     office: &mut Office<S>,
@@ -152,8 +152,8 @@ fn serve_office<S: Alter, O: Write, E: Write>(
     }
 }
 
-/// Takes the port, and then serves that number of connections there on that day, and tells the log where
-/// requests fail. Where the port can't be had, nothing is said or served.
+/// Takes the port, and then serves that number of connections there on that day, and logs where requests
+/// fail. Where the port can't be had, nothing is said or served.
 pub fn serve_at<S: Alter, O: Write, E: Write>(
     rt: &HostRuntime,
     office: &mut Office<S>,

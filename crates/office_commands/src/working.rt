@@ -37,7 +37,7 @@ fn desk_failure(fault: DeskFault) -> CommandFault
     }
 }
 
-/// Installs a policy, in place of the one before: all of it, or nothing.
+/// Installs a policy instead of the one before: all of it, or nothing.
 pub fn install_policy<S: Alter>(
     alloc: Global,
     office: &mut Office<S>,

@@ -34,7 +34,7 @@ message_of Device = failure_text failures.Device
 abbrev pub bad_record_text : ℕ → List ℕ
 bad_record_text index = codes "record " ++ decimal index ++ 10 ∷ []
 
--- what standard error is told: a line, and of a policy that is refused also why
+-- what is printed to standard error: a line, and of a policy that is refused also why
 abbrev pub command_fault_text : CommandFault → List ℕ
 command_fault_text (Policy refused) = bad_policy_text refused.fault ++ string_bytes refused.reason
 command_fault_text (BadRecord index) = bad_record_text index
@@ -46,7 +46,7 @@ ending_of (Policy fault) = endings.Refused
 ending_of (BadRecord index) = endings.Refused
 ending_of (Failed fault cause) = endings.Failed
 
--- the command ends well, and standard error is told nothing
+-- the command ends well, and nothing is printed to standard error
 abbrev pub IsQuiet : Done → Type 0
 IsQuiet done = (done.reason ≡ None) × (done.ending ≡ endings.Accepted)
 

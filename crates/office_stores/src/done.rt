@@ -4,8 +4,8 @@ ghost use Rattle.office_stores.specs.Texts.{IsQuiet};
 
 use commands::Ending;
 
-/// How a command that came to its end ends, and what standard error is to be told: why the answer is no,
-/// where it is, in lines with their ends.
+/// How a command that came to its end ends, and what is to be printed to standard error: why the answer is
+/// no, where it is, in lines with their ends.
 #[derive(Debug, Drop)]
 pub struct Done {
     pub reason: Option<String>,
@@ -13,7 +13,7 @@ pub struct Done {
 }
 
 impl Done {
-    /// It ends well, and there is nothing to tell.
+    /// It ends well, and there is nothing to print.
     pub fn quiet() -> Done
         ensures { IsQuiet result }
     {

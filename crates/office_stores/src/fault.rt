@@ -96,7 +96,8 @@ impl fmt::Display for Cause {
 pub enum CommandFault {
     /// The policy that is to be installed before a replay is refused.
     Policy(RefusedPolicy),
-    /// The record with this number, from 1, is none. Those before it are answered.
+    /// What comes as the record of this number, from 1, is malformed, or one more than there may be. Those before
+    /// it are answered.
     BadRecord {
         index: u64,
     },
@@ -152,7 +153,7 @@ impl CommandFault {
         }
     }
 
-    /// How the program ends, once standard error was told.
+    /// How the program ends, once the line was printed to standard error.
     pub fn ending(&self) -> Ending
         ensures { result ≡ ending_of self.now }
     {

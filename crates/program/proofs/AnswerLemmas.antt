@@ -51,7 +51,7 @@ module _ {O : Type 0} (w : Writes O) (IsSaid : Outcome → Type 0) (result : Res
   answers (Ok outcome) says none is = printed outcome says is
   answers (Err stopped) says none is = unanswered stopped none is.0 (ap (counted_seen w) is.1)
 
--- what is told of words that ask for nothing is a text that refuses them, or that there was no memory to read them
+-- what is said of words that ask for nothing is a text that refuses them, or that there was no memory to read them
 pub use_refused : {E : Type 0} (fault : UseFault) (was now : Stream E) (ending : Ending) → TellsOfUse fault was now ending → (text : List ℕ) × Refuses text was now ending
 use_refused (uses.Use reason) was now ending told = (string_bytes reason, inl told)
 use_refused uses.Memory was now ending told = ([], inr told)

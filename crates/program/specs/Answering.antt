@@ -60,7 +60,7 @@ IsUnanswered (Store fault) = ⊥
 
 -- ---- on standard output
 
--- the text comes after what the output held, and what is left to do is to tell the reason and to end so; or the output fails, and has a beginning of
+-- the text comes after what the output held, and what is left to do is to print the reason to standard error and to end so; or the output fails, and has a beginning of
 -- the text
 abbrev pub IsPrinted : {O : Type 0} → Outcome → Result Done Stopped → Stream O → Stream O → Type 0
 IsPrinted outcome (Ok done) was now =

@@ -1,4 +1,4 @@
--- What a run does for each subcommand, what it tells standard error, and how it ends. `was` is what is seen of the three streams before the run and
+-- What a run does for each subcommand, what it prints to standard error, and how it ends. `was` is what is seen of the three streams before the run and
 -- `now` after it; `OnStore` says what comes of a command on a store, and `alone` that no store was opened.
 use Rattle.std.specs.Prelude.{◌≡◌, ◌⊎◌, ℕ, Bool, false, List, Option, None, Some, IfSome, Result, Ok, Err, codes, is_some, option_map, string_bytes, unwrap_or}
 use Rattle.std.specs.Str.{bytes_eq}
@@ -88,7 +88,7 @@ abbrev pub reads_input : Line → Bool
 reads_input (Check file) = bytes_eq file.now (codes "-")
 reads_input line = unwrap_or (option_map (λ asked. work_reads_input asked.work) (work_of line)) false
 
--- standard error is told of the connections that are served, and of nothing else as a line is done
+-- of the connections that are served lines are printed to standard error, and of nothing else as a line is done
 abbrev pub writes_log : Line → Bool
 writes_log line = unwrap_or (option_map (λ asked. work_writes_log asked.work) (work_of line)) false
 
@@ -97,12 +97,12 @@ is_on_store line = is_some (work_of line)
 
 -- ---- a run
 
--- standard error is told why the answer is what it is, where there is a reason; or why the run fails
+-- why the answer is what it is is printed to standard error, where there is a reason; or why the run fails
 abbrev pub IsTold : {E : Type 0} → Result Done Stopped → Stream E → Stream E → Ending → Type 0
 IsTold (Ok done) was now ending = TellsWhy (option_map string_bytes done.reason) done.ending was now ending
 IsTold (Err stopped) was now ending = TellsOf stopped was now ending
 
--- What the line asks for is done with this result: standard error is as it was, or told of connections that are served, and then told of the result.
+-- What the line asks for is done with this result: standard error is as it was, or has lines on connections that are served, and then gets the result.
 pub record Comes {R O E : Type 0} (OnStore : CommandOn) (alone : Type 0) (line : Line) (run : Course R O (Counted E)) : Type 0 where
   pub result : Result Done Stopped
   pub logged : Stream (Counted E)

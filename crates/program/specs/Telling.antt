@@ -1,4 +1,4 @@
--- What standard error is told, and how the program ends. `was` is standard error before and `now` the same after.
+-- What is printed to standard error, and how the program ends. `was` is standard error before and `now` the same after.
 use Rattle.std.specs.Prelude.{◌≡◌, ◌⊎◌, ◌++◌, ◌∷◌, [], ℕ, List, Option, None, Some, codes, decimal, string_bytes}
 use Rattle.std.specs.Io.KnownBytes.{Appends}
 use Rattle.std.specs.IoError.{error_kind}
@@ -45,7 +45,7 @@ TellsWhy (Some reason) end was now ending = TellsPerson reason end was now endin
 
 -- ---- why a run fails
 
--- the line that is told first
+-- the line that is printed first
 abbrev pub line_told : Stopped → List ℕ
 line_told (Unread trouble) = message_of (failure_of_trouble trouble)
 line_told (Folder (folders.Device trouble)) = message_of Device
@@ -64,7 +64,7 @@ ending_told (Store fault) = ending_of fault
 abbrev pub TellsOf : {E : Type 0} → Stopped → Stream E → Stream E → Ending → Type 0
 TellsOf stopped was now ending = TellsFirst (line_told stopped) (ending_told stopped) was now ending ⊎ TellsMemory was now ending
 
--- what was tried, as a person is told it
+-- what was tried, in words for a person
 abbrev pub tried_text : Tried → List ℕ
 tried_text (tried.Read file) = codes "read " ++ printed_text file.now
 tried_text (tried.Look store) = codes "look at " ++ printed_text store.now

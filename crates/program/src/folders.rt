@@ -20,7 +20,7 @@ fn ending_by(is_done: bool) -> Ending
     }
 }
 
-/// What is to be printed and told of what was said.
+/// What is to be printed to standard output and to standard error of what was said.
 fn outcome_of(said: Said) -> Outcome
     ensures { IsOutcomeOf said result }
 {

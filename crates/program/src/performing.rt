@@ -23,7 +23,7 @@ use std::io::{Read, Write};
 use std::rt::HostRuntime;
 use streams::write_text;
 
-/// Prints what is said, where there is something to say. What is left is to tell standard error why.
+/// Prints what is said, where there is something to say. What is left is to print to standard error why.
 fn say<O: Write>(said: Result<Outcome, Stopped>, output: &mut Counted<O>) -> Result<Done, Stopped>
     ensures { MatchResult said
         (λ outcome. IsPrinted outcome result

@@ -31,7 +31,7 @@ fn last_errors<R, O, E>(streams: &Streams<R, O, E>) -> LastErrors {
     }
 }
 
-/// Does what the line asks for, and tells standard error why the answer is what it is, or why the run
+/// Does what the line asks for, and prints to standard error why the answer is what it is, or why the run
 /// fails.
 fn run_line<S: Start, R: Read, O: Write, E: Write>(
     rt: &HostRuntime,

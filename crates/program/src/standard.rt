@@ -2,8 +2,8 @@
 
 use desk_devices::Counted;
 
-/// The three standard streams of a run. Their failures are counted, so that standard error can be told why one
-/// of the first two failed, and that a line of `serve` is dropped only where standard error fails.
+/// The three standard streams of a run. Their failures are counted, so that standard error can say why one of
+/// the first two failed, and that a line of `serve` is dropped only where standard error fails.
 #[derive(Drop)]
 pub struct Streams<R, O, E> {
     pub input: Counted<R>,

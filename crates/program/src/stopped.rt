@@ -47,7 +47,7 @@ impl Stopped {
         String::from_str(alloc, line)
     }
 
-    /// How the program ends, once standard error was told.
+    /// How the program ends, once the lines were printed to standard error.
     pub fn ending(&self) -> Ending
         ensures { result ≡ ending_told self.now }
     {

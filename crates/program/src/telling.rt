@@ -24,7 +24,7 @@ pub fn tell<E: Write>(text: &str, ending: Ending, error: &mut E) -> Ending
     }
 }
 
-/// Tells standard error why the answer is what it is, where there is something to tell, and ends so.
+/// Prints to standard error why the answer is what it is, where there is something to print, and ends so.
 pub fn tell_why<E: Write>(reason: &Option<String>, ending: Ending, error: &mut E) -> Ending
     ensures { TellsWhy (option_map string_bytes reason.now) ending
         (writer_seen E.Write error.old) (writer_seen E.Write error.new) result }
@@ -60,7 +60,7 @@ const NOT_UTF8: &str = "a word is not UTF-8: give names of files and folders in 
 /// out.
 pub fn refuse_words<E: Write>(why: &Error, error: &mut E) -> Ending
     // A word that is no text is a fault of use, and whatever else the words failed for a failure.
-    // Standard error is told which.
+    // Standard error says which.
     ensures { let kind = error_kind why.now in TellsPerson (unread_text kind) (refusal_ending kind)
         (writer_seen E.Write error.old) (writer_seen E.Write error.new) result }
 {

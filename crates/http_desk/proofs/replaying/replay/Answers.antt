@@ -18,7 +18,7 @@ returns-in_default-from_slice-clause-replayed g c =
 
 pub returns-in-Err-clause-replayed : goal.returns-in-Err-clause-replayed
 returns-in-Err-clause-replayed g c =
-    stopped_by g.S.Store _ _ _ _ _ _ c.behind.result _ c.behind.ensures (unwritten_stop g.S.Store _ _ _ _ _ _ _ _ c.records.pending.items c.in-Whole.rest.now c.records.count (record { day = c.in-Whole.day; bytes = c.in-Whole.bytes.now }) c.in-Err.unwritten (Unit {0})
+    stopped_by g.S.Store _ _ _ _ _ _ c.after.result _ c.after.ensures (unwritten_stop g.S.Store _ _ _ _ _ _ _ _ c.records.pending.items c.in-Whole.rest.now c.records.count (record { day = c.in-Whole.day; bytes = c.in-Whole.bytes.now }) c.in-Err.unwritten (Unit {0})
     c.records.invariant.progress c.in-Whole.ensures.0 (sym c.deref.ensures.value ∙ c.in-Whole.ensures.1) c.in-Whole.ensures.2 c.in-Err.ensures.answered)
 
 pub records-preserved-in-Whole : goal.records-preserved-in-Whole
