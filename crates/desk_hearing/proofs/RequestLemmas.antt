@@ -7,11 +7,11 @@ use Rattle.desk_hearing.proofs.JudgingLemmas.{asked_route}
 -- ---- what is heard is a request
 
 heard_body : (caller : Option (List ℕ)) (question : Question) (body : List ℕ) (heard : HeardValue) → HearsBody caller question body (Ok heard)
-    → BodyAsks question body heard.ask × (heard.bag ≡ bag_in heard.ask body) × (heard.caller ≡ caller_text caller)
+    → BodyAsks question body heard.request × (heard.bag ≡ bag_in heard.request body) × (heard.caller ≡ caller_text caller)
 heard_body caller question body heard (inl h) =
     let e = h.2 in
     let same : heard ≡ heard_from caller h.0 body = cc in
-    let ask = ap (λ v. v.ask) same in
+    let ask = ap (λ v. v.request) same in
     (subst (BodyAsks question body) (sym ask) h.1, ap (λ v. v.bag) same ∙ ap (λ a. bag_in a body) (sym ask), ap (λ v. v.caller) same)
 heard_body caller question body heard (inr h) = absurd (let e = h.1 in cc)
 
@@ -79,12 +79,12 @@ heard_spells input heard h =
 
 -- ---- a request is heard
 
-spelled_body : (caller : Option (List ℕ)) (question : Question) (body following : List ℕ) (count : ℕ) (heard : HeardValue) → length body ≡ count → BodyAsks question body heard.ask → heard.bag ≡ bag_in heard.ask body → heard.caller ≡ caller_text caller
+spelled_body : (caller : Option (List ℕ)) (question : Question) (body following : List ℕ) (count : ℕ) (heard : HeardValue) → length body ≡ count → BodyAsks question body heard.request → heard.bag ≡ bag_in heard.request body → heard.caller ≡ caller_text caller
     → HearsRest caller question count (body ++ following) (Ok heard)
 spelled_body caller question body following count heard e asked bag same =
     let fits : count ≤ length (body ++ following) = (let l = length-append body following in omega arith) in
     let part : body ≡ take count (body ++ following) = sym (take-append_seam body following) ∙ ap (λ n. take n (body ++ following)) e in
-    inl (fits, subst (λ l. HearsBody caller question l (Ok heard)) part (inl (heard.ask, asked, ap (λ name. Ok (record { caller = name; ask = heard.ask; bag = heard.bag })) same ∙ ap (λ b. Ok (record { caller = caller_text caller; ask = heard.ask; bag = b })) bag)))
+    inl (fits, subst (λ l. HearsBody caller question l (Ok heard)) part (inl (heard.request, asked, ap (λ name. Ok (record { caller = name; request = heard.request; bag = heard.bag })) same ∙ ap (λ b. Ok (record { caller = caller_text caller; request = heard.request; bag = b })) bag)))
 
 pub spelled_hears : (input : List ℕ) (heard : HeardValue) → SpellsRequest input heard → Hears input (Ok heard)
 unfolding Hears

@@ -61,7 +61,7 @@ bag_in ask body = []
 -- who asks, by name or by the empty text, and what is asked, with which bag
 pub record HeardValue : Type 0 where
   pub caller : List ℕ
-  pub ask : OwnedRequest
+  pub request : OwnedRequest
   pub bag : List ℕ
 
 abbrev pub caller_text : Option (List ℕ) → List ℕ
@@ -70,7 +70,7 @@ caller_text (Some name) = name
 
 -- this caller asks this, with this body
 abbrev pub heard_from : Option (List ℕ) → OwnedRequest → List ℕ → HeardValue
-heard_from caller ask body = record { caller = caller_text caller; ask = ask; bag = bag_in ask body }
+heard_from caller ask body = record { caller = caller_text caller; request = ask; bag = bag_in ask body }
 
 -- what a request of the office asks, and with which bag
 abbrev pub ask_and_bag : Request → OwnedRequest × List ℕ

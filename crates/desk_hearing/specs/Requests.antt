@@ -23,5 +23,5 @@ pub record SpellsRequest (input : List ℕ) (heard : HeardValue) : Type 0 where
   pub question : Question
   pub query : QueryAsks route (query_part contents.target) question
   pub body_length : length body ≡ contents.body_length
-  pub asked : BodyAsks question body heard.ask
-  pub bag : heard.bag ≡ bag_in heard.ask body
+  pub asked : BodyAsks question body heard.request
+  pub bag : heard.bag ≡ bag_in heard.request body

@@ -11,7 +11,7 @@ use std::marker::Model;
 #[derive(Drop)]
 pub struct Heard {
     pub(crate) caller: Option<OwnedName>,
-    pub(crate) ask: OwnedRequest,
+    pub(crate) request: OwnedRequest,
     /// The bytes that were read, of which the body is what follows the head.
     pub(crate) bytes: Vec<u8>,
     /// Where the body begins.
@@ -24,7 +24,7 @@ impl Model for Heard {
 
     ghost Value = { HeardValue };
 
-    ghost view = { λ heard. heard_from heard.caller heard.ask (drop heard.body heard.bytes.items) };
+    ghost view = { λ heard. heard_from heard.caller heard.request (drop heard.body heard.bytes.items) };
 
     ghost invariant = { λ heard. heard.body ≤ length heard.bytes.items };
 }
@@ -42,8 +42,8 @@ impl Heard {
 
     /// What is asked. It lends the bytes that were heard, and takes no memory.
     pub fn request(&self) -> Request<'_>
-        ensures { ask_and_bag result ≡ (self.now.ask, self.now.bag) }
+        ensures { ask_and_bag result ≡ (self.now.request, self.now.bag) }
     {
-        self.ask.lend(&self.bytes[self.body..])
+        self.request.lend(&self.bytes[self.body..])
     }
 }

@@ -46,7 +46,7 @@ pub fn hear_request<R: Read>(
     bytes.truncate(whole);
     Ok(Heard {
         caller: announced.caller,
-        ask,
+        request: ask,
         bytes,
         body: end,
     })

@@ -20,7 +20,7 @@ use Rattle.desk_log.specs.declared.note.OfficeNote.{OfficeNote}
 pub record IsItemOf (day : Date) (heard : HeardValue) (item : Item) : Type 0 where
   pub on_day : item.0 ≡ day
   pub caller : item.1.now ≡ heard.caller
-  pub asked : ask_and_bag item.2 ≡ (heard.ask, heard.bag)
+  pub asked : ask_and_bag item.2 ≡ (heard.request, heard.bag)
 
 -- the office serves what was heard, with this answer: as one turn of a run does, on an honest disk; what a crash may leave then is the
 -- office before or after it

@@ -1,4 +1,4 @@
--- What is said of the bytes at a record's place. The format is Depot's own.
+-- What is said of the bytes where a record may begin. The format is Depot's own.
 use Rattle.std.specs.Prelude.{◌≡◌, ℕ, List, ◌++◌, Option, Some, None}
 use Rattle.jiff.specs.Types.{Date}
 use Rattle.http_desk.specs.Records.{IsRecord, record_text, WantsMore, CanNotBegin}

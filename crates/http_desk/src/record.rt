@@ -11,7 +11,7 @@ use crate::digits::read_length;
 use office_core::Day;
 use std::str;
 
-/// What is at a record's place.
+/// What is where a record may begin.
 #[derive(Clone, Copy, Debug, PartialEq, Eq)]
 pub enum Found<'a> {
     /// A record.
@@ -44,7 +44,7 @@ fn read_day(text: &[u8]) -> Option<Day>
     }
 }
 
-/// Whether a line has the word and the blanks of a record's line at their places.
+/// Whether a line has the word and the blanks of a record's line at their positions.
 fn has_marks(line: &[u8]) -> bool
     ensures { result ≡ has_marks line.now }
 {
@@ -107,7 +107,7 @@ fn after_line<'a>(line: &'a [u8], body: &'a [u8]) -> Found<'a>
     }
 }
 
-/// What is at a record's place: a record and what follows it; a beginning, where more bytes are
+/// What is where a record may begin: a record and what follows it; a beginning, where more bytes are
 /// wanted; or what no bytes that follow make a record. A line is judged once its line feed has come,
 /// or once it is longer than a record's line can be.
 pub fn record_at(bytes: &[u8]) -> Found<'_>

@@ -21,9 +21,9 @@ const MAX_RECORDS: u64 = 1_000_000;
 /// Why a replay did not come to the end of its input.
 #[derive(Clone, Copy, Debug, PartialEq, Eq)]
 pub enum ReplayStop {
-    /// What is at a record's place is no record, or follows as many as there may be.
+    /// What is where a record may begin is no record, or follows as many as there may be.
     BadRecord {
-        /// The record's place, counted from 1.
+        /// The record's number, counted from 1.
         index: u64,
     },
     /// The reader failed.

@@ -56,17 +56,17 @@ is_refused had read refused is it refuses = inr (it.0, it.1, refused_policy refu
 pub says_refused : (r : Result Done CommandFault) (refused : RefusedPolicy) (was now : Traffic) → OnOk r (Appends was.output now.output (bad_policy_text refused.fault))
     → IsCutShort (bad_policy_text refused.fault) was.output now.output → IfOk r (λ done. option_map string_bytes done.reason ≡ Some (string_bytes refused.reason)) → IfOk r (λ done. done.ending ≡ Refused)
     → IfErr r IsUnsaid → SaysRefused refused r was now
-says_refused (Ok done) refused was now printed front reason ending failed = (reason, ending, printed)
-says_refused (Err fault) refused was now printed front reason ending failed = (failed, front)
+says_refused (Ok done) refused was now printed written reason ending failed = (reason, ending, printed)
+says_refused (Err fault) refused was now printed written reason ending failed = (failed, written)
 
 pub says_installed : (ran : Result Done CommandFault) (x : Done) (r : Result Done CommandFault) (policy : PolicyValue) (was now : Traffic) → ran ≡ Ok x → OnOk r (Appends was.output now.output (installed_text policy))
     → IsCutShort (installed_text policy) was.output now.output → IfOk r IsQuiet → IfErr r IsUnsaid → SaysInstalled policy ran r was now
-says_installed ran x r policy was now is said front quiet failed = subst (λ (i : Result Done CommandFault). SaysInstalled policy i r was now) (sym is) (go r said front quiet failed)
+says_installed ran x r policy was now is said written quiet failed = subst (λ (i : Result Done CommandFault). SaysInstalled policy i r was now) (sym is) (go r said written quiet failed)
   where
     go : (r : Result Done CommandFault) → OnOk r (Appends was.output now.output (installed_text policy)) → IsCutShort (installed_text policy) was.output now.output → IfOk r IsQuiet → IfErr r IsUnsaid
         → SaysInstalled policy (Ok x) r was now
-    go (Ok done) said front quiet failed = (quiet, said)
-    go (Err fault) said front quiet failed = (failed, front)
+    go (Ok done) said written quiet failed = (quiet, said)
+    go (Err fault) said written quiet failed = (failed, written)
 
 pub says_nothing : (ran : Result Done CommandFault) (fault : CommandFault) (policy : PolicyValue) (was : Traffic) → ran ≡ Err fault → SaysInstalled policy ran (Err fault) was was
 says_nothing ran fault policy was is = subst (λ (i : Result Done CommandFault). SaysInstalled policy i (Err fault) was was) (sym is) (refl, refl)

@@ -97,7 +97,7 @@ fn say_listening<O: Write>(
     ensures said { OnOk result
         (Appends (O.contents (device_of out.old)) (O.contents (device_of out.new))
         (listening_text port)) }
-    ensures front { IsCutShort (listening_text port) (O.contents (device_of out.old))
+    ensures written { IsCutShort (listening_text port) (O.contents (device_of out.old))
         (O.contents (device_of out.new)) }
     ensures unsaid { IfErr result IsUnsaid }
 {

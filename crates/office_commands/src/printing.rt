@@ -33,7 +33,7 @@ pub fn flush<O: Write>(out: &mut Counted<O>) -> Result<Done, CommandFault>
 pub fn print<O: Write>(text: &str, out: &mut Counted<O>) -> Result<Done, CommandFault>
     ensures whole { OnOk result
         (Appends (O.contents (device_of out.old)) (O.contents (device_of out.new)) text.now) }
-    ensures front { IsCutShort text.now (O.contents (device_of out.old))
+    ensures written { IsCutShort text.now (O.contents (device_of out.old))
         (O.contents (device_of out.new)) }
     ensures quiet { IfOk result IsQuiet }
     ensures unsaid { IfErr result IsUnsaid }

@@ -37,7 +37,7 @@ fn say_installed<O: Write>(
     ensures said { OnOk result
         (Appends (O.contents (device_of out.old)) (O.contents (device_of out.new))
         (installed_text policy.now)) }
-    ensures front { IsCutShort (installed_text policy.now) (O.contents (device_of out.old))
+    ensures written { IsCutShort (installed_text policy.now) (O.contents (device_of out.old))
         (O.contents (device_of out.new)) }
     ensures quiet { IfOk result IsQuiet }
     ensures unsaid { IfErr result IsUnsaid }
@@ -57,7 +57,7 @@ fn say_refused<O: Write>(
     ensures printed { OnOk result
         (Appends (O.contents (device_of out.old)) (O.contents (device_of out.new))
         (bad_policy_text refused.fault)) }
-    ensures front { IsCutShort (bad_policy_text refused.fault) (O.contents (device_of out.old))
+    ensures written { IsCutShort (bad_policy_text refused.fault) (O.contents (device_of out.old))
         (O.contents (device_of out.new)) }
     ensures reason { IfOk result (λ done.
         option_map string_bytes done.reason ≡ Some (string_bytes refused.reason)) }

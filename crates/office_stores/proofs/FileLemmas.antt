@@ -140,9 +140,9 @@ made_in_memory (Ok o) made = made (memory_is_clean o)
 pub opened_from : {D E : Type 0} (g : Disks D) (first : Image) (makes is_new : Bool) (conn : Held (FileStore D g)) (r : Result (Held (FileStore D g)) E) → (is_new ≡ true → makes ≡ true)
     → (HasCleanDisk (file_state conn) → IsOpened conn) → (HasCleanDisk (file_state conn) → FindsIn first (file_state conn)) → IfOk r (IsOfficeOver over_files conn is_new)
     → IfOk r (IsOpenedFrom g first makes)
-opened_from g first makes is_new conn (Err e) asked opened found is = tt
-opened_from {E = E} g first makes is_new conn (Ok office) asked opened found is = elim (cases_Bool is_new) [
-  | inl made ↦ opened_as_made {E = E} g (Ok office) first (file_state conn) makes (asked made) is.clean (is.made made) (λ more. absurd (is.empty made more)) opened found
+opened_from g first makes is_new conn (Err e) allowed opened found is = tt
+opened_from {E = E} g first makes is_new conn (Ok office) allowed opened found is = elim (cases_Bool is_new) [
+  | inl made ↦ opened_as_made {E = E} g (Ok office) first (file_state conn) makes (allowed made) is.clean (is.made made) (λ more. absurd (is.empty made more)) opened found
   | inr there ↦ opened_as_taken {E = E} g (Ok office) first (file_state conn) makes is.clean (is.goes_on there) (is.was_there there) opened found
 ]
 

@@ -188,7 +188,7 @@ fn take_office<S: Alter + Drop>(conn: Connection<S>) -> Result<Office<S>, Comman
 
 /// Whether the store is to be made: nothing is there, and that is asked for.
 fn is_to_be_made(rt: &HostRuntime, store: &str, makes: bool) -> Result<bool, CommandFault>
-    ensures asked { IfOk result (λ is_new. is_new ≡ true → makes ≡ true) }
+    ensures allowed { IfOk result (λ is_new. is_new ≡ true → makes ≡ true) }
     ensures failure { IfErr result IsUnopenable }
     ensures missing { IfErr result (λ fault. found_nothing fault ≡ true → makes ≡ false) }
 {

@@ -23,15 +23,15 @@ static SHORT: [&str; 6] = ["", "\n", "a\r\n\r", "a\n\r\r\n", "a\n \n", "\r\r\r"]
 #[test]
 fn ends_of_heads(rt: HostRuntime) {
     for (text, end) in &HEADS {
-        let place = find_head_end(text.as_bytes());
-        holds(&rt, place == HeadEnd::Found(*end), text);
+        let found = find_head_end(text.as_bytes());
+        holds(&rt, found == HeadEnd::Found(*end), text);
     }
     for text in &SHORT {
         holds(&rt, find_head_end(text.as_bytes()) == HeadEnd::Short, text);
     }
 }
 
-/// So many letters `a`, what follows them, and where the head of these bytes ends.
+/// A number of letters `a`, what follows them, and where the head of these bytes ends.
 static LONG: [(usize, &str, HeadEnd); 7] = [
     (8_191, "", HeadEnd::Short),
     (8_192, "", HeadEnd::TooLarge),
@@ -52,18 +52,18 @@ fn read_end_or_entry(alloc: Global, bytes: &[u8]) -> HeadEnd {
     }
 }
 
-/// Whether the head of the letters and their end has that place, and where it is read, too.
-fn is_placed(alloc: Global, letters: usize, end: &str, place: HeadEnd) -> Result<bool, AllocError> {
+/// Whether the head of the letters and what follows them ends there, and where it is read, too.
+fn ends_at(alloc: Global, letters: usize, end: &str, found: HeadEnd) -> Result<bool, AllocError> {
     let mut text = "a".repeat(alloc, letters)?;
     text.push_str(end)?;
     let bytes = text.as_bytes();
-    Ok(find_head_end(bytes) == place && read_end_or_entry(alloc, bytes) == place)
+    Ok(find_head_end(bytes) == found && read_end_or_entry(alloc, bytes) == found)
 }
 
 #[test]
 fn heads_of_8192_bytes(rt: HostRuntime) -> Result<(), AllocError> {
-    for (letters, end, place) in &LONG {
-        let is_so = is_placed(rt.alloc(), *letters, end, *place)?;
+    for (letters, end, found) in &LONG {
+        let is_so = ends_at(rt.alloc(), *letters, end, *found)?;
         assert!(rt; is_so, "{letters} letters");
     }
     Ok(())
@@ -131,7 +131,7 @@ static FILLED: [(Portion, u64, usize, Result<(), FillFault>, &str, u64); 6] = [
 ];
 
 #[test]
-fn bytes_behind_a_head(rt: HostRuntime) -> Result<(), Fail> {
+fn bytes_after_a_head(rt: HostRuntime) -> Result<(), Fail> {
     for (portion, calls, want, answer, text, failures) in &FILLED {
         let (result, bytes, failed) = fill_at(rt.alloc(), *portion, *calls, *want)?;
         assert!(rt; result == *answer);

@@ -1,4 +1,4 @@
-//! The calls of `http_desk`: what is at a record's place, and the records of answers.
+//! The calls of `http_desk`: what is where a record may begin, and the records of answers.
 
 use crate::tests::rows::holds;
 use http_desk::{Found, MAX_REQUEST, answer_record, record_at};

@@ -5,11 +5,13 @@ use desk_routes::{DeskRefusal, Method, PathPattern, Resource, Route, Routes, spl
 use std::test::*;
 
 #[test]
-fn finds_a_place(rt: HostRuntime) -> Result<(), Fail> {
+fn finds_a_resource(rt: HostRuntime) -> Result<(), Fail> {
     let routes = Routes::new(rt.alloc())?;
-    let place = routes.find("/deposits/12/files//a%20b").ok_or("no place")?;
-    assert!(rt; matches!(place.pattern(), PathPattern::File));
-    let Resource::File { deposit, path } = place else {
+    let resource = routes
+        .find("/deposits/12/files//a%20b")
+        .ok_or("no resource")?;
+    assert!(rt; matches!(resource.pattern(), PathPattern::File));
+    let Resource::File { deposit, path } = resource else {
         return Err(Fail::new("no file"));
     };
     assert!(rt; deposit == 12 && path.as_str() == "/a%20b");

@@ -10,7 +10,7 @@ returns-in_err-is_new-clause-unhad g c =
 
 pub returns-in-Ok-clause-opened : goal.returns-in-Ok-clause-opened
 returns-in-Ok-clause-opened g c =
-    opened_from _ _ c.args.makes c.in_ok-is_new.is_new c.in-Ok.conn c.office_of.result c.in_ok-is_new.ensures.asked c.in-Ok.ensures.opened c.in-Ok.ensures.found c.office_of.ensures.is
+    opened_from _ _ c.args.makes c.in_ok-is_new.is_new c.in-Ok.conn c.office_of.result c.in_ok-is_new.ensures.allowed c.in-Ok.ensures.opened c.in-Ok.ensures.found c.office_of.ensures.is
 
 pub returns-in-Ok-clause-unhad : goal.returns-in-Ok-clause-unhad
 returns-in-Ok-clause-unhad g c = unhad c.office_of.result _ c.args.makes c.office_of.ensures.failure c.office_of.ensures.not_sought
