@@ -50,3 +50,7 @@ carried_type (carries.Octets bytes) = OctetStream
 abbrev pub carried_bytes : CarriedContent → List ℕ
 carried_bytes (carries.Json text) = text.items
 carried_bytes (carries.Octets bytes) = bytes.now
+
+-- the response that carries this
+abbrev pub carrying_text : Status → List ℕ → CarriedContent → List ℕ
+carrying_text status allow content = head_text status (carried_type content) (length (carried_bytes content)) allow ++ carried_bytes content

@@ -1,7 +1,7 @@
 //! What a response carries.
 
-ghost use Rattle.std.specs.Prelude.{◌≡◌, ◌++◌, IfOk, length};
-ghost use Rattle.desk_answers.specs.Responses.{head_text, carried_type, carried_bytes};
+ghost use Rattle.std.specs.Prelude.{◌≡◌, IfOk};
+ghost use Rattle.desk_answers.specs.Responses.{carrying_text};
 
 use crate::head::{MediaType, response, response_around};
 use crate::status::Status;
@@ -21,9 +21,8 @@ pub(crate) fn content_bytes(
     allow: &str,
     content: Content<'_>,
 ) -> Result<Vec<u8>, AllocError>
-    ensures { IfOk result (λ bytes. bytes.items
-        ≡ head_text status (carried_type content.entry) (length (carried_bytes content.entry)) allow.now
-        ++ carried_bytes content.entry) }
+    ensures { IfOk result (λ bytes.
+        bytes.items ≡ carrying_text status allow.now content.entry) }
 {
     match content {
         Content::Json(text) => response_around(alloc, status, MediaType::Json, allow, text),

@@ -25,8 +25,8 @@ ghost use Rattle.desk_answers.specs.Messages.{IsResponse, named_value, response_
 /// method was wrong, and `Connection`, an empty line, and the body.
 pub fn responses()
     ensures answers { (answer : Answer) → length (body_of (content_of answer)) < 2 ^ 64
-        → IsResponse (answer_text answer) (status_of answer) (response_fields [] (content_of answer))
-        (body_of (content_of answer)) }
+        → IsResponse (answer_text answer) (status_of answer)
+        (response_fields [] (content_of answer)) (body_of (content_of answer)) }
     ensures refusals { (refusal : DeskRefusal) → IsResponse (refusal_text refusal)
         (desk_status refusal) (response_fields (allow_fields refusal) (json (desk_data refusal)))
         (body_of (json (desk_data refusal))) }

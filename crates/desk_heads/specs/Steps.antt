@@ -29,6 +29,9 @@ abbrev pub RefusalApplies : List ℕ → HeadRefusal → Type 0
 RefusalApplies front BadHead = IsHead front → ⊥
 RefusalApplies front refusal = (head : RequestHead) × SpellsHead front head × AppliesToHead head refusal
 
+abbrev pub HasNoRefusal : List ℕ → Type 0
+HasNoRefusal front = (refusal : HeadRefusal) → RefusalApplies front refusal → ⊥
+
 -- the step of hearing at which a refusal is found
 abbrev pub step_of : HeadRefusal → ℕ
 step_of BadHead = 1

@@ -4,7 +4,7 @@ ghost use Rattle.std.specs.Prelude.{◌≡◌, ◌≢◌, ◌↔◌, ◌<◌, �
 ghost use Rattle.desk_heads.specs.Bounds.{max_head};
 ghost use Rattle.desk_heads.specs.Ends.{IsHeadEnd, HasNoHead, head_at};
 ghost use Rattle.desk_heads.specs.Heads.{HeadContents, Judges};
-ghost use Rattle.desk_heads.specs.Steps.{RefusalApplies, AppliesFirst, SaysContents};
+ghost use Rattle.desk_heads.specs.Steps.{AppliesFirst, HasNoRefusal, SaysContents};
 ghost use Rattle.desk_heads.specs.declared.head_end.HeadEnd.TheVariants.{Short, TooLarge, Found};
 ghost use Rattle.desk_heads.specs.declared.refusal.HeadRefusal.{HeadRefusal};
 
@@ -43,5 +43,5 @@ pub fn first_refusal()
 /// A front is taken as saying something exactly where its head says that and no refusal applies.
 pub fn taken_heads()
     ensures { (front : List ℕ) (contents : HeadContents) → Judges front (Ok contents)
-        ↔ (SaysContents front contents × ((refusal : HeadRefusal) → RefusalApplies front refusal → ⊥)) }
+        ↔ (SaysContents front contents × HasNoRefusal front) }
 {}

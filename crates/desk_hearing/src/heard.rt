@@ -24,7 +24,8 @@ impl Model for Heard {
 
     ghost Value = { HeardValue };
 
-    ghost view = { λ heard. heard_from heard.caller heard.request (drop heard.body heard.bytes.items) };
+    ghost view = { λ heard.
+        heard_from heard.caller heard.request (drop heard.body heard.bytes.items) };
 
     ghost invariant = { λ heard. heard.body ≤ length heard.bytes.items };
 }

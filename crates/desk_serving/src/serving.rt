@@ -107,7 +107,8 @@ fn respond_noting<S: Alter, R: Read>(
     ensures served { result.0 ≡ Err (Unanswered.Memory true)
         → (given : List ℕ) × (answer : Answer)
         × Consumes (R.remaining (device_of reader.old)) (R.remaining (device_of reader.new)) given
-        × ServesNoted day given result.1 (state S.Store office.old) (state S.Store office.new) answer }
+        × ServesNoted day given result.1
+        (state S.Store office.old) (state S.Store office.new) answer }
     ensures not_served { result.0 ≡ Err (Unanswered.Memory false)
         → (office.new ≡ office.old) × (result.1 ≡ None) }
     ensures calm { result.0 ≢ Err Unanswered.Read
@@ -120,7 +121,8 @@ fn respond_noting<S: Alter, R: Read>(
     ensures whole_served { result.0 ≡ Err (Unanswered.Memory true)
         → IfSome (R.remaining (device_of reader.old)) (λ input.
         (answer : Answer)
-        × ServesNoted day input result.1 (state S.Store office.old) (state S.Store office.new) answer) }
+        × ServesNoted day input result.1
+        (state S.Store office.old) (state S.Store office.new) answer) }
 {
     match hear_request(alloc, routes, reader) {
         Ok(heard) => {
@@ -221,7 +223,8 @@ pub fn serve_with_routes<S: Alter, R: Read, W: Write>(
     ensures memory_done { result.0 ≡ Err (DeskFault.Memory true)
         → (given : List ℕ) × (answer : Answer)
         × Consumes (R.remaining (device_of reader.old)) (R.remaining (device_of reader.new)) given
-        × ServesNoted day given result.1 (state S.Store office.old) (state S.Store office.new) answer
+        × ServesNoted day given result.1
+        (state S.Store office.old) (state S.Store office.new) answer
         × (writer.new ≡ writer.old) }
     ensures memory { result.0 ≡ Err (DeskFault.Memory false)
         → (office.new ≡ office.old) × (writer.new ≡ writer.old) × (result.1 ≡ None) }
@@ -242,7 +245,8 @@ pub fn serve_with_routes<S: Alter, R: Read, W: Write>(
     ensures whole_memory_done { result.0 ≡ Err (DeskFault.Memory true)
         → IfSome (R.remaining (device_of reader.old)) (λ input.
         (answer : Answer)
-        × ServesNoted day input result.1 (state S.Store office.old) (state S.Store office.new) answer) }
+        × ServesNoted day input result.1
+        (state S.Store office.old) (state S.Store office.new) answer) }
     ensures calm_reader { result.0 ≢ Err DeskFault.Read
         → failures_of reader.new ≡ failures_of reader.old }
     ensures calm_writer { ((done : Bool) → result.0 ≢ Err (DeskFault.Write done))
