@@ -142,18 +142,18 @@ module _ {S : Type 0} (g : Ghosts S) (day : Date) where
   nothing : (old new : Held S) (held holds : Option (List ℕ)) (bytes : List ℕ) (note : Option OfficeNote) → new ≡ old → note ≡ None → IsWritten lost held holds → Came old new held holds bytes false false note
   nothing old new held holds bytes note same none written = record { connection = lost; after = same; whole_is = refl; done_is = refl; note_is = none; heard = tt; written = written }
 
-  by_office : (old new : Held S) (held holds : Option (List ℕ)) (whole : Bool) (bytes : List ℕ) (note : Option OfficeNote) (answer : Answer) (it : ServesNoted day bytes note (state g old) (state g new) answer)
+  by_office : (old new : Held S) (held holds : Option (List ℕ)) (whole : Bool) (bytes : List ℕ) (note : Option OfficeNote) (answer : Answer) (it : ServesNoted (record { day = day; bytes = bytes }) note (state g old) (state g new) answer)
       → IsWritten (served bytes it.0.2.item answer whole) held holds → Came old new held holds bytes whole true note
   by_office old new held holds whole bytes note answer it written =
       record { connection = served bytes it.0.2.item answer whole; after = (it.0.0, it.0.1, it.0.2, refl); whole_is = refl; done_is = refl; note_is = it.1; heard = refl; written = written }
 
-  whole : (old new : Held S) (held holds : Option (List ℕ)) (done : Bool) (bytes text : List ℕ) (note : Option OfficeNote) → IsNoted g (record { day = day; bytes = bytes }) (record { text = text; done = done }) note old new → Appends held holds text
+  whole : (old new : Held S) (held holds : Option (List ℕ)) (done : Bool) (bytes text : List ℕ) (note : Option OfficeNote) → IsNoted g (record { day = day; bytes = bytes }) (record { text = text; done = done; note = note }) old new → Appends held holds text
       → Came old new held holds bytes true done note
   whole old new held holds true bytes text note it appends = by_office old new held holds true bytes note it.0 it.1 (subst (Appends held holds) it.2 appends)
   whole old new held holds false bytes text note it appends =
       record { connection = refused bytes it.0; after = (it.1, it.2); whole_is = refl; done_is = refl; note_is = it.4; heard = refl; written = subst (Appends held holds) it.3 appends }
 
-  cut : (old new : Held S) (held holds : Option (List ℕ)) (done : Bool) (bytes text : List ℕ) (note : Option OfficeNote) → IsNoted g (record { day = day; bytes = bytes }) (record { text = text; done = done }) note old new → WritesBeginning held holds text
+  cut : (old new : Held S) (held holds : Option (List ℕ)) (done : Bool) (bytes text : List ℕ) (note : Option OfficeNote) → IsNoted g (record { day = day; bytes = bytes }) (record { text = text; done = done; note = note }) old new → WritesBeginning held holds text
       → Came old new held holds bytes false done note
   cut old new held holds true bytes text note it begins = by_office old new held holds false bytes note it.0 it.1 (subst (WritesBeginning held holds) it.2 begins)
   cut old new held holds false bytes text note it begins = nothing old new held holds bytes note it.2 it.4 (it.0, subst (WritesBeginning held holds) it.3 begins)
@@ -172,28 +172,28 @@ module _ {S : Type 0} (g : Ghosts S) (day : Date) where
     -- what was answered, and written of it, over some bytes
     abbrev pub Written : List ℕ → Type 0
     Written bytes =
-        (text : List ℕ) × (done : Bool) × IsNoted g (record { day = day; bytes = bytes }) (record { text = text; done = done }) note old new × Appends (contents (device_of writer)) (contents (device_of writer')) text
+        (text : List ℕ) × (done : Bool) × IsNoted g (record { day = day; bytes = bytes }) (record { text = text; done = done; note = note }) old new × Appends (contents (device_of writer)) (contents (device_of writer')) text
 
     abbrev pub Begun : Bool → List ℕ → Type 0
-    Begun done bytes = (text : List ℕ) × (count : ℕ) × IsNoted g (record { day = day; bytes = bytes }) (record { text = text; done = done }) note old new × (count < length text)
+    Begun done bytes = (text : List ℕ) × (count : ℕ) × IsNoted g (record { day = day; bytes = bytes }) (record { text = text; done = done; note = note }) old new × (count < length text)
         × Appends (contents (device_of writer)) (contents (device_of writer')) (take count text)
 
     abbrev pub Unwritten : List ℕ → Type 0
-    Unwritten bytes = (answer : Answer) × ServesNoted day bytes note (state g old) (state g new) answer
+    Unwritten bytes = (answer : Answer) × ServesNoted (record { day = day; bytes = bytes }) note (state g old) (state g new) answer
 
     abbrev pub Answers : Type 0
-    Answers = (given text : List ℕ) × (done : Bool) × Consumes reader reader' given × IsNoted g (record { day = day; bytes = given }) (record { text = text; done = done }) note old new
+    Answers = (given text : List ℕ) × (done : Bool) × Consumes reader reader' given × IsNoted g (record { day = day; bytes = given }) (record { text = text; done = done; note = note }) old new
         × Appends (contents (device_of writer)) (contents (device_of writer')) text × (Hears given (Err Truncated) → IsAtEnd reader')
 
     abbrev pub Fails : Type 0
     Fails = (given : List ℕ) × Consumes reader reader' given × Hears given (Err Truncated) × failed × (new ≡ old) × (writer' ≡ writer) × (note ≡ None)
 
     abbrev pub Stops : Bool → Type 0
-    Stops done = (given text : List ℕ) × (count : ℕ) × Consumes reader reader' given × IsNoted g (record { day = day; bytes = given }) (record { text = text; done = done }) note old new × (count < length text)
+    Stops done = (given text : List ℕ) × (count : ℕ) × Consumes reader reader' given × IsNoted g (record { day = day; bytes = given }) (record { text = text; done = done; note = note }) old new × (count < length text)
         × Appends (contents (device_of writer)) (contents (device_of writer')) (take count text) × failed' × (Hears given (Err Truncated) → IsAtEnd reader')
 
     abbrev pub Wants : Type 0
-    Wants = (given : List ℕ) × (answer : Answer) × Consumes reader reader' given × ServesNoted day given note (state g old) (state g new) answer × (writer' ≡ writer)
+    Wants = (given : List ℕ) × (answer : Answer) × Consumes reader reader' given × ServesNoted (record { day = day; bytes = given }) note (state g old) (state g new) answer × (writer' ≡ writer)
 
     pub told : {T : Type 0} (result : Result T DeskFault) → OnOk result Answers → (result ≡ Err Read → Fails) → ((done : Bool) → result ≡ Err (Write done) → Stops done)
         → (result ≡ Err (Memory true) → Wants) → (result ≡ Err (Memory false) → (new ≡ old) × (writer' ≡ writer) × (note ≡ None))

@@ -19,7 +19,9 @@ pub struct Patience {
 }
 
 impl Default for Patience {
-    ghost is_default = { λ p. (as_nanos p.talk ≡ 30_000_000_000) × (as_nanos p.rest ≡ 1_000_000_000) × (p.rest_bytes ≡ 16_777_216) };
+    ghost is_default = { λ p.
+        (as_nanos p.talk ≡ 30_000_000_000) × (as_nanos p.rest ≡ 1_000_000_000)
+        × (p.rest_bytes ≡ 16_777_216) };
 
     /// 30 seconds for a read or a write, 1 second for a read after the answer, and 16 MiB there.
     fn default() -> Patience {

@@ -58,13 +58,19 @@ IsAnswered g request reply old new =
 abbrev pub request_in : {day : Date} {heard : HeardValue} {old new : State} {answer : Answer} → IsHeardServed day heard old new answer → Request
 request_in it = it.item.2
 
-abbrev pub ServesNoted : Date → List ℕ → Option OfficeNote → State → State → Answer → Type 0
-ServesNoted day bytes note old new answer =
-    (serves : ServesBytes day bytes old new answer) × (note ≡ Some (note_of (request_in serves.2) answer))
+abbrev pub ServesNoted : DeskRequest → Option OfficeNote → State → State → Answer → Type 0
+ServesNoted request note old new answer =
+    (serves : ServesBytes request.day request.bytes old new answer) × (note ≡ Some (note_of (request_in serves.2) answer))
+
+-- what answers a request, and what is noted of the office's answer
+pub record NotedReply : Type 0 where
+  pub text : List ℕ
+  pub done : Bool
+  pub note : Option OfficeNote
 
 -- of what the desk refuses nothing is noted
-abbrev pub IsNoted : {S : Type 0} → Ghosts S → DeskRequest → DeskReply → Option OfficeNote → Held S → Held S → Type 0
-IsNoted g request reply note old new =
+abbrev pub IsNoted : {S : Type 0} → Ghosts S → DeskRequest → NotedReply → Held S → Held S → Type 0
+IsNoted g request reply old new =
     MatchBool reply.done
-    ((answer : Answer) × ServesNoted request.day request.bytes note (state g old) (state g new) answer × (reply.text ≡ answer_text answer))
-    ((refusal : DeskRefusal) × Hears request.bytes (Err refusal) × (new ≡ old) × (reply.text ≡ refusal_text refusal) × (note ≡ None))
+    ((answer : Answer) × ServesNoted request reply.note (state g old) (state g new) answer × (reply.text ≡ answer_text answer))
+    ((refusal : DeskRefusal) × Hears request.bytes (Err refusal) × (new ≡ old) × (reply.text ≡ refusal_text refusal) × (reply.note ≡ None))

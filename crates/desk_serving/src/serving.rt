@@ -94,7 +94,7 @@ fn respond_noting<S: Alter, R: Read>(
         (given : List ℕ)
         × Consumes (R.remaining (device_of reader.old)) (R.remaining (device_of reader.new)) given
         × IsNoted S.Store (record { day = day; bytes = given })
-        (record { text = response.bytes.items; done = response.done }) result.1
+        (record { text = response.bytes.items; done = response.done; note = result.1 })
         office.old office.new
         × (Hears given (Err DeskRefusal.Truncated)
         → IsAtEnd (R.remaining (device_of reader.new)))) }
@@ -107,7 +107,7 @@ fn respond_noting<S: Alter, R: Read>(
     ensures served { result.0 ≡ Err (Unanswered.Memory true)
         → (given : List ℕ) × (answer : Answer)
         × Consumes (R.remaining (device_of reader.old)) (R.remaining (device_of reader.new)) given
-        × ServesNoted day given result.1
+        × ServesNoted (record { day = day; bytes = given }) result.1
         (state S.Store office.old) (state S.Store office.new) answer }
     ensures not_served { result.0 ≡ Err (Unanswered.Memory false)
         → (office.new ≡ office.old) × (result.1 ≡ None) }
@@ -116,12 +116,12 @@ fn respond_noting<S: Alter, R: Read>(
     // Where all that the reader has is known, it is all that is heard.
     ensures whole { IfSome (R.remaining (device_of reader.old)) (λ input. IfOk result.0 (λ response.
         IsNoted S.Store (record { day = day; bytes = input })
-        (record { text = response.bytes.items; done = response.done }) result.1
+        (record { text = response.bytes.items; done = response.done; note = result.1 })
         office.old office.new)) }
     ensures whole_served { result.0 ≡ Err (Unanswered.Memory true)
         → IfSome (R.remaining (device_of reader.old)) (λ input.
         (answer : Answer)
-        × ServesNoted day input result.1
+        × ServesNoted (record { day = day; bytes = input }) result.1
         (state S.Store office.old) (state S.Store office.new) answer) }
 {
     match hear_request(alloc, routes, reader) {
@@ -197,7 +197,7 @@ pub fn serve_with_routes<S: Alter, R: Read, W: Write>(
         ((given text : List ℕ) × (done : Bool)
         × Consumes (R.remaining (device_of reader.old)) (R.remaining (device_of reader.new)) given
         × IsNoted S.Store (record { day = day; bytes = given })
-        (record { text = text; done = done }) result.1 office.old office.new
+        (record { text = text; done = done; note = result.1 }) office.old office.new
         × Appends (W.contents (device_of writer.old)) (W.contents (device_of writer.new)) text
         × (Hears given (Err DeskRefusal.Truncated)
         → IsAtEnd (R.remaining (device_of reader.new)))) }
@@ -214,7 +214,8 @@ pub fn serve_with_routes<S: Alter, R: Read, W: Write>(
         → (given text : List ℕ) × (count : ℕ)
         × Consumes (R.remaining (device_of reader.old)) (R.remaining (device_of reader.new)) given
         × IsNoted S.Store (record { day = day; bytes = given })
-        (record { text = text; done = done }) result.1 office.old office.new × (count < length text)
+        (record { text = text; done = done; note = result.1 }) office.old office.new
+        × (count < length text)
         × Appends (W.contents (device_of writer.old)) (W.contents (device_of writer.new))
         (take count text) × HasFailed (failures_of writer.old) (failures_of writer.new)
         × (Hears given (Err DeskRefusal.Truncated)
@@ -223,7 +224,7 @@ pub fn serve_with_routes<S: Alter, R: Read, W: Write>(
     ensures memory_done { result.0 ≡ Err (DeskFault.Memory true)
         → (given : List ℕ) × (answer : Answer)
         × Consumes (R.remaining (device_of reader.old)) (R.remaining (device_of reader.new)) given
-        × ServesNoted day given result.1
+        × ServesNoted (record { day = day; bytes = given }) result.1
         (state S.Store office.old) (state S.Store office.new) answer
         × (writer.new ≡ writer.old) }
     ensures memory { result.0 ≡ Err (DeskFault.Memory false)
@@ -233,19 +234,20 @@ pub fn serve_with_routes<S: Alter, R: Read, W: Write>(
         (IfSome (R.remaining (device_of reader.old)) (λ input.
         (text : List ℕ) × (done : Bool)
         × IsNoted S.Store (record { day = day; bytes = input })
-        (record { text = text; done = done }) result.1 office.old office.new
+        (record { text = text; done = done; note = result.1 }) office.old office.new
         × Appends (W.contents (device_of writer.old)) (W.contents (device_of writer.new)) text)) }
     ensures whole_write { (done : Bool) → result.0 ≡ Err (DeskFault.Write done)
         → IfSome (R.remaining (device_of reader.old)) (λ input.
         (text : List ℕ) × (count : ℕ)
         × IsNoted S.Store (record { day = day; bytes = input })
-        (record { text = text; done = done }) result.1 office.old office.new × (count < length text)
+        (record { text = text; done = done; note = result.1 }) office.old office.new
+        × (count < length text)
         × Appends (W.contents (device_of writer.old)) (W.contents (device_of writer.new))
         (take count text)) }
     ensures whole_memory_done { result.0 ≡ Err (DeskFault.Memory true)
         → IfSome (R.remaining (device_of reader.old)) (λ input.
         (answer : Answer)
-        × ServesNoted day input result.1
+        × ServesNoted (record { day = day; bytes = input }) result.1
         (state S.Store office.old) (state S.Store office.new) answer) }
     ensures calm_reader { result.0 ≢ Err DeskFault.Read
         → failures_of reader.new ≡ failures_of reader.old }
