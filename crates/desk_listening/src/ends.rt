@@ -43,7 +43,7 @@ pub(crate) fn hang_up<P: Peer>(
         (Drops P.Reader.Read patience.now.rest_bytes reader.old reader.new) }
     ensures failed { OnErr result
         (Fails P.Peer.does (leaving patience.now.rest) peer.old peer.new) }
-    ensures kept { OnErr result (reader.new ≡ reader.old) }
+    ensures same { OnErr result (reader.new ≡ reader.old) }
 {
     peer.shut(Shutdown::Write)?;
     peer.set_read_wait(patience.rest)?;

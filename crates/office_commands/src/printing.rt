@@ -19,7 +19,7 @@ use streams::write_text;
 
 /// Hands on what was written.
 pub fn flush<O: Write>(out: &mut Counted<O>) -> Result<Done, CommandFault>
-    ensures kept { Keeps (O.contents (device_of out.old)) (O.contents (device_of out.new)) }
+    ensures same { Keeps (O.contents (device_of out.old)) (O.contents (device_of out.new)) }
     ensures fault { IfErr result (λ fault. fault ≡ Failed Device (Some Output)) }
     ensures quiet { IfOk result IsQuiet }
 {

@@ -26,7 +26,7 @@ returns-in-Ok g c =
               heard = one.reader;
               given = answered.0;
               came = answered.3;
-              left = left_so (Drops g.P.Reader.Read c.args.patience.now.rest_bytes one.reader after.reader) c.hang_up-left.result left.shut left.dropped left.failed left.kept;
+              left = left_so (Drops g.P.Reader.Read c.args.patience.now.rest_bytes one.reader after.reader) c.hang_up-left.result left.shut left.dropped left.failed left.same;
             });
       },
     )

@@ -7,7 +7,7 @@ pub returns-in-Ok-clause-asks : goal.returns-in-Ok-clause-asks
 returns-in-Ok-clause-asks g c =
     let it = c.in-Ok.ensures.answered in
     handed_on g.S.Store c.args.day c.args.office.now c.serve_one.new.office _ _ c.flush.result _ _ _ c.flush.ensures.fault
-    (asks g.S.Store c.args.day c.args.office.now c.serve_one.new.office _ _ _ _ it.0 it.1 it.2 it.3 it.4 it.5 c.in-Ok.ensures.whole) c.flush.ensures.kept
+    (asks g.S.Store c.args.day c.args.office.now c.serve_one.new.office _ _ _ _ it.0 it.1 it.2 it.3 it.4 it.5 c.in-Ok.ensures.whole) c.flush.ensures.same
 
 pub returns-in-Err-clause-asks : goal.returns-in-Err-clause-asks
 returns-in-Err-clause-asks g c =
