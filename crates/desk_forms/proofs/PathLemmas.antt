@@ -1,9 +1,9 @@
--- Percent-decoding, as what a text stands for.
+-- Percent-decoding, as what a text means.
 use Rattle.desk_forms.proofs.Common.{◌≡◌, ℕ, ◌+◌, ◌*◌, ◌<◌, true, false, List, [], ◌∷◌, refl, sym, ap, ◌∙◌, subst, arith, cond_both, nat_tests}
 use Rattle.std.specs.Char.{digit_value}
 use Rattle.percent_encoding.specs.Percent.{percent_decode, is_escape}
 use Rattle.percent_encoding.proofs.PercentLemmas.{percent_decode-nil, percent_decode_escape, KeepsFirst_from_no_escape}
-use Rattle.desk_forms.specs.Paths.{WritesDigit, BeginsTriplet, StandsFor, nothing, triplet, itself}
+use Rattle.desk_forms.specs.Paths.{WritesDigit, BeginsTriplet, DecodesTo, nothing, triplet, itself}
 
 -- the number that a digit writes is the digit's value
 value_written : (byte n : ℕ) → WritesDigit byte n → (digit_value byte ≡ n) × (n < 16)
@@ -30,18 +30,18 @@ decode_itself byte (first ∷ second ∷ rest) apart =
       writes_low = digit_written second hex_second;
     }))
 
--- what a text stands for is what it decodes to
-pub decoded_from_stands : (path bytes : List ℕ) → StandsFor path bytes → percent_decode path ≡ bytes
-decoded_from_stands _ _ nothing = percent_decode-nil
-decoded_from_stands _ _ (triplet first second high low rest bytes writes_high writes_low stands) =
+-- what a text means is what it decodes to
+pub decoded_from_meaning : (path bytes : List ℕ) → DecodesTo path bytes → percent_decode path ≡ bytes
+decoded_from_meaning _ _ nothing = percent_decode-nil
+decoded_from_meaning _ _ (triplet first second high low rest bytes writes_high writes_low means) =
     let h = value_written first high writes_high in
     let l = value_written second low writes_low in
     percent_decode_escape 37 first second rest refl (omega (arith, h.0, h.1)) (omega (arith, l.0, l.1))
     ∙ ap (λ x. (16 * x + digit_value second) ∷ percent_decode rest) h.0
     ∙ ap (λ x. (16 * high + x) ∷ percent_decode rest) l.0
-    ∙ ap (λ x. (16 * high + low) ∷ x) (decoded_from_stands rest bytes stands)
-decoded_from_stands _ _ (itself byte rest bytes apart stands) =
-    decode_itself byte rest apart ∙ ap (λ x. byte ∷ x) (decoded_from_stands rest bytes stands)
+    ∙ ap (λ x. (16 * high + low) ∷ x) (decoded_from_meaning rest bytes means)
+decoded_from_meaning _ _ (itself byte rest bytes apart means) =
+    decode_itself byte rest apart ∙ ap (λ x. byte ∷ x) (decoded_from_meaning rest bytes means)
 
 -- one byte, or two, begin no triplet
 no_triplet_of_one : (a : ℕ) → ¬ BeginsTriplet (a ∷ [])
@@ -65,21 +65,21 @@ no_triplet_of_three a b c rest apart t =
 escape_parts : (a b c : ℕ) → is_escape a b c ≡ true → (a ≡ 37) × (digit_value b < 16) × (digit_value c < 16)
 escape_parts a b c h = grind (arith, nat_tests)
 
--- a text stands for what it decodes to
-pub stands_for_decoded : (path : List ℕ) → StandsFor path (percent_decode path)
+-- a text means what it decodes to
+pub means_decoded : (path : List ℕ) → DecodesTo path (percent_decode path)
 unfolding percent_decode
-stands_for_decoded [] = nothing
-stands_for_decoded (a ∷ []) = itself a [] [] (no_triplet_of_one a) nothing
-stands_for_decoded (a ∷ b ∷ []) =
+means_decoded [] = nothing
+means_decoded (a ∷ []) = itself a [] [] (no_triplet_of_one a) nothing
+means_decoded (a ∷ b ∷ []) =
     itself a (b ∷ []) (b ∷ []) (no_triplet_of_two a b) (itself b [] [] (no_triplet_of_one b) nothing)
-stands_for_decoded (a ∷ b ∷ c ∷ rest) =
-    let after_triplet = stands_for_decoded rest in
-    let after_byte = stands_for_decoded (b ∷ c ∷ rest) in
-    cond_both (is_escape a b c) ((16 * digit_value b + digit_value c) ∷ percent_decode rest) (a ∷ percent_decode (b ∷ c ∷ rest)) (StandsFor (a ∷ b ∷ c ∷ rest))
+means_decoded (a ∷ b ∷ c ∷ rest) =
+    let after_triplet = means_decoded rest in
+    let after_byte = means_decoded (b ∷ c ∷ rest) in
+    cond_both (is_escape a b c) ((16 * digit_value b + digit_value c) ∷ percent_decode rest) (a ∷ percent_decode (b ∷ c ∷ rest)) (DecodesTo (a ∷ b ∷ c ∷ rest))
     (λ h. let parts = escape_parts a b c h in
-    let P : ℕ → Type 0 = λ x. StandsFor (x ∷ (b ∷ (c ∷ rest))) ((16 * digit_value b + digit_value c) ∷ percent_decode rest) in
+    let P : ℕ → Type 0 = λ x. DecodesTo (x ∷ (b ∷ (c ∷ rest))) ((16 * digit_value b + digit_value c) ∷ percent_decode rest) in
     subst P (sym parts.0) (triplet b c (digit_value b) (digit_value c) rest (percent_decode rest) (digit_written b parts.1) (digit_written c parts.2) after_triplet))
     (λ h. itself a (b ∷ (c ∷ rest)) (percent_decode (b ∷ (c ∷ rest))) (no_triplet_of_three a b c rest h) after_byte)
 
-pub decoded_iff_stands : (path bytes : List ℕ) → (percent_decode path ≡ bytes → StandsFor path bytes) × (StandsFor path bytes → percent_decode path ≡ bytes)
-decoded_iff_stands path bytes = (λ e. subst (StandsFor path) e (stands_for_decoded path), decoded_from_stands path bytes)
+pub decoded_iff_means : (path bytes : List ℕ) → (percent_decode path ≡ bytes → DecodesTo path bytes) × (DecodesTo path bytes → percent_decode path ≡ bytes)
+decoded_iff_means path bytes = (λ e. subst (DecodesTo path) e (means_decoded path), decoded_from_meaning path bytes)

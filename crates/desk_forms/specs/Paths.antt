@@ -19,7 +19,7 @@ pub record BeginsTriplet (text : List ℕ) : Type 0 where
   pub writes_low : WritesDigit second low
 
 -- the bytes that a text means: from the front, each triplet its octet, and any other byte itself
-pub data StandsFor : List ℕ → List ℕ → Type 0 where
-  nothing : StandsFor [] []
-  triplet : (first second high low : ℕ) (rest bytes : List ℕ) → WritesDigit first high → WritesDigit second low → StandsFor rest bytes → StandsFor (37 ∷ (first ∷ (second ∷ rest))) ((16 * high + low) ∷ bytes)
-  itself : (byte : ℕ) (rest bytes : List ℕ) → ¬ BeginsTriplet (byte ∷ rest) → StandsFor rest bytes → StandsFor (byte ∷ rest) (byte ∷ bytes)
+pub data DecodesTo : List ℕ → List ℕ → Type 0 where
+  nothing : DecodesTo [] []
+  triplet : (first second high low : ℕ) (rest bytes : List ℕ) → WritesDigit first high → WritesDigit second low → DecodesTo rest bytes → DecodesTo (37 ∷ (first ∷ (second ∷ rest))) ((16 * high + low) ∷ bytes)
+  itself : (byte : ℕ) (rest bytes : List ℕ) → ¬ BeginsTriplet (byte ∷ rest) → DecodesTo rest bytes → DecodesTo (byte ∷ rest) (byte ∷ bytes)

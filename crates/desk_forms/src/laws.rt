@@ -4,7 +4,7 @@ ghost use Rattle.std.specs.Prelude.{◌≡◌, ◌↔◌, ℕ, List, [], Option,
 ghost use Rattle.percent_encoding.specs.Percent.{percent_decode};
 ghost use Rattle.serde_json.specs.Data.{Data};
 ghost use Rattle.desk_forms.specs.Bodies.{IsJsonOf, SaysYears, SaysHold};
-ghost use Rattle.desk_forms.specs.Paths.{StandsFor};
+ghost use Rattle.desk_forms.specs.Paths.{DecodesTo};
 ghost use Rattle.desk_forms.specs.Queries.{values_under, count_of, OccursOnce, AsksListing, DescribesDeposit, IsListing, IsDepositQuery};
 ghost use Rattle.desk_forms.specs.declared.body.HoldBody.{HoldBody};
 ghost use Rattle.office_core.specs.Descriptions.{Description};
@@ -13,7 +13,7 @@ ghost use Rattle.desk_forms.specs.declared.query.Listing.{Listing};
 /// A path decodes to what it means, each triplet from the front to its octet (RFC 3986,
 /// section 2.1), and to nothing else.
 pub fn decoded_paths()
-    ensures { (path bytes : List ℕ) → (percent_decode path ≡ bytes) ↔ StandsFor path bytes }
+    ensures { (path bytes : List ℕ) → (percent_decode path ≡ bytes) ↔ DecodesTo path bytes }
 {}
 
 /// A key occurs once, with a value, exactly where one pair has the key, and that value. It has no

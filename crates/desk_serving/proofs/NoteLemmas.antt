@@ -8,7 +8,7 @@ use Rattle.office_history.specs.Histories.{History}
 use Rattle.office_history.specs.Refusals.{refusal}
 use Rattle.desk_log.specs.declared.note.RequestKind.TheVariants.{Reading}
 
-none_made : (stands : Option Refusal) → changes_unless stands [] ≡ []
+none_made : (refused : Option Refusal) → changes_unless refused [] ≡ []
 none_made None = refl
 none_made (Some why) = refl
 

@@ -160,14 +160,14 @@ pub fn replay<S: Alter, R: Read, W: Write>(
     'records: loop {
         match found_after(count, &pending) {
             Found::Whole { day, bytes, rest } => {
-                let Ok(kept) = Vec::from_slice(alloc, rest) else {
+                let Ok(following) = Vec::from_slice(alloc, rest) else {
                     return Err(ReplayFault::between(ReplayStop::Memory, count));
                 };
                 match answer_next(alloc, &routes, office, writer, day, bytes) {
                     Ok(()) => {}
                     Err(unwritten) => return Err(ReplayFault::after(count, unwritten)),
                 }
-                pending = kept;
+                pending = following;
                 count += 1;
             }
             Found::More => match read_more(reader, &mut pending) {

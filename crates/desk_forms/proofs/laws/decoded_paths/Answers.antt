@@ -1,5 +1,5 @@
-use Rattle.desk_forms.proofs.PathLemmas.{decoded_iff_stands}
+use Rattle.desk_forms.proofs.PathLemmas.{decoded_iff_means}
 use Rattle.desk_forms.proofs.laws.decoded_paths.Goals as goal
 
 pub returns : goal.returns
-returns c = decoded_iff_stands
+returns c = decoded_iff_means

@@ -26,9 +26,9 @@ records-preserved-in-Whole g c =
     let text = sym c.deref.ensures.value ∙ c.in-Whole.ensures.1 ∙ ap (λ l. record_text c.in-Whole.day c.in-Whole.bytes.now ++ l) (sym c.in-Ok-from_slice.ensures.items) in
     let a = c.in-Ok-answer_next.ensures.answered in
     record {
-      progress = answered_on g.S.Store _ _ _ _ _ _ _ _ c.records.pending.items c.in-Ok-from_slice.kept.items c.records.count (record { day = c.in-Whole.day; bytes = c.in-Whole.bytes.now }) a.0
+      progress = answered_on g.S.Store _ _ _ _ _ _ _ _ c.records.pending.items c.in-Ok-from_slice.following.items c.records.count (record { day = c.in-Whole.day; bytes = c.in-Whole.bytes.now }) a.0
           c.records.invariant.progress c.in-Whole.ensures.0 text c.in-Whole.ensures.2 a.1 a.2;
-      short = let less = rest_shorter c.records.pending.items c.in-Whole.day c.in-Whole.bytes.now c.in-Ok-from_slice.kept.items text in let fits = c.records.invariant.short in omega arith;
+      short = let less = rest_shorter c.records.pending.items c.in-Whole.day c.in-Whole.bytes.now c.in-Ok-from_slice.following.items text in let fits = c.records.invariant.short in omega arith;
       reader_calm = c.records.invariant.reader_calm;
       writer_calm = c.in-Ok-answer_next.ensures.calm (λ e. cc) ∙ c.records.invariant.writer_calm;
     }
