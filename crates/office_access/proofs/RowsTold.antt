@@ -1,5 +1,5 @@
 -- What the rows tell by the calls that read them, whichever rows they are.
-use Rattle.office_access.proofs.Common.{◌≡◌, ℕ, ℤ, pos, List, [], ◌∷◌, map, slice_get, Option, Some, None, IfErr, IfOk, IsErrAnd, OnOk, Result, Ok, Err, sym, ap, subst, ◌∙◌, refl, same_Some, ok_or, Database, Tables, IsOffice, tables_of}
+use Rattle.office_access.proofs.Common.{◌≡◌, ℕ, ℤ, pos, List, [], ◌∷◌, map, slice_get, Option, Some, None, IfErr, IfOk, MatchOption, OnOk, Result, Ok, Err, sym, ap, subst, ◌∙◌, refl, same_Some, ok_or, Database, Tables, IsOffice, tables_of}
 
 -- a call that changes no row leaves an office, and what is told of the rows after it is told of those before it
 module _ {old mid : Database} (same : mid ≡ old) where
@@ -34,7 +34,6 @@ pub ok_both : {E V : Type 0} {P : Type 0} {Q R : V → Type 0} (result : Result 
 ok_both (Ok value) both first second = both value first second
 ok_both (Err fault) both first second = tt
 
--- a call whose answer can't be fails so
-pub refuses : {T E : Type 0} (P : T → Type 0) (Q : E → Type 0) (result : Result T E) → ((value : T) → P value → ⊥) → IfOk result P → IfErr result Q → IsErrAnd result Q
-refuses P Q (Ok value) never told fails = absurd (never value told)
-refuses P Q (Err fault) never told fails = fails
+-- what is so of what is found is so where something is
+pub found_told : {T : Type 0} (none : Type 0) (is_so : T → Type 0) (found : Option T) (x : T) → Some x ≡ found → MatchOption found none is_so → is_so x
+found_told none is_so found x some = subst (λ o. MatchOption o none is_so) (sym some)

@@ -1,5 +1,5 @@
 -- Rows of rules and of holds that tell nothing.
-use Rattle.office_access.proofs.Common.{◌≡◌, ℕ, ℤ, pos, int_le, Bool, true, false, List, Option, Some, None, option_map, refl, ap, ◌∙◌, arith, if◌then◌else◌, and_parts, false_from_ne_true, ints, Date, IsBetween, ◌>>=◌, answer_if, is_matter, LiveHold, Decision, HoldRow, RuleRow, count_of, day_numbered, effect_of, is_between, decision_by, hold_by, is_rule, scope_of, target_named}
+use Rattle.office_access.proofs.Common.{◌≡◌, ℕ, ℤ, pos, int_le, Bool, true, false, List, Option, Some, None, option_map, refl, ap, ◌∙◌, arith, if◌then◌else◌, and_parts, false_from_ne_true, ints, Date, IsBetween, ◌>>=◌, answer_if, is_matter, LiveHold, Decision, HoldRow, RuleRow, count_of, day_numbered, effect_of, is_between, decision_by, hold_by, is_rule, scope_of, target_named, [], inl, inr, Tables, first_hold, live_holds, are_released_on_days, least_hold_in, FindsNoHold}
 use Rattle.office_core.specs.declared.answer.Scope.{Scope}
 use Rattle.office_core.specs.declared.rule.Effect.{Effect}
 
@@ -57,3 +57,12 @@ module _ (row : HoldRow) where
 
   pub no_matter : is_matter row.matter ≡ false → hold_by row ≡ None
   no_matter isnt = for_nothing isnt (count_of row.number) (scope_of row.deposit row.collection row.class) (day_numbered row.placed)
+
+-- where no live hold is to be found over a deposit, none is the least
+no_first : (released : Bool) (t : Tables) → (if released then first_hold t [] else None) ≡ None
+no_first true t = refl
+no_first false t = refl
+
+pub no_least : (n : ℕ) (collection class : List ℕ) (t : Tables) → FindsNoHold n collection class t → least_hold_in t n collection class ≡ None
+no_least n collection class t (inl outside) = ap (λ released. if released then first_hold t (live_holds (pos n) collection class t) else None) outside
+no_least n collection class t (inr none) = ap (λ live. if are_released_on_days n collection class t then first_hold t live else None) none ∙ no_first (are_released_on_days n collection class t) t

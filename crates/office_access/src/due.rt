@@ -1,14 +1,14 @@
 //! What speaks against the destruction of a deposit: its due day, and the holds that cover it.
 
-ghost use Rattle.std.specs.Prelude.{◌≡◌, ◌≢◌, IfSome, None, ℕ, Some, [], option_map, pos, true};
-ghost use Rattle.office_rows.specs.Rows.{due_numbered, limits_of, live_holds};
-ghost use Rattle.office_contents.specs.Calls.{GoesOnInTurn, GoesOnInside, Keeps, Shows, Tells};
+ghost use Rattle.std.specs.Prelude.{◌≡◌, MatchOption, ℕ, Some, [], pos};
+ghost use Rattle.office_rows.specs.Rows.{due_numbered, live_holds};
+ghost use Rattle.office_contents.specs.Calls.{FailsInStore, GoesOnInTurn, GoesOnInside, Keeps, Shows, Tells};
 ghost use Rattle.office_contents.specs.Contents.{RefusesIf};
 ghost use Rattle.office_contents.specs.Tables.{tables_of};
 ghost use Rattle.office_by_rows.specs.Asking.{counted_hold_in, least_hold_in};
 ghost use Rattle.office_by_rows.specs.Refusals.{disposal_facts};
-ghost use Rattle.office_by_rows.specs.Values.{is_between};
-ghost use Rattle.office_access.specs.Asking.{role_name};
+ghost use Rattle.office_tables.specs.Failing.{FailsInStoreIf};
+ghost use Rattle.office_access.specs.Asking.{FindsNoHold, IsKeptCount, IsMiscounted, role_name};
 
 use crate::asker::Asker;
 use crate::deposits::days_in;
@@ -31,12 +31,12 @@ pub fn least_hold<S: Alter>(
     class: &str,
 ) -> Result<Option<u32>, TableFault>
     ensures inside { GoesOnInside S.Store tx.old.conn tx.new.conn result }
-    ensures reads { Shows S.Store tx.old.conn.now tx.new.conn.now result (λ tables found.
-        IfSome found (λ k.
-        least_hold_in tables number collection.now class.now ≡ Some k)) }
     // Where none is found, none covers it.
-    ensures none { Shows S.Store tx.old.conn.now tx.new.conn.now result (λ tables found.
-        found ≡ None → live_holds (pos number) collection.now class.now tables ≡ []) }
+    ensures reads { Shows S.Store tx.old.conn.now tx.new.conn.now result (λ tables found.
+        MatchOption found (live_holds (pos number) collection.now class.now tables ≡ []) (λ k.
+        least_hold_in tables number collection.now class.now ≡ Some k)) }
+    ensures store { FailsInStoreIf S.Store tx.old.conn.now tx.new.conn.now result
+        (FindsNoHold number collection.now class.now) }
 {
     let holds = holds_over(alloc, tx, number, collection, class)?;
     let Some(least) = holds.first().copied() else {
@@ -68,11 +68,8 @@ pub fn stored_due_row<S: Alter>(
 fn check_count<S: Alter>(tx: &mut Transaction<'_, S>, count: i64) -> Result<(), TableFault>
     ensures inside { GoesOnInside S.Store tx.old.conn tx.new.conn result }
     ensures reads { Shows S.Store tx.old.conn.now tx.new.conn.now result (λ tables _.
-        option_map (λ limits. is_between (pos 1) limits.max_holds count) (limits_of tables)
-        ≡ Some true) }
-    ensures store { RefusesIf S.Store tx.old.conn.now tx.new.conn.now result (λ old.
-        option_map (λ limits.
-        is_between (pos 1) limits.max_holds count) (limits_of (tables_of old)) ≢ Some true) }
+        IsKeptCount count tables) }
+    ensures store { FailsInStore S.Store tx.old.conn.now tx.new.conn.now result }
 {
     let limits = limits(tx)?;
     check_between(count, 1, limits.max_holds)
@@ -92,9 +89,7 @@ fn counted_hold<S: Alter>(
     ensures reads { Shows S.Store tx.old.conn.now tx.new.conn.now result (λ tables found.
         counted_hold_in tables count number collection.now class.now ≡ Some found) }
     ensures store { RefusesIf S.Store tx.old.conn.now tx.new.conn.now result (λ old.
-        (count ≢ pos 0)
-        × (option_map (λ limits.
-        is_between (pos 1) limits.max_holds count) (limits_of (tables_of old)) ≢ Some true)) }
+        IsMiscounted count number collection.now class.now (tables_of old)) }
 {
     if count == 0 {
         return Ok(None);

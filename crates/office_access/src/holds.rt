@@ -1,15 +1,15 @@
 //! What the row of a hold tells.
 
-ghost use Rattle.std.specs.Prelude.{◌≡◌, ◌↔◌, IfErr, IfOk, None, OnErr, Some, map, option_map, pos, true, false};
+ghost use Rattle.std.specs.Prelude.{◌≡◌, ◌↔◌, IfErr, IfOk, None, OnErr, Some, map, option_map, pos, true};
 ghost use Rattle.office_contents.specs.Faults.{IsFailure};
 ghost use Rattle.office_rows.specs.Rows as rows;
 ghost use Rattle.office_contents.specs.Calls.{GoesOnInside, Shows};
-ghost use Rattle.office_contents.specs.Contents.{RefusesIf};
-ghost use Rattle.office_contents.specs.Tables.{tables_of};
+ghost use Rattle.office_tables.specs.Failing.{FailsInStoreIf};
 ghost use Rattle.office_tables.specs.ShownHolds.{held_class, held_collection, held_deposit};
 ghost use Rattle.office_by_rows.specs.Asking as by_rows;
 ghost use Rattle.office_by_rows.specs.Asking.{are_released_on_days, hold_by, target_of};
 ghost use Rattle.office_by_rows.specs.Changes.{count_in};
+ghost use Rattle.office_access.specs.Asking.{FindsNoHold};
 ghost use Rattle.office_access.specs.Told.{held_target};
 
 use crate::rows::{check_there, day_numbered, text_of_kind, there};
@@ -107,9 +107,9 @@ pub fn holds_over<S: Alter>(
         (are_released_on_days number collection.now class.now tables ≡ true)
         × (map pos numbers.items
         ≡ rows.live_holds (pos number) collection.now class.now tables)) }
-    // No memory is asked for outside the store before the days are judged.
-    ensures store { RefusesIf S.Store tx.old.conn.now tx.new.conn.now result (λ old.
-        are_released_on_days number collection.now class.now (tables_of old) ≡ false) }
+    // No memory is asked for outside the store before the days are judged, nor where there is no hold to name.
+    ensures store { FailsInStoreIf S.Store tx.old.conn.now tx.new.conn.now result
+        (FindsNoHold number collection.now class.now) }
 {
     let outside = has_release_outside(
         tx,

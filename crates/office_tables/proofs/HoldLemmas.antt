@@ -314,3 +314,46 @@ gathers_live old one two office same again n c k on inside classed none first mo
     sorts_live old office n c k all sorted (all_is ∙ ap₂ (λ xs ys. xs ++ ys)
     (more_is ∙ ap₂ (λ xs ys. xs ++ ys) (first_is ∙ ap (λ xs. map pos xs ++ told on) empty ∙ sym on_is) (sym inside_is ∙ ap (numbers_of (is_live_within n c)) same))
     (sym classed_is ∙ ap (numbers_of (is_live_of_class n c k)) (again ∙ same)))
+
+-- where none of the live holds over a deposit is there, no row shows one on the deposit, on the collection or on the class
+module _ (n : ℤ) (c k : List ℕ) (db : Database) (none : live_holds n c k (tables_of db) ≡ []) where
+  none_over : (holds : List HoldRow) → map (λ (h : HoldRow). h.number) (filter (is_live_over n c k) holds) ≡ [] → (those : HoldRow → Bool) → ((h : HoldRow) → those h ≡ true → is_live_over n c k h ≡ true) → filter those holds ≡ []
+  none_over [] empty those over = refl
+  none_over (h ∷ holds) empty those over = elim (cases_Bool (is_live_over n c k h)) [
+    | inl is ↦ absurd (let is_one = rw is at empty in cc)
+    | inr isnt ↦ elim (cases_Bool (those h)) [
+      | inl one ↦ absurd (let both = sym (over h one) ∙ isnt in cc)
+      | inr other ↦ rw other (none_over holds (rw isnt at empty) those over)
+    ]
+  ]
+
+  shows_none : (those : HoldRow → Bool) → ((h : HoldRow) → those h ≡ true → is_live_over n c k h ≡ true) → (rows : List Row) → numbers_of those db ≡ told rows → rows ≡ []
+  shows_none those over [] are = refl
+  shows_none those over (row ∷ rows) are = absurd (let empty = none_over (tables_of db).holds none those over in let told_none = sym (ap (map (λ (h : HoldRow). h.number)) empty) ∙ are in cc)
+
+  live_on : (l d m : Bool) → (l && d) ≡ true → (l && (d || m)) ≡ true
+  live_on true true m is = refl
+  live_on true false m is = absurd cc
+  live_on false d m is = absurd cc
+
+  live_within : (l d m x : Bool) → (l && (m && not d)) ≡ true → (l && (d || (m || x))) ≡ true
+  live_within true true m x is = refl
+  live_within true false true x is = refl
+  live_within true false false x is = absurd cc
+  live_within false d m x is = absurd cc
+
+  live_of : (l d m x : Bool) → (l && (x && (not d && not m))) ≡ true → (l && (d || (m || x))) ≡ true
+  live_of true true m x is = refl
+  live_of true false true x is = refl
+  live_of true false false true is = refl
+  live_of true false false false is = absurd cc
+  live_of false d m x is = absurd cc
+
+  pub none_on : (rows : List Row) → numbers_of (is_live_on n) db ≡ told rows → rows ≡ []
+  none_on = shows_none (is_live_on n) (λ h. live_on (is_live h) (holds_deposit n h) (holds_collection c h || holds_class k h))
+
+  pub none_within : (rows : List Row) → numbers_of (is_live_within n c) db ≡ told rows → rows ≡ []
+  none_within = shows_none (is_live_within n c) (λ h. live_within (is_live h) (holds_deposit n h) (holds_collection c h) (holds_class k h))
+
+  pub none_of_class : (rows : List Row) → numbers_of (is_live_of_class n c k) db ≡ told rows → rows ≡ []
+  none_of_class = shows_none (is_live_of_class n c k) (λ h. live_of (is_live h) (holds_deposit n h) (holds_collection c h) (holds_class k h))

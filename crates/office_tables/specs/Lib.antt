@@ -1,4 +1,5 @@
 pub mod Opening
+pub mod Failing
 pub mod Found
 pub mod ShownHolds
 pub mod Releases

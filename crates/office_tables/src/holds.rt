@@ -1,12 +1,13 @@
 //! Holds.
 
 ghost use Rattle.std.specs.List.{list_any};
-ghost use Rattle.std.specs.Prelude.{◌≡◌, ℕ, IfErr, OnOk, pos, Some, None, true, map, filter, ◌++◌, option_map, slice_get};
+ghost use Rattle.std.specs.Prelude.{◌≡◌, ◌≢◌, ℕ, IfErr, OnErr, OnOk, pos, Some, None, true, [], map, filter, ◌++◌, option_map, slice_get};
 ghost use Rattle.sql_meaning.specs.Columns.{int_at};
 ghost use Rattle.office_contents.specs.Faults.{IsFailure};
 ghost use Rattle.office_rows.specs.Rows.{hold_numbered, last_number, with_hold, with_released, live_holds, is_live_on, is_live_within, is_live_of_class};
 ghost use Rattle.office_contents.specs.Contents.{LeavesContents, LeavesOnce};
 ghost use Rattle.office_contents.specs.Calls.{FailsInStore, GoesOnInside, Keeps, Shows, Tells, Writes};
+ghost use Rattle.office_tables.specs.Failing.{FailsInStoreIf};
 ghost use Rattle.office_tables.specs.ShownHolds.{shown_hold, placed_row, is_on};
 ghost use Rattle.office_tables.specs.Releases.{is_outside_of, is_over};
 
@@ -233,6 +234,7 @@ fn rows_of_holds_on<S: Alter>(tx: &mut Transaction<'_, S>, deposit: u32) -> Resu
     ensures found { Shows S.Store tx.old.conn.now tx.new.conn.now result (λ tables rows.
         map (λ h. h.number) (filter (is_live_on (pos deposit)) tables.holds)
         ≡ map (λ row. int_at row 0) rows.items) }
+    ensures store { FailsInStore S.Store tx.old.conn.now tx.new.conn.now result }
 {
     ask(
         tx,
@@ -251,6 +253,7 @@ fn rows_of_holds_within<S: Alter>(
     ensures found { Shows S.Store tx.old.conn.now tx.new.conn.now result (λ tables rows.
         map (λ h. h.number) (filter (is_live_within (pos deposit) collection.now) tables.holds)
         ≡ map (λ row. int_at row 0) rows.items) }
+    ensures store { FailsInStore S.Store tx.old.conn.now tx.new.conn.now result }
 {
     ask(
         tx,
@@ -272,6 +275,7 @@ fn rows_of_holds_of_class<S: Alter>(
         map (λ h.
         h.number) (filter (is_live_of_class (pos deposit) collection.now class.now) tables.holds)
         ≡ map (λ row. int_at row 0) rows.items) }
+    ensures store { FailsInStore S.Store tx.old.conn.now tx.new.conn.now result }
 {
     ask(
         tx,
@@ -286,6 +290,8 @@ fn add_numbers(numbers: &mut Vec<u32>, rows: &[Row]) -> Result<()>
         (map pos numbers.new.items
         ≡ map pos numbers.old.items ++ map (λ row. int_at row 0) rows.now) }
     ensures failure { IfErr result IsFailure }
+    // No memory is asked for where there is no row.
+    ensures some { OnErr result (rows.now ≢ []) }
 {
     for row in rows {
         numbers.push(number_shown(row)?)?;
@@ -308,6 +314,9 @@ pub fn live_holds<S: Alter>(
     ensures same { Keeps S.Store tx.old.conn.now tx.new.conn.now result }
     ensures found { Tells S.Store tx.old.conn.now tx.new.conn.now result (λ tables numbers.
         map pos numbers.items ≡ live_holds (pos deposit) collection.now class.now tables) }
+    // Memory is asked for outside the store only where there is a number to hand on.
+    ensures store { FailsInStoreIf S.Store tx.old.conn.now tx.new.conn.now result (λ tables.
+        live_holds (pos deposit) collection.now class.now tables ≡ []) }
 {
     let on_deposit = rows_of_holds_on(tx, deposit)?;
     let on_collection = rows_of_holds_within(tx, deposit, collection)?;

@@ -1,4 +1,4 @@
-use Rattle.office_access.proofs.Lemmas.{pos, w64, Some, ap, option_map, ◌∙◌, to_z-of_z, on_ok_weaker, Limits, Store, is_between, if_kept, refuses, IfErr-weaker, subst, sym}
+use Rattle.office_access.proofs.Lemmas.{pos, w64, Some, ap, option_map, ◌∙◌, to_z-of_z, on_ok_weaker, Limits, Store, is_between, if_kept, IfErr-weaker, subst, sym}
 use Rattle.office_contents.specs.Faults.{IsStoreUnless}
 use Rattle.office_access.proofs.due.check_count.Goals as goal
 
@@ -12,5 +12,4 @@ returns-clause-reads g c clean office =
     (if_kept (is_between (pos 1) (pos most.max_holds) a.count) Store c.check_between.result read)
 
 pub returns-clause-store : goal.returns-clause-store
-returns-clause-store g c clean office lies =
-    refuses _ _ c.check_between.result (λ _ read. lies read.1) (returns-clause-reads g c clean office) (IfErr-weaker c.check_between.result _ _ (λ fault is. subst (IsStoreUnless _) (sym is) tt) c.check_between.ensures.store)
+returns-clause-store g c clean office = IfErr-weaker c.check_between.result _ _ (λ fault is. subst (IsStoreUnless _) (sym is) tt) c.check_between.ensures.store

@@ -1,4 +1,4 @@
-use Rattle.office_access.proofs.Lemmas.{rules, ◌≡◌, false, map, pos, sym, true≢false, ◌∙◌, live_holds, state, tables_of, office_still, ok_both, told_before, clean_first, released_read}
+use Rattle.office_access.proofs.Lemmas.{rules, ◌≡◌, [], inl, inr, false, map, pos, sym, true≢false, ◌∙◌, live_holds, state, tables_of, office_still, ok_both, told_before, clean_first, released_read}
 use Rattle.office_access.proofs.holds.holds_over.Goals as goal
 
 pub returns-clause-reads : goal.returns-clause-reads
@@ -17,5 +17,9 @@ pub returns-clause-store : goal.returns-clause-store
 returns-clause-store g c clean office lies =
     let a = c.args in
     let early = clean_first c.live_holds.ensures.inside.stays clean in
+    let same = c.in_ok-outside.ensures.same early office in
     let inside : c.in_ok-outside.outside ≡ false = search rules in
-    absurd (true≢false (sym (released_read a.number a.collection.now a.class.now (tables_of (state g.S.Store a.tx.now.conn.now).now).holds (sym (c.in_ok-outside.ensures.found early office) ∙ inside)) ∙ lies))
+    elim lies [
+      | inl outside ↦ absurd (true≢false (sym (released_read a.number a.collection.now a.class.now (tables_of (state g.S.Store a.tx.now.conn.now).now).holds (sym (c.in_ok-outside.ensures.found early office) ∙ inside)) ∙ outside))
+      | inr none ↦ c.live_holds.ensures.store clean (office_still same office) (told_before (sym same) (λ t. live_holds (pos a.number) a.collection.now a.class.now t ≡ []) none)
+    ]

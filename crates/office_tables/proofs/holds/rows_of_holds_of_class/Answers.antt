@@ -1,4 +1,5 @@
-use Rattle.office_tables.proofs.Lemmas.{pos, IfOk-weaker, lists_of_class}
+use Rattle.office_tables.proofs.Lemmas.{pos, IfOk-weaker, fails_in_store, lists_of_class}
+use Rattle.office_tables.proofs.HoldTexts.{hold_meanings}
 use Rattle.office_tables.proofs.holds.rows_of_holds_of_class.Goals as goal
 
 pub returns-clause-found : goal.returns-clause-found
@@ -6,3 +7,6 @@ returns-clause-found g c clean office =
     let a = c.args in
     IfOk-weaker c.ask.result _ _ (λ rows h. lists_of_class _ _ (pos a.deposit) a.collection.now a.class.now rows.items office h)
     (rw (c.params-to_sql.ensures, c.params-to_sql-2.ensures, c.params-to_sql-3.ensures) at (c.ask.ensures.shown clean))
+
+pub returns-clause-store : goal.returns-clause-store
+returns-clause-store g c clean office = fails_in_store hold_meanings.asks_of_class _ _ _ office c.ask.result c.ask.ensures.inside.failure (c.ask.ensures.memory clean)
