@@ -37,3 +37,8 @@ ok_both (Err fault) both first second = tt
 -- what is so of what is found is so where something is
 pub found_told : {T : Type 0} (none : Type 0) (is_so : T → Type 0) (found : Option T) (x : T) → Some x ≡ found → MatchOption found none is_so → is_so x
 found_told none is_so found x some = subst (λ o. MatchOption o none is_so) (sym some)
+
+-- what is not there fails with this fault alone
+pub only_that : {T E : Type 0} (found : Option T) (fault : E) (result : Result T E) → result ≡ ok_or found fault → IfErr result (λ told. told ≡ fault)
+only_that (Some x) fault result is = subst (λ r. IfErr r (λ told. told ≡ fault)) (sym is) tt
+only_that None fault result is = subst (λ r. IfErr r (λ told. told ≡ fault)) (sym is) refl

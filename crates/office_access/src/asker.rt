@@ -57,8 +57,7 @@ fn are_bounds(first: i64, last: i64) -> bool
 
 /// What a rule says of what it matches.
 fn effect_of(rule: &RuleRow) -> Result<Effect, TableFault>
-    ensures reads { result ≡ ok_or (effect_of rule.now.effect) TableFault.Store }
-    ensures store { IfErr result (λ fault. fault ≡ TableFault.Store) }
+    ensures { result ≡ ok_or (effect_of rule.now.effect) TableFault.Store }
 {
     match rule.effect {
         1 => Ok(Effect::Allow),
@@ -76,8 +75,7 @@ fn is_rule(row: &RuleRow) -> bool
 
 /// The decision that a rule's row tells.
 fn decision_in(row: &RuleRow) -> Result<Decision, TableFault>
-    ensures reads { result ≡ ok_or (decision_by row.now) TableFault.Store }
-    ensures store { IfErr result (λ fault. fault ≡ TableFault.Store) }
+    ensures { result ≡ ok_or (decision_by row.now) TableFault.Store }
 {
     match usize::try_from(row.place) {
         Ok(rule) if 1 <= rule && rule <= MAX_RULES && is_rule(row) => Ok(Decision {

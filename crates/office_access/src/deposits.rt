@@ -2,7 +2,6 @@
 
 ghost use Rattle.std.specs.Prelude.{◌≡◌, IfErr, IfOk, [], ◌∷◌, None, OnErr, Some, pos};
 ghost use Rattle.std.specs.Result.{result_err};
-ghost use Rattle.office_contents.specs.Faults.{IsFailure};
 ghost use Rattle.office_rows.specs.Rows as rows;
 ghost use Rattle.office_contents.specs.Calls.{GoesOnInside, Shows};
 ghost use Rattle.office_by_rows.specs.Asking.{days_of};
@@ -52,11 +51,10 @@ fn unless_refused(
     deposit: DepositRow,
     denied: Option<Refusal>,
 ) -> Result<Result<DepositRow, Refusal>, TableFault>
-    ensures failure { IfErr result IsFailure }
     ensures reads { IfOk result (λ asked.
-        first_told (Some denied ∷ gone_refusal deposit ∷ []) ≡ Some (result_err asked)) }
+        (first_told (Some denied ∷ gone_refusal deposit ∷ []) ≡ Some (result_err asked))
+        × IfOk asked (λ row. row ≡ deposit)) }
     ensures none { OnErr result (first_told (Some denied ∷ gone_refusal deposit ∷ []) ≡ None) }
-    ensures row { IfOk result (λ asked. IfOk asked (λ row. row ≡ deposit)) }
     ensures store { IfErr result (λ fault. fault ≡ TableFault.Store) }
 {
     if let Some(why) = denied {

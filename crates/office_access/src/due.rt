@@ -2,7 +2,7 @@
 
 ghost use Rattle.std.specs.Prelude.{◌≡◌, MatchOption, ℕ, Some, [], pos};
 ghost use Rattle.office_rows.specs.Rows.{due_numbered, live_holds};
-ghost use Rattle.office_contents.specs.Calls.{FailsInStore, GoesOnInTurn, GoesOnInside, Keeps, Shows, Tells};
+ghost use Rattle.office_contents.specs.Calls.{FailsInStore, GoesOnInTurn, GoesOnInside, Shows};
 ghost use Rattle.office_contents.specs.Contents.{RefusesIf};
 ghost use Rattle.office_contents.specs.Tables.{tables_of};
 ghost use Rattle.office_by_rows.specs.Asking.{counted_hold_in, least_hold_in};
@@ -54,8 +54,7 @@ pub fn stored_due_row<S: Alter>(
     number: u32,
 ) -> Result<DueRow, TableFault>
     ensures inside { GoesOnInside S.Store tx.old.conn tx.new.conn result }
-    ensures same { Keeps S.Store tx.old.conn.now tx.new.conn.now result }
-    ensures rows { Tells S.Store tx.old.conn.now tx.new.conn.now result (λ tables kept.
+    ensures reads { Shows S.Store tx.old.conn.now tx.new.conn.now result (λ tables kept.
         Some kept ≡ due_numbered (pos number) tables.dues) }
 {
     let found = due_row(tx, number)?;

@@ -1,9 +1,8 @@
 //! What the numbers and texts of rows mean. A row with a value that means nothing comes from no accepted
 //! change, and is a fault of the store.
 
-ghost use Rattle.std.specs.Prelude.{◌≡◌, Err, IfErr, IfOk, Ok, OnErr, OnOk, if◌then◌else◌, pos, true};
+ghost use Rattle.std.specs.Prelude.{◌≡◌, Err, IfErr, IfOk, Ok, OnErr, if◌then◌else◌, pos, true};
 ghost use Rattle.std.specs.Option.{ok_or};
-ghost use Rattle.office_contents.specs.Faults.{IsFailure};
 ghost use Rattle.office_contents.specs.declared.fault.TableFault.TheVariants.{Memory, Store};
 ghost use Rattle.office_by_rows.specs.Values.{day_numbered, due_of_number, if_any, is_between, years_of_number};
 
@@ -123,8 +122,6 @@ pub fn text_read<K: TextKind>(text: &str) -> Result<Text<'_, K>, TableFault>
 /// The name, accession number or matter that a text is.
 pub fn text_of_kind<K: TextKind>(alloc: Global, text: &str) -> Result<OwnedText<K>, TableFault>
     ensures text { IfOk result (λ owned. owned ≡ text.now) }
-    ensures kind { OnOk result (K.is_of_kind text.now ≡ true) }
-    ensures failure { IfErr result IsFailure }
     // A text of the kind fails for lack of memory alone, and what is none is a fault of the store.
     ensures memory { K.is_of_kind text.now ≡ true → IfErr result (λ fault. fault ≡ Memory) }
     ensures store { (K.is_of_kind text.now ≡ true → ⊥) → result ≡ Err Store }

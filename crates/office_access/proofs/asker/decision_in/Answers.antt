@@ -1,8 +1,8 @@
-use Rattle.office_access.proofs.Lemmas.{rules, ◌≡◌, ◌≤◌, ◌&&◌, pos, true, Some, None, Err, sym, ap, ok_or, ◌∙◌, and_parts, max_rules, Decision, Store, effect_of, is_between, is_rule, decision_is, place_is, rule_is, some_read, is_inside, no_effect, no_rule}
+use Rattle.office_access.proofs.Lemmas.{rules, ◌≡◌, ◌≤◌, ◌&&◌, pos, true, Some, None, Err, sym, ap, ok_or, ◌∙◌, and_parts, max_rules, Decision, Store, effect_of, is_between, is_rule, decision_is, place_is, rule_is, some_read, is_inside, no_effect, no_rule, only_that}
 use Rattle.office_access.proofs.asker.decision_in.Goals as goal
 
-pub returns-in_ok-effect_of-in-Ok-clause-reads : goal.returns-in_ok-effect_of-in-Ok-clause-reads
-returns-in_ok-effect_of-in-Ok-clause-reads c =
+pub returns-in_ok-effect_of-in-Ok : goal.returns-in_ok-effect_of-in-Ok
+returns-in_ok-effect_of-in-Ok c =
     let row = c.args.row.now in
     let decision : Decision = record { rule = c.in-Ok.rule; effect = c.in_ok-effect_of-in-Ok.field-0 } in
     let place : pos c.in-Ok.rule ≡ row.place = search rules in
@@ -13,14 +13,15 @@ returns-in_ok-effect_of-in-Ok-clause-reads c =
     let is : is_rule row ≡ true = sym (rule_is row) ∙ (λ i. place_is row.place c.in-Ok.rule place from_one among_few i && (sym c.is_rule.ensures ∙ yes) i) in
     ap (λ o. ok_or o Store) (sym (decision_is row decision is place effect))
 
-pub returns-in_err-effect_of-in-Ok-clause-reads : goal.returns-in_err-effect_of-in-Ok-clause-reads
-returns-in_err-effect_of-in-Ok-clause-reads c =
+pub returns-in_err-effect_of-in-Ok : goal.returns-in_err-effect_of-in-Ok
+returns-in_err-effect_of-in-Ok c =
     let none : effect_of c.args.row.now.effect ≡ None = search rules in
-    let failed : c.from_residual.result ≡ Err Store = search rules in
+    let store = only_that (effect_of c.args.row.now.effect) Store c.effect_of.result c.effect_of.ensures in
+    let failed : c.from_residual.result ≡ Err Store = search (rules, store) in
     failed ∙ ap (λ o. ok_or o Store) (sym (no_effect c.args.row.now none))
 
-pub returns-in_default-clause-reads : goal.returns-in_default-clause-reads
-returns-in_default-clause-reads c =
+pub returns-in_default : goal.returns-in_default
+returns-in_default c =
     let row = c.args.row.now in
     ap (λ o. ok_or o Store) (sym (no_rule row (λ e.
     let both = and_parts (is_between (pos 1) (pos max_rules) row.place) _ (rule_is row ∙ e) in

@@ -31,7 +31,7 @@ returns-clause-reads g c clean office =
     let told_of : denial_at t visit a.action row ≡ Some c.in_ok-denied.denied = rw (collection, class) at told in
     IfOk-weaker c.unless_refused.result _ _ (λ asked says. (
       denied.0 ∙ same,
-      ap (λ o. first_told (of_deposit o (by_rows.kept_refusals t visit a.action))) (sym there) ∙ ap (λ o. first_told (o ∷ gone_refusal row ∷ [])) told_of ∙ says,
+      ap (λ o. first_told (of_deposit o (by_rows.kept_refusals t visit a.action))) (sym there) ∙ ap (λ o. first_told (o ∷ gone_refusal row ∷ [])) told_of ∙ says.0,
     )) c.unless_refused.ensures.reads
 
 pub returns-clause-row : goal.returns-clause-row
@@ -43,4 +43,4 @@ returns-clause-row g c clean office =
     let same = c.in_ok-deposit.ensures.same early office in
     let there : Some row ≡ deposit_numbered (pos a.number) t.deposits = sym c.in-Some.is ∙ c.in_ok-deposit.ensures.found early office in
     let denied = c.in_ok-denied.ensures.reads clean (office_still same office) in
-    IfOk-weaker c.unless_refused.result _ _ (λ asked is. (denied.0 ∙ same, IfOk-weaker asked _ _ (λ r alike. sym there ∙ ap Some (sym alike)) is)) c.unless_refused.ensures.row
+    IfOk-weaker c.unless_refused.result _ _ (λ asked is. (denied.0 ∙ same, IfOk-weaker asked _ _ (λ r alike. sym there ∙ ap Some (sym alike)) is.1)) c.unless_refused.ensures.reads

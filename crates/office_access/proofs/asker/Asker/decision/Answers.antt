@@ -1,4 +1,4 @@
-use Rattle.office_access.proofs.Lemmas.{option_copied, rules, w32, w64, option_map, ap, sym, ◌∙◌, ◌≡◌, Some, None, SFits, to_z-of_z, state, tables_of, epoch_day, Store, if_any, decision_by, or_empty, role_name, some_read}
+use Rattle.office_access.proofs.Lemmas.{option_copied, rules, w32, w64, option_map, ap, sym, ◌∙◌, ◌≡◌, Some, None, SFits, to_z-of_z, state, tables_of, epoch_day, Store, if_any, decision_by, inside_as, only_that, or_empty, role_name, some_read}
 use Rattle.office_core.specs.Actions.{action_text}
 use Rattle.office_rows.specs.Matching.{matching_rule}
 use Rattle.office_access.proofs.asker.Asker.decision.Goals as goal
@@ -23,3 +23,8 @@ returns-in-None-clause-reads g c clean office =
     let found = rw (to_z-of_z w32 c.number.result small, to_z-of_z w64 c.number.result fits, c.number.ensures.value) at (c.in_ok-found.ensures.found clean office) in
     let rule : None ≡ matching_rule (role_name a.self.now) (action_text a.action) (or_empty (option_copied a.collection)) (or_empty (option_copied a.class)) (epoch_day a.self.now.day) (tables_of old.now).rules = search (rules, found) in
     (c.in_ok-found.ensures.same clean office, ap (if_any decision_by) (sym rule))
+
+pub returns-in_err-decision_in-in-Some-clause-inside : goal.returns-in_err-decision_in-in-Some-clause-inside
+returns-in_err-decision_in-in-Some-clause-inside g c =
+    let store = only_that (decision_by c.in-Some.row) Store c.decision_in.result c.decision_in.ensures in
+    inside_as c.in_ok-found.ensures.inside _ (search (rules, store))
