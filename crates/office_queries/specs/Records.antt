@@ -1,6 +1,7 @@
 -- The record of a deposit, in the parts in which its row is read.
 use Rattle.std.specs.Prelude.{Option, Some, None, if◌then◌else◌}
 use Rattle.office_core.specs.Descriptions.{Description}
+use Rattle.office_core.specs.FirstOf.{◌>>=◌}
 use Rattle.office_core.specs.declared.answer.DepositRecord.{DepositRecord}
 use Rattle.office_rows.specs.Rows.{DepositRow}
 use Rattle.office_history.specs.Pictures.{description_of}
@@ -17,6 +18,8 @@ record_of f description = record {
   due = f.due;
 }
 
--- by the row that has these figures: none where a name is none
-abbrev pub record_if_named : DepositFigures → DepositRow → Option DepositRecord
-record_if_named f row = if has_names row then Some (record_of f (description_of row f.closed)) else None
+-- by the row that has these figures, if it has any: none where a name is none
+abbrev pub record_if_told : Option DepositFigures → DepositRow → Option DepositRecord
+record_if_told figures row = do
+  f ← figures
+  if has_names row then Some (record_of f (description_of row f.closed)) else None

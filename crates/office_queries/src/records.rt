@@ -1,8 +1,10 @@
 //! Records of deposits.
 
-ghost use Rattle.std.specs.Prelude.{◌≡◌, ◌↔◌, IfErr, IfOk, None, OnErr, Some, false, pos, true};
+ghost use Rattle.std.specs.Prelude.{◌≡◌, IfErr, IfOk, Some, if◌then◌else◌, is_none, pos};
+ghost use Rattle.std.specs.Option.{ok_or};
+ghost use Rattle.std.specs.Result.{result_ok};
+ghost use Rattle.office_core.specs.FirstOf.{answer_if};
 ghost use Rattle.office_core.specs.declared.request.Request.TheVariants as requests;
-ghost use Rattle.office_contents.specs.Faults.{IsFailure};
 ghost use Rattle.office_rows.specs.Rows.{deposit_numbered};
 ghost use Rattle.office_contents.specs.Calls.{GoesOnInside};
 ghost use Rattle.office_contents.specs.Contents.{Does};
@@ -11,7 +13,7 @@ ghost use Rattle.office_history.specs.Pictures.{description_of};
 ghost use Rattle.office_by_rows.specs.Answers.{has_names, record_by};
 ghost use Rattle.office_access.specs.Asking.{visit_on};
 ghost use Rattle.office_queries.specs.Reading.{IsReadFor, ServesReading};
-ghost use Rattle.office_queries.specs.Records.{record_if_named, record_of};
+ghost use Rattle.office_queries.specs.Records.{record_if_told, record_of};
 
 use crate::counts::count_in;
 use bag_text::{MAX_CONTENT, MAX_FILES};
@@ -39,9 +41,7 @@ struct DepositFigures {
 ///
 /// Fails with `Store` where that is no record, whatever the names are.
 fn figures_in(row: &DepositRow, kept: &DueRow) -> Result<DepositFigures, TableFault>
-    ensures reads { IfOk result (λ figures.
-        record_by row.now kept.now ≡ record_if_named figures row.now) }
-    ensures none { OnErr result (record_by row.now kept.now ≡ None) }
+    ensures reads { record_by row.now kept.now ≡ record_if_told (result_ok result) row.now }
     ensures store { IfErr result (λ fault. fault ≡ TableFault.Store) }
 {
     let days = days_in(row)?;
@@ -62,10 +62,8 @@ fn figures_in(row: &DepositRow, kept: &DueRow) -> Result<DepositFigures, TableFa
 ///
 /// Fails with `Store` where a name is none.
 fn description_in(row: &DepositRow, closed: Day) -> Result<Description<'_>, TableFault>
-    ensures reads { IfOk result (λ description.
-        (has_names row.now ≡ true) × (description ≡ description_of row.now closed)) }
-    ensures none { OnErr result (has_names row.now ≡ false) }
-    ensures store { IfErr result (λ fault. fault ≡ TableFault.Store) }
+    ensures { result
+        ≡ ok_or (answer_if (has_names row.now) (description_of row.now closed)) TableFault.Store }
 {
     let accession = text_read(&row.accession)?;
     let collection = text_read(&row.collection)?;
@@ -109,9 +107,9 @@ pub fn record_in(
     kept: &DueRow,
 ) -> Result<DepositRecord, TableFault>
     ensures reads { IfOk result (λ told. record_by row.now kept.now ≡ Some told) }
-    ensures store { IfErr result (λ fault.
-        (fault ≡ TableFault.Store) ↔ (record_by row.now kept.now ≡ None)) }
-    ensures failure { IfErr result IsFailure }
+    ensures failure { IfErr result (λ fault.
+        fault
+        ≡ (if is_none (record_by row.now kept.now) then TableFault.Store else TableFault.Memory)) }
 {
     let figures = figures_in(row, kept)?;
     let description = description_in(row, figures.closed)?;

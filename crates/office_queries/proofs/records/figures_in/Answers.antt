@@ -8,16 +8,16 @@ use Rattle.office_queries.proofs.records.figures_in.Goals as goal
 read : (c : In_ok-files) → (count_of c.args.row.now.number ≡ Some c.row.inside.number) × (days_of c.args.row.now ≡ Some (told_days c.in_ok-days.days)) × (count_up_to max_files c.args.row.now.files ≡ Some c.in_ok-files.files)
 read c = (search rules, search rules, search rules)
 
-pub returns-in_err-bytes-clause-none : goal.returns-in_err-bytes-clause-none
-returns-in_err-bytes-clause-none c =
-    let it = read (goal.at.returns-in_err-bytes-clause-none c).In_ok-files in
+pub returns-in_err-bytes-clause-reads : goal.returns-in_err-bytes-clause-reads
+returns-in_err-bytes-clause-reads c =
+    let it = read (goal.at.returns-in_err-bytes-clause-reads c).In_ok-files in
     let none : count_up_to (max_files * max_content) c.args.row.now.bytes ≡ None = search rules in
     let nothing : record_by c.args.row.now c.args.kept.now ≡ None = λ i. record_of_parts c.args.row.now (it.0 i) (it.1 i) (it.2 i) (none i) (due_of_number c.args.kept.now.due) in
     search (rules, nothing)
 
-pub returns-in_err-due-clause-none : goal.returns-in_err-due-clause-none
-returns-in_err-due-clause-none c =
-    let it = read (goal.at.returns-in_err-due-clause-none c).In_ok-files in
+pub returns-in_err-due-clause-reads : goal.returns-in_err-due-clause-reads
+returns-in_err-due-clause-reads c =
+    let it = read (goal.at.returns-in_err-due-clause-reads c).In_ok-files in
     let bytes : count_up_to (max_files * max_content) c.args.row.now.bytes ≡ Some c.in_ok-bytes.bytes = search rules in
     let none : due_of_number c.args.kept.now.due ≡ None = search rules in
     let nothing : record_by c.args.row.now c.args.kept.now ≡ None = λ i. record_of_parts c.args.row.now (it.0 i) (it.1 i) (it.2 i) (bytes i) (none i) in
