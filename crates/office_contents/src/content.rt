@@ -105,15 +105,29 @@ fn remove_content<S: Alter>(tx: &mut Transaction<'_, S>, id: i64) -> Result<usiz
     change(tx, "DELETE FROM content WHERE id = ?1", params![id])
 }
 
-/// The rows that show the number and the size of each content, ascending.
-fn rows_of_contents<S: Alter>(tx: &mut Transaction<'_, S>) -> Result<Vec<Row>>
+/// The rows that show the number and the size of each content, ascending: `size_in` reads the size. The store
+/// alone allocates for them.
+///
+/// Fails with `Memory` or `Store`.
+pub fn rows_of_contents<S: Alter>(tx: &mut Transaction<'_, S>) -> Result<Vec<Row>>
     ensures inside { GoesOnInside S.Store tx.old.conn tx.new.conn result }
     ensures found { Does S.Store tx.old.conn.now tx.new.conn.now result (λ old new rows.
         (new ≡ old)
         × (map {B = ℤ × ℤ} (λ c. (c.id, c.size)) (contents_of old)
         ≡ map {B = ℤ × ℤ} (λ row. (int_at row 0, int_at row 1)) rows.items)) }
+    ensures store { FailsInStore S.Store tx.old.conn.now tx.new.conn.now result }
 {
     ask(tx, "SELECT id, size FROM content ORDER BY id", &[])
+}
+
+/// The size of a content, in a row that `rows_of_contents` shows.
+///
+/// Fails with `Store`.
+pub fn size_in(row: &Row) -> Result<i64>
+    ensures shown { IfOk result (λ size. size ≡ int_at row.now 1) }
+    ensures store { IfErr result (λ fault. fault ≡ TableFault.Store) }
+{
+    number_in(row, 1)
 }
 
 /// The bytes in that column of a row.

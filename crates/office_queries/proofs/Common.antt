@@ -4,7 +4,7 @@ pub use Rattle.bag_text.specs.TransferForm.{File, IsBag, max_content, max_files,
 pub use Rattle.bag_text.specs.TransferReading.{files_of}
 pub use Rattle.bag_text.specs.declared.set_fault.SetFault.{SetFault}
 pub use Rattle.jiff.specs.Types.{Date}
-pub use Rattle.office_access.proofs.RowsTold.{office_still, there_told, told_before}
+pub use Rattle.office_access.proofs.RowsTold.{office_still, told_before}
 pub use Rattle.office_access.proofs.ServedBy.{read_by, refused_by}
 pub use Rattle.office_access.specs.Asking.{role_name, visit_on}
 pub use Rattle.office_access.specs.Contents.{Contents, contents_after, is_intact_at, Rows, rows_of, downloads_intact}
@@ -34,12 +34,13 @@ pub use Rattle.office_contents.specs.Calls.{GoesOnInside, GoesOnInTurn, Shows}
 pub use Rattle.office_contents.specs.Tables.{contents_of, IsOffice, tables_of}
 pub use Rattle.office_contents.specs.declared.fault.TableFault.{TableFault}
 pub use Rattle.office_contents.specs.declared.fault.TableFault.TheVariants.{Memory, Store}
-pub use Rattle.office_contents.specs.declared.content.ContentSize.{ContentSize}
 pub use Rattle.sqlite.specs.Effect.{Database}
 pub use Rattle.sqlite.specs.Held.{Held, state}
+pub use Rattle.sqlite.specs.Order.{Row}
 pub use Rattle.sqlite.specs.State.{HasCleanDisk}
 pub use Rattle.sqlite.specs.Store.{Ghosts}
-pub use Rattle.std.proofs.Common.{◌&&◌, ◌*◌, ◌+◌, ◌++◌, ◌<◌, [], ap, append-nil, ap₂, arith, Bool, Bor, bytes_eq, cond, drop, Err, false, get_or, IfErr, IfOk, IfSome, if◌then◌else◌, is_none, is_some, le_trans, length, List, map, MutBor, nat_le, negsuc, None, Ok, ok_or, Option, option_copied, option_map, pos, refl, Result, rules, SFits, Some, String, string_bytes, string_eq, subst, sum, sym, take, true, w32, w64, ℕ, ℤ, ◌↔◌, ◌∙◌, ◌∷◌, ◌≡◌, ◌≤◌}
+pub use Rattle.sql_meaning.specs.Columns.{int_at}
+pub use Rattle.std.proofs.Common.{◌&&◌, ◌*◌, ◌+◌, ◌++◌, ◌<◌, [], ap, append-nil, ap₂, arith, Bool, Bor, bytes_eq, cond, drop, Err, false, get_or, IfErr, IfOk, IfSome, if◌then◌else◌, is_none, is_some, le_trans, length, List, map, MutBor, nat_le, None, Ok, ok_or, Option, option_copied, option_map, pos, refl, Result, rules, SFits, Some, String, string_bytes, string_eq, subst, sum, sym, take, true, w32, w64, ℕ, ℤ, ◌∙◌, ◌∷◌, ◌≡◌, ◌≤◌}
 pub use Rattle.std.proofs.lemmas.Bool.{and_parts, false_from_ne_true}
 pub use Rattle.std.proofs.lemmas.Int.{to_z-of_z}
 pub use Rattle.std.proofs.lemmas.List.{get_or-map, length-map, map-append, map_more, take-map, take_all, take_more}

@@ -1,15 +1,14 @@
 //! The stock of an office: the contents that it keeps, each once.
 
-ghost use Rattle.std.specs.Prelude.{◌≡◌, Some, map};
-ghost use Rattle.std.specs.Option.{ok_or};
+ghost use Rattle.std.specs.Prelude.{◌≡◌, IfErr, IfOk, None, Some, map};
+ghost use Rattle.sql_meaning.specs.Columns.{int_at};
 ghost use Rattle.office_contents.specs.Calls.{GoesOnInside};
-ghost use Rattle.office_contents.specs.Contents.{Does};
+ghost use Rattle.office_contents.specs.Contents.{Does, RefusesIf};
 ghost use Rattle.office_contents.specs.Tables.{contents_of};
-ghost use Rattle.office_contents.specs.declared.fault.TableFault.TheVariants.{Store};
-ghost use Rattle.office_by_rows.specs.Stock.{stock_by, stock_in, total_by};
+ghost use Rattle.office_by_rows.specs.Stock.{stock_by, stock_in};
 
-use office_tables::{ContentSize, TableFault, contents};
-use sqlite::{Alter, Transaction};
+use office_tables::{TableFault, rows_of_contents, size_in};
+use sqlite::{Alter, Row, Transaction};
 use std::alloc::Global;
 use std::marker::Model;
 
@@ -36,41 +35,41 @@ impl Model for Stock {
     ghost inverse = { λ s. record { contents = s.contents; bytes = s.bytes } };
 }
 
-/// How many bytes the contents have together, where memory could hold as many.
-fn total_of(sizes: &[ContentSize]) -> Option<usize>
-    ensures { result ≡ total_by (map (λ s. s.size) sizes.now) }
+/// The stock of the contents whose sizes the rows show.
+///
+/// Fails with `Store` where a size is no number from 0 on, and where they come to more bytes than memory could hold.
+fn stock_in(rows: &[Row]) -> Result<Stock, TableFault>
+    ensures told { IfOk result (λ stock.
+        stock_in (map (λ row. int_at row 1) rows.now) ≡ Some stock) }
+    ensures store { IfErr result (λ fault. fault ≡ TableFault.Store) }
 {
     let mut bytes: usize = 0;
-    for size in sizes {
-        let Ok(more) = usize::try_from(size.size) else {
-            return None;
+    for row in rows {
+        let Ok(more) = usize::try_from(size_in(row)?) else {
+            return Err(TableFault::Store);
         };
-        bytes = bytes.checked_add(more)?;
+        let Some(sum) = bytes.checked_add(more) else {
+            return Err(TableFault::Store);
+        };
+        bytes = sum;
     }
-    Some(bytes)
-}
-
-/// The stock that contents of these sizes are. A size below 0 is a fault of the store.
-fn stock_in(sizes: &[ContentSize]) -> Result<Stock, TableFault>
-    ensures { result ≡ ok_or (stock_in (map (λ s. s.size) sizes.now)) TableFault.Store }
-{
-    match total_of(sizes) {
-        Some(bytes) => Ok(Stock {
-            contents: sizes.len(),
-            bytes,
-        }),
-        None => Err(TableFault::Store),
-    }
+    Ok(Stock {
+        contents: rows.len(),
+        bytes,
+    })
 }
 
 /// The stock of the office, by the sizes of the contents that its tables hold.
 ///
-/// Fails with `Memory` or `Store`.
-pub fn stock_of<S: Alter>(alloc: Global, tx: &mut Transaction<'_, S>) -> Result<Stock, TableFault>
+/// Fails with `Memory` or `Store`. Where the sizes are no stock, it is `Memory` only if memory ran out in the
+/// store.
+pub fn stock_of<S: Alter>(_alloc: Global, tx: &mut Transaction<'_, S>) -> Result<Stock, TableFault>
     ensures inside { GoesOnInside S.Store tx.old.conn tx.new.conn result }
     ensures reads { Does S.Store tx.old.conn.now tx.new.conn.now result (λ old new found.
         (new ≡ old) × (stock_by (contents_of old) ≡ Some found)) }
+    ensures store { RefusesIf S.Store tx.old.conn.now tx.new.conn.now result (λ old.
+        stock_by (contents_of old) ≡ None) }
 {
-    let sizes = contents(alloc, tx)?;
-    stock_in(&sizes)
+    let rows = rows_of_contents(tx)?;
+    stock_in(&rows)
 }

@@ -29,7 +29,7 @@ pub use holds::{
 pub use moving::{move_holds, renew};
 pub use office_contents::{
     ContentSize, FileRow, Result, TableFault, TableVersion, contents, drop_files, file_of,
-    files_of, intact_file_of, intact_files_of, put_file, put_marked,
+    files_of, intact_file_of, intact_files_of, put_file, put_marked, rows_of_contents, size_in,
 };
 pub use opening::{OfficeLimits, has_office, limits, open_tables, version_told};
 pub use policy::{CallerRow, RuleRow, match_rule, put_policy, role_of, rules};

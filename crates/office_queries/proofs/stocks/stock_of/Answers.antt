@@ -1,10 +1,24 @@
-use Rattle.office_queries.proofs.Lemmas.{ok_or, map, sym, ap, ◌∙◌, state, Store, ContentSize, stock_in, there_told, sizes_told}
+use Rattle.office_queries.proofs.Lemmas.{◌≡◌, None, Some, map, sym, ap, subst, ◌∙◌, IfErr-weaker, IfOk-weaker, state, HasCleanDisk, contents_of, int_at, IsOffice, Row, stock_in, sizes_told}
+use Rattle.office_access.proofs.RowsTold.{refuses}
+use Rattle.office_by_rows.specs.Stock.{stock_by}
+use Rattle.office_contents.specs.Calls.{IsOfStore}
+use Rattle.office_queries.proofs.stocks.stock_of.Given.{Over}
 use Rattle.office_queries.proofs.stocks.stock_of.Goals as goal
+
+-- the rows tell the stock of the contents, and nothing has changed
+shown : (g : Over) (c : goal.After-drop-rows g) → HasCleanDisk (state g.S.Store c.rows_of_contents.new.tx.conn.now) → IsOffice (state g.S.Store c.args.tx.now.conn.now).now
+    → ((state g.S.Store c.rows_of_contents.new.tx.conn.now).now ≡ (state g.S.Store c.args.tx.now.conn.now).now) × (stock_by (contents_of (state g.S.Store c.args.tx.now.conn.now).now) ≡ stock_in (map (λ (row : Row). int_at row 1) c.deref.result.now))
+shown g c clean office =
+    let found = c.in_ok-rows.ensures.found clean office in
+    (found.0, ap stock_in (sizes_told (state g.S.Store c.args.tx.now.conn.now).now c.in_ok-rows.rows.items found.1) ∙ ap (λ rows. stock_in (map (λ (row : Row). int_at row 1) rows)) (sym c.deref.ensures.value))
 
 pub returns-clause-reads : goal.returns-clause-reads
 returns-clause-reads g c clean office =
-    let old = state g.S.Store c.args.tx.now.conn.now in
-    let sizes = c.in_ok-sizes.sizes.items in
-    let found = c.in_ok-sizes.ensures.found clean office in
-    let told = c.stock_in.ensures ∙ ap (λ xs. ok_or (stock_in (map (λ (s : ContentSize). s.size) xs)) Store) c.deref.ensures.value in
-    there_told (stock_in (map (λ (s : ContentSize). s.size) sizes)) Store c.stock_in.result told (λ x e. (found.0, ap stock_in (sym (sizes_told old.now sizes found.1)) ∙ sym e))
+    let it = shown g c clean office in
+    IfOk-weaker c.stock_in.result _ _ (λ stock told. (it.0, it.1 ∙ told)) c.stock_in.ensures.told
+
+pub returns-clause-store : goal.returns-clause-store
+returns-clause-store g c clean office none =
+    let it = shown g c clean office in
+    let new = c.rows_of_contents.new.tx.conn.now in
+    refuses _ (IsOfStore g.S.Store new) c.stock_in.result (λ stock told. let never : None ≡ Some stock = sym none ∙ it.1 ∙ told in cc) c.stock_in.ensures.told (IfErr-weaker c.stock_in.result _ _ (λ fault is. subst (IsOfStore g.S.Store new) (sym is) tt) c.stock_in.ensures.store)
