@@ -10,12 +10,15 @@ use Rattle.sqlite.specs.Held.{Held, state}
 use Rattle.office_core.specs.Policies.{PolicyValue}
 use Rattle.office_core.specs.declared.answer.Answer.{Answer}
 use Rattle.office_core.specs.declared.answer.Answer.TheVariants as answers
+use Rattle.office_core.specs.declared.refusal.Refusal.TheVariants as refusals
 use Rattle.office_contents.specs.Tables.{IsOffice, contents_of, tables_of}
 pub use Rattle.office_tables.specs.Opening.{HasSameTables}
 use Rattle.office_history.specs.Histories.{History, Installed, with_changes}
 use Rattle.office_history.specs.Answers.{change, after, due_list}
 use Rattle.office_history.specs.Runs.{IsLegal, IsFailure, Item, Step, Run}
 use Rattle.office_history.specs.Stocks.{Stock, stock}
+use Rattle.office_contents.specs.declared.fault.TableFault.{TableFault}
+use Rattle.office_contents.specs.declared.fault.TableFault.TheVariants as faults
 use Rattle.office_contents.specs.declared.version.TableVersion.{TableVersion}
 use Rattle.office_contents.specs.Versions.{Newest}
 use Rattle.office_by_rows.specs.Answers as by_rows
@@ -95,6 +98,11 @@ is_accepted (answers.HoldPlaced k) = true
 is_accepted (answers.HoldReleased k day) = true
 is_accepted (answers.Destroyed n day) = true
 is_accepted _ = false
+
+-- the answer where the tables fail: E11 where memory ran out, and E12 for each other fault
+abbrev pub failure_answer : TableFault → Answer
+failure_answer faults.Memory = answers.Refused refusals.Memory
+failure_answer fault = answers.Refused refusals.Store
 
 -- what a crash may leave, beside what it could leave before, are these trees
 abbrev pub LeavesAlso : State → State → Trees → Type 0

@@ -1,6 +1,6 @@
 //! One request in one transaction.
 
-ghost use Rattle.std.specs.Prelude.{◌≡◌, ◌≢◌, ◌⊎◌, IsOkAnd, IsTrue, Ok, OnOk, false};
+ghost use Rattle.std.specs.Prelude.{◌≡◌, ◌⊎◌, IfErr, IsOkAnd, IsTrue, Ok, OnOk, false};
 ghost use Rattle.sqlite.specs.State.{HasCleanDisk, IsRolledBack, Shows, Survives};
 ghost use Rattle.sqlite.specs.Held.{state};
 ghost use Rattle.office_contents.specs.Calls.{GoesOnInside};
@@ -8,7 +8,7 @@ ghost use Rattle.office_history.specs.Runs.{IsFailure};
 ghost use Rattle.office_access.specs.Asking.{visit_on};
 ghost use Rattle.office_access.specs.Serving.{Serves};
 ghost use Rattle.office_engine.specs.Deciding.{is_reading};
-ghost use Rattle.office_engine.specs.Storing.{CommitsRows, CommitsTo, IfClean, IsTurn, after_item, is_accepted};
+ghost use Rattle.office_engine.specs.Storing.{CommitsRows, CommitsTo, IfClean, IsTurn, after_item, failure_answer, is_accepted};
 
 use office_classes::{define_class, define_collection};
 use office_core::{Answer, Day, Refusal, Request};
@@ -22,8 +22,7 @@ use std::alloc::Global;
 
 /// The answer where the tables fail.
 fn failure_answer(fault: TableFault) -> Answer
-    ensures memory { fault ≡ TableFault.Memory → result ≡ Answer.Refused Refusal.Memory }
-    ensures store { fault ≢ TableFault.Memory → result ≡ Answer.Refused Refusal.Store }
+    ensures exact { result ≡ failure_answer fault }
     ensures failure { IsFailure result }
     ensures unchanged { is_accepted result ≡ false }
 {
@@ -123,6 +122,7 @@ fn decide<S: Alter>(
 fn end<S: Alter>(tx: Transaction<'_, S>, decided: Result<Answer, TableFault>) -> Answer
     ensures outside { tx.exit.0.now.in_transaction ≡ false }
     ensures told { (decided ≡ Ok result) ⊎ IsFailure result }
+    ensures failed { IfErr decided (λ fault. result ≡ failure_answer fault) }
     ensures committed { HasCleanDisk (state S.Store tx.exit.0.now) → IsTrue (is_accepted result)
         → (decided ≡ Ok result)
         × Shows (state S.Store tx.entry.conn.now) (state S.Store tx.exit.0.now)
