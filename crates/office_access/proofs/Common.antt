@@ -22,7 +22,7 @@ pub use Rattle.office_contents.specs.Tables.{Becomes, IsOffice, tables_of}
 pub use Rattle.office_contents.specs.declared.fault.TableFault.TheVariants.{Memory, Store}
 pub use Rattle.sqlite.specs.Effect.{Database}
 pub use Rattle.sqlite.specs.Held.{Held, state}
-pub use Rattle.std.proofs.Common.{◌&&◌, ◌+◌, ◌++◌, ◌<◌, [], ap, arith, Bool, Err, false, IfErr, IfOk, IfSome, if◌then◌else◌, inl, inr, int_le, IsErrAnd, length, List, map, MatchOption, None, not, of_z, Ok, ok_or, OnOk, Option, option_copied, option_map, pos, refl, Result, rules, SFits, slice_get, Some, subst, subst₂, sym, to_z, true, true≢false, unwrap_or, w32, w64, ◌||◌, ℕ, ℤ, ◌↔◌, ◌∙◌, ◌∷◌, ◌≡◌, ◌≤◌, ◌≤ℤ◌}
+pub use Rattle.std.proofs.Common.{◌&&◌, ◌+◌, ◌++◌, ◌<◌, [], ap, arith, Bool, Err, false, IfErr, IfOk, IfSome, if◌then◌else◌, inl, inr, int_le, length, List, map, MatchOption, None, not, of_z, Ok, ok_or, OnOk, Option, option_copied, option_map, pos, refl, Result, rules, SFits, slice_get, Some, subst, subst₂, sym, to_z, true, true≢false, unwrap_or, w32, w64, ◌||◌, ℕ, ℤ, ◌↔◌, ◌∙◌, ◌∷◌, ◌≡◌, ◌≤◌, ◌≤ℤ◌}
 pub use Rattle.std.proofs.lemmas.Bool.{and_parts, cases_Bool, false_from_ne_true, or_parts}
 pub use Rattle.std.proofs.lemmas.Int.{ints, to_z-of_z}
 pub use Rattle.std.proofs.lemmas.Option.{none-some, same_Some}

@@ -9,7 +9,7 @@ use Rattle.office_history.specs.Histories.{History}
 use Rattle.office_history.specs.Pictures.{picture}
 
 -- the tables of that version picture this history: they are an office's, their rows are those that the history gives, and no others, and
--- the contents of the files are kept once each
+-- the contents of the files are stored once each
 pub record PicturesAt (version : TableVersion) (h : History) (db : Database) : Type 0 where
   pub office : IsOfficeAt version db
   pub are : tables_at version db ≡ picture (version_number version) h

@@ -15,7 +15,7 @@ use Rattle.office_by_rows.specs.Asking.{Visit}
 use Rattle.office_by_rows.specs.Serving.{serve}
 use Rattle.office_access.specs.Contents.{Contents, IsOfficeWith, Rows, contents_after, contents_in, rows_of, downloads_intact}
 
--- the rows and the contents are what this makes of those before; and contents that were kept once still are
+-- the rows and the contents are what this makes of those before; and contents that were stored once still are
 pub record IsRewrittenBy (change : Tables → Option Tables) (keep : Tables → Contents → Contents) (old new : Database) : Type 0 where
   pub rows : Tables
   pub is : change (tables_of old) ≡ Some rows
@@ -47,7 +47,7 @@ serve_rows r visit request = do
   served ← serve r.tables visit request
   answer_if (downloads_intact r request served.0) (served.0, rows_after r request served.0 served.1)
 
--- the answer, and the rows after it, are what the request comes to by those before; and contents that were kept once still are
+-- the answer, and the rows after it, are what the request comes to by those before; and contents that were stored once still are
 pub record IsServedBy (visit : Visit) (request : Request) (old new : Database) (given : Answer) : Type 0 where
   pub rows : Rows
   pub is : serve_rows (rows_of old) visit request ≡ Some (given, rows)

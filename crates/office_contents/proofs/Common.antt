@@ -4,7 +4,7 @@ pub use Rattle.office_contents.specs.Calls.{Continues, ContinuesInTurn, GoesOnIn
 pub use Rattle.office_contents.specs.Contents.{AreFilesDropped, AreStoredOnce, AreUsed, AreUsedOr, content_after, content_at, content_number, content_referred, contents_without, Does, HasSameContents, is_among, is_intact, IsContentAdded, IsContentStored, IsFileAdded, IsMarked, IsMarkedPut, IsNewContent, IsTidied, HasSameFiles, StoresOnce, number_alike, references_of, references_where, references_within, references_without, ShowsFile, StandOnce, without_unused}
 pub use Rattle.office_contents.specs.Files.{files_by_path, path_cmp, shown_path}
 pub use Rattle.office_contents.specs.Faults.{IsFailure}
-pub use Rattle.office_contents.specs.Schema.{all_tables, content_table, content_tree, emptied_trees, file_table, file_tree, office_schema, old_hold_tree, old_rule_tree}
+pub use Rattle.office_contents.specs.Schema.{all_tables, content_table, content_tree, emptied_trees, file_table, file_tree, office_schema}
 pub use Rattle.office_contents.specs.Tables.{Becomes, content_in, contents_of, file_in, IsOffice, tables_of}
 pub use Rattle.office_contents.specs.declared.fault.TableFault.{TableFault}
 pub use Rattle.sha2.specs.Sha256.{sha256}

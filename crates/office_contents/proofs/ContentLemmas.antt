@@ -522,7 +522,7 @@ same_among xs ys k there back = elim (cases_Bool (list_any (λ id. int_eq k id) 
   ]
 ]
 
--- ---- kept once
+-- ---- stored once
 
 once_pushed : (cs : List ContentRow) (c : ContentRow) → StandOnce cs → AllByRecursion (λ (d : ContentRow). bytes_eq d.bytes c.bytes ≡ false) cs → StandOnce (cs ++ c ∷ [])
 unfolding IsDistinct
@@ -562,7 +562,7 @@ all_named : (bytes : List ℕ) (cs : List ContentRow) → AllByRecursion IsMarke
 all_named bytes [] marked = tt
 all_named bytes (c ∷ cs) marked = (λ same. marked.0.mark ∙ ap sha256 same, all_named bytes cs marked.1)
 
--- contents that were kept once still are after a file was put under the SHA-256 of its bytes
+-- contents that were stored once still are after a file was put under the SHA-256 of its bytes
 pub put_once : (path bytes : List ℕ) (n : ℤ) (old new : Database) → IsMarkedPut (record { deposit = n; path = path; content = bytes }) (sha256 bytes) old new → StoresOnce old → StoresOnce new
 put_once path bytes n old new put kept = by (list_any (is_alike (sha256 bytes) bytes) (contents_of old)) refl
   where
@@ -595,7 +595,7 @@ module _ (n : ℤ) (ids : List ℤ) (old mid new : Database) (theirs : (r : Row)
       ])) in
       held_used (references_of new) (contents_of new) (none_left (contents_of new) (tidied.used before))
 
-  -- so contents that were kept once still are
+  -- so contents that were stored once still are
   pub drop_once : StoresOnce old → StoresOnce new
   drop_once kept = record {
     once = tidied.once (subst StandOnce (sym dropped.contents) kept.once);

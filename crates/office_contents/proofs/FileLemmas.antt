@@ -425,7 +425,7 @@ module _ (db : Database) (office : IsOffice db) (n : ℤ) (path : List ℕ) wher
           let same : file_in (contents_of db) row ≡ f = same_Some (file_in (contents_of db) row) f found in
           (it.0, it.1, ap (λ (g : FileRow). g.content) (sym same) ∙ it.2, it.3)
 
-  -- which is intact where contents are kept once
+  -- which is intact where contents are stored once
   pub has_intact : StoresOnce db → (f : FileRow) → file_at n path (tables_of db).files ≡ Some f → is_intact its_content ≡ true
   has_intact kept f is =
       let it = has_content f is in

@@ -76,7 +76,7 @@ module _ (old new : State) (edit : Edit) (count : ℕ) (written : List Row) (cha
   pub same_contents : contents_of (with_edit edit old.now) ≡ contents_of old.now → references_of (with_edit edit old.now) ≡ references_of old.now → HasSameContents old.now new.now
   same_contents contents references = record { contents = contents_after ∙ contents; references = references_after ∙ references }
 
--- so contents that were kept once still are
+-- so contents that were stored once still are
 pub stored_once : {old new : Database} → HasSameContents old new → StoresOnce old → StoresOnce new
 stored_once same once = subst₂ AreStoredOnce (sym same.references) (sym same.contents) once
 

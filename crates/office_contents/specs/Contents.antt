@@ -1,4 +1,4 @@
--- The contents that are kept once, and what the calls on them say. `old` is the database before a call and `new` the one after it.
+-- The contents that are stored once, and what the calls on them say. `old` is the database before a call and `new` the one after it.
 use Rattle.std.specs.Prelude.{◌≡◌, ◌≢◌, ℕ, ℤ, pos, List, [], ◌∷◌, ◌++◌, map, filter, length, true, false, bytes_eq, Bool, not, ◌||◌, if◌then◌else◌, Option, Some, None, find, option_map, slice_get, unwrap_or, ◌⊎◌, Result, IfOk, IsErr, IsErrAnd, IsSome, OnOk}
 use Rattle.std.specs.List.{AllByRecursion, IsDistinct, list_any}
 use Rattle.sha2.specs.Sha256.{sha256}
@@ -20,7 +20,7 @@ use Rattle.office_contents.specs.Tables.{IsOffice, Becomes, tables_of, contents_
 abbrev pub references_of : Database → List ℤ
 references_of db = map (λ row. int_at row 3) (db.trees file_tree)
 
--- ---- kept once
+-- ---- stored once
 
 -- no two contents have the same bytes
 abbrev pub StandOnce : List ContentRow → Type 0
@@ -55,7 +55,7 @@ pub record HasSameContents (old new : Database) : Type 0 where
 abbrev pub LeavesContents : {S T E : Type 0} → Ghosts S → Held S → Held S → Result T E → Type 0
 LeavesContents g old new result = HasCleanDisk (state g new) → IsOffice (state g old).now → OnOk result (HasSameContents (state g old).now (state g new).now)
 
--- contents that were kept once still are
+-- contents that were stored once still are
 abbrev pub LeavesOnce : {S T E : Type 0} → Ghosts S → Held S → Held S → Result T E → Type 0
 LeavesOnce g old new result = HasCleanDisk (state g new) → IsOffice (state g old).now → StoresOnce (state g old).now → OnOk result (StoresOnce (state g new).now)
 
@@ -214,7 +214,7 @@ pub record IsTidied (ids rest : List ℤ) (old new : Database) : Type 0 where
   pub used : AreUsedOr ids (references_of old) (contents_of old) → AreUsedOr rest (references_of new) (contents_of new)
   pub contents : without_unused rest (references_of new) (contents_of new) ≡ without_unused ids (references_of old) (contents_of old)
 
--- ---- what kept once comes to
+-- ---- what stored once comes to
 
 -- the contents that are held are exactly these texts, each once, marked by its SHA-256 and with its length as its size
 pub record AreContents (texts : List (List ℕ)) (contents : List ContentRow) : Type 0 where

@@ -108,7 +108,7 @@ pub fn put_marked<S: Alter>(
     Ok(())
 }
 
-/// Adds a file to the deposit of that number. Its content is kept once, under its SHA-256.
+/// Adds a file to the deposit of that number. Its content is stored once, under its SHA-256.
 ///
 /// Fails with `Store` where the deposit has a file of that path, and with `Memory` or `Store`.
 pub fn put_file<S: Alter>(

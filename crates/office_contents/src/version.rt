@@ -3,7 +3,7 @@
 /// A version of the tables of an office that is known here.
 #[derive(Clone, Copy, Debug, PartialEq, Eq)]
 pub enum TableVersion {
-    /// Holds name a deposit or a collection, and rules have no days. Contents are kept once, and each deposit has its
+    /// Holds name a deposit or a collection, and rules have no days. Contents are stored once, and each deposit has its
     /// due day and its count of holds.
     Third,
     /// Holds may name a class.

@@ -17,7 +17,7 @@ pub use Rattle.office_core.specs.declared.policy_fault.PolicyFault.TheVariants.{
 pub use Rattle.office_core.specs.declared.retention.Due.{Due}
 pub use Rattle.office_core.specs.declared.retention.Due.TheVariants.{Never, On}
 pub use Rattle.office_core.specs.declared.rule.Rule.{Rule}
-pub use Rattle.std.proofs.Common.{◌%◌, ◌&&◌, ◌*◌, ◌+◌, ◌++◌, ◌+ℤ◌, ◌-◌, ◌/◌, ◌<◌, ◌<ℤ◌, ◌==◌, [], ◌^◌, add-one, ap, arith, Bool, bytes_eq, codes, drop, Equal, Err, false, find, FitsSigned, get_or, Greater, IfErr, IfOk, IfSome, if◌then◌else◌, inl, inr, int_le, int_lt, is_eq, is_none, is_some, IsOk, IsSome, IsSomeAnd, leb, length, length-append, Less, List, MatchResult, nat_cmp, nat_lt, neg_ℤ, negsuc, None, not, Ok, Option, option_and_then, option_map, Ordering, pos, position, refl, Result, rules, slice_get, Some, subst, suc, sym, T, take, true, unsigned_abs, unwrap_or, w16, w32, w64, w8, zero, ◌||◌, ℕ, ℤ, ◌↔◌, ◌∙◌, ◌∷◌, ◌≡◌, ◌≢◌, ◌≤◌, ◌≤ℤ◌, ◌⊎◌}
+pub use Rattle.std.proofs.Common.{◌%◌, ◌&&◌, ◌*◌, ◌+◌, ◌++◌, ◌+ℤ◌, ◌-◌, ◌/◌, ◌<◌, ◌<ℤ◌, ◌==◌, [], ◌^◌, add-one, ap, arith, Bool, bytes_eq, codes, drop, Err, false, find, FitsSigned, get_or, IfErr, IfOk, IfSome, if◌then◌else◌, inl, inr, int_le, int_lt, is_eq, is_none, is_some, IsOk, IsSome, IsSomeAnd, leb, length, length-append, Less, List, MatchResult, nat_cmp, nat_lt, neg_ℤ, negsuc, None, not, Ok, Option, option_and_then, option_map, Ordering, pos, position, refl, Result, rules, slice_get, Some, subst, suc, sym, T, take, true, unsigned_abs, unwrap_or, w16, w32, w64, w8, zero, ◌||◌, ℕ, ℤ, ◌↔◌, ◌∙◌, ◌∷◌, ◌≡◌, ◌≢◌, ◌≤◌, ◌≤ℤ◌, ◌⊎◌}
 pub use Rattle.std.proofs.lemmas.Bool.{and_parts, false≢true, or_parts}
 pub use Rattle.std.proofs.lemmas.Bool.Decides.{nat_tests}
 pub use Rattle.std.proofs.lemmas.Int.{by_lt_z, to_z-of_z}

@@ -13,7 +13,7 @@ pub use Rattle.office_core.specs.FirstOf.{◌>>=◌, answer_if}
 pub use Rattle.office_core.specs.declared.answer.Answer.{Answer}
 pub use Rattle.office_core.specs.declared.refusal.Refusal.{Refusal}
 pub use Rattle.office_core.specs.declared.request.Request.{Request}
-pub use Rattle.office_core.specs.declared.request.Request.TheVariants.{Audit, DefineClass, DefineCollection, Deposit, Dispose, DownloadBag, DownloadFile, DueList, HoldClass, HoldCollection, HoldDeposit, Holds, Record, Release}
+pub use Rattle.office_core.specs.declared.request.Request.TheVariants.{DefineClass, DefineCollection, Deposit, Dispose, DownloadBag, DownloadFile, DueList, HoldClass, HoldCollection, HoldDeposit, Release}
 pub use Rattle.office_engine.specs.ByRows.{rows_installed, RowsMake, RowsRun}
 pub use Rattle.office_engine.specs.Deciding.{Finds}
 pub use Rattle.office_engine.specs.Storing.{after_item, after_policy, AllStayShut, AreToldDue, CommitsRows, CommitsTo, InstalledRowsLast, InstallLasts, Installs, InstallsRows, InTurn, is_accepted, IsFoundAfter, IsFoundBy, IsStoredAt, IsStoredBy, IsLeftAt, IsLeftOf, IsLegalAndStored, IsToldStock, IsTurn, HasSameTables, LeavesAlso, LeavesEither, LeavesInstalled, LeavesInstalledRows, LeavesRun, LeavesRunRows, Runs, RunsRows}

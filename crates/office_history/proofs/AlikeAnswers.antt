@@ -21,7 +21,7 @@ same_denied_at h k a day caller action deposit = same_denied h k a day caller ac
 once_among : (b c a s : Bool) → (c ≡ true → s ≡ b) → cond b (a && not s) (c || (a && not (c || s))) ≡ ((c || a) && not s)
 once_among b c a s h = grind (arith, h)
 
--- a text is among those kept once where it is among all, and was not seen before
+-- a text is among those stored once where it is among all, and was not seen before
 among_distinct : (text : List ℕ) (seen texts : List (List ℕ)) → list_any (bytes_eq text) (distinct_after seen texts) ≡ (list_any (bytes_eq text) texts && not (list_any (bytes_eq text) seen))
 among_distinct text seen [] = refl
 among_distinct text seen (x ∷ texts) =

@@ -23,13 +23,13 @@ pub use Rattle.office_core.specs.declared.retention.Due.{Due}
 pub use Rattle.office_history.specs.Answers.{audit_report, file_answer, Wanted}
 pub use Rattle.office_history.specs.Bags.{report_on, report_or_text}
 pub use Rattle.office_history.specs.Pictures.{description_of}
-pub use Rattle.office_rows.proofs.Order.{all_append, all_weaker, map_back}
+pub use Rattle.office_rows.proofs.Order.{all_append, all_weaker}
 pub use Rattle.office_rows.specs.Rows.{beside, ContentRow, deposit_numbered, DepositRow, due_numbered, DueRow, file_at, FileRow, RuleRow, Tables}
 pub use Rattle.office_rows.specs.Told.{disposable_rows, DisposableRow}
 pub use Rattle.office_queries.specs.Allowances.{AreFor, IsToldOf}
 pub use Rattle.office_queries.specs.Kinds.{kind_lent, LentKind, same_kind, same_name}
 pub use Rattle.office_queries.specs.Listing.{wanted_of}
-pub use Rattle.office_contents.proofs.InTurn.{clean_first, failed_in_turn, in_turn, inside_as, inside_failed, inside_then, none_called, then_in_turn, turn_as, turn_failed, turn_then}
+pub use Rattle.office_contents.proofs.InTurn.{clean_first, in_turn, inside_failed, inside_then, none_called, then_in_turn, turn_as, turn_failed, turn_then}
 pub use Rattle.office_contents.specs.Calls.{GoesOnInside, GoesOnInTurn, Shows}
 pub use Rattle.office_contents.specs.Tables.{contents_of, IsOffice, tables_of}
 pub use Rattle.office_contents.specs.declared.fault.TableFault.{TableFault}
@@ -40,10 +40,10 @@ pub use Rattle.sqlite.specs.Order.{Row}
 pub use Rattle.sqlite.specs.State.{HasCleanDisk}
 pub use Rattle.sqlite.specs.Store.{Ghosts}
 pub use Rattle.sql_meaning.specs.Columns.{int_at}
-pub use Rattle.std.proofs.Common.{◌&&◌, ◌*◌, ◌+◌, ◌++◌, ◌<◌, [], ap, append-nil, ap₂, arith, Bool, Bor, bytes_eq, cond, drop, Err, false, get_or, IfErr, IfOk, IfSome, if◌then◌else◌, is_none, is_some, le_trans, length, List, map, MutBor, nat_le, None, Ok, ok_or, Option, option_copied, option_map, pos, refl, Result, rules, SFits, Some, String, string_bytes, string_eq, subst, sum, sym, take, true, w32, w64, ℕ, ℤ, ◌∙◌, ◌∷◌, ◌≡◌, ◌≤◌}
+pub use Rattle.std.proofs.Common.{◌&&◌, ◌*◌, ◌+◌, ◌++◌, ◌<◌, [], ap, append-nil, arith, Bool, Bor, bytes_eq, cond, drop, Err, false, get_or, IfErr, IfOk, IfSome, if◌then◌else◌, is_none, is_some, length, List, map, MutBor, nat_le, None, Ok, ok_or, Option, option_copied, option_map, pos, refl, Result, rules, SFits, Some, String, string_bytes, string_eq, subst, sym, take, true, w32, w64, ℕ, ℤ, ◌∙◌, ◌∷◌, ◌≡◌, ◌≤◌}
 pub use Rattle.std.proofs.lemmas.Bool.{and_parts, false_from_ne_true}
 pub use Rattle.std.proofs.lemmas.Int.{to_z-of_z}
-pub use Rattle.std.proofs.lemmas.List.{get_or-map, length-map, map-append, map_more, take-map, take_all, take_more}
+pub use Rattle.std.proofs.lemmas.List.{length-map, map_more, take_all, take_more}
 pub use Rattle.std.proofs.lemmas.Option.{same_Some}
 pub use Rattle.std.proofs.lemmas.Result.{IfErr-weaker, IfOk-weaker}
 pub use Rattle.std.proofs.lemmas.Slice.Eq.{bytes_eq-Decides}

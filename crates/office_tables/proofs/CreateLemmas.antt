@@ -19,7 +19,7 @@ starts_office old new version deposits holds count blank h =
     let rest : record (tables_of old.now) { office = row ∷ [] } ≡ empty_office version deposits holds = rw (of_callers e, of_classes e, of_collections e, of_deposits e, of_files e, of_holds e, of_rules e) refl in
     record { office = made.office; are = made.are ∙ rest }
 
--- where no table has a row, contents are kept once
+-- where no table has a row, contents are stored once
 blank_once : (db : Database) → IsBlank office_schema db → StoresOnce db
 unfolding IsDistinct
 blank_once db blank =

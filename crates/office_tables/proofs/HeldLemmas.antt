@@ -1,4 +1,4 @@
--- The contents that are kept once are those of the files.
+-- The contents that are stored once are those of the files.
 use Rattle.office_tables.proofs.Common.{◌≡◌, ℕ, ℤ, pos, List, [], ◌∷◌, map, length, unwrap_or, option_map, Option, Some, refl, sym, ap, subst, ◌∙◌, AllByRecursion, Row, Database, Has, all_has, has_mapped, mapped_has, int_at, FileRow, ContentRow, bytes_under, content_numbered, file_tree, IsOffice, tables_of, contents_of, file_in, StoresOnce, IsMarked, AreContents, references_of}
 use Rattle.office_contents.proofs.ContentLemmas.{fetched, content_there, used_held}
 

@@ -1,7 +1,7 @@
 -- The lemmas of this crate that several proofs of its functions cite, passed on from one place. Declares nothing.
 pub use Rattle.office_tables.proofs.ClassLemmas.{adds_class, adds_class_same, finds_years, puts_class, revises_class, revises_class_same}
 pub use Rattle.office_tables.proofs.CollectionLemmas.{adds_collection, finds_collection}
-pub use Rattle.office_tables.proofs.Common.{◌+◌, ◌==◌, [], added_row, ap, at_drop_more, Bor, Builds, CallerRow, drop, Executes, Fifth, Fourth, HasCleanDisk, HoldRow, IfOk-weaker, IsOffice, length, List, map, no_schema, None, not, office_schema, Ok, on_ok, on_ok_weaker, Option, option_map, pos, refl, rules, schema_at, slice_index_or, state, string_bytes, subst, sym, TableFault, tables_of, Third, this_version, to_z-of_z, true, vec_len, w64, with_caller, with_callers, with_rule, with_rules, Writes, ℕ, ℤ, ◌∙◌, ◌∷◌, ◌≡◌, ◌⊎◌}
+pub use Rattle.office_tables.proofs.Common.{◌+◌, ◌==◌, [], added_row, ap, at_drop_more, Bor, Builds, CallerRow, drop, Executes, Fifth, Fourth, HasCleanDisk, HoldRow, IfOk-weaker, IsOffice, length, List, map, no_schema, None, not, office_schema, Ok, on_ok, on_ok_weaker, Option, option_map, pos, refl, rules, schema_at, slice_index_or, state, string_bytes, subst, sym, TableFault, tables_of, Third, this_version, to_z-of_z, true, vec_len, w64, with_caller, with_callers, with_rule, with_rules, Writes, ℕ, ℤ, ◌∙◌, ◌∷◌, ◌≡◌}
 pub use Rattle.office_contents.proofs.ContentLemmas.{any_is}
 pub use Rattle.office_tables.proofs.CreateLemmas.{leaves_made, starts_office, starts_once}
 pub use Rattle.office_tables.proofs.CreateTexts.{builds_hold_4, builds_office, builds_rule_5}

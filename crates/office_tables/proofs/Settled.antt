@@ -44,7 +44,7 @@ becomes_from tables b q h = record { office = office_from Newest b q (∥∥₁_
 pub left_from : (tables : Tables) (b : Database) → IsDatabase b → ∥ IsLeft tables b.trees ∥₁ → IsLeft tables b.trees
 left_from tables b q h = (b, becomes_from tables b q (∥∥₁_map h (λ left. becomes_again tables b.trees b left q refl)), refl)
 
--- ---- contents that are kept once
+-- ---- contents that are stored once
 
 marked_prop : (c : ContentRow) → IsProp (IsMarked c)
 marked_prop c p q = λ i. record { mark = bytes_set c.mark (sha256 c.bytes) p.mark q.mark i; size = ints_set c.size (pos (length c.bytes)) p.size q.size i }
@@ -65,6 +65,6 @@ once_prop refs cs p q = λ i. record {
     bool_set : IsSet Bool
     bool_set = Coded-set (hlevel codes)
 
--- that contents are kept once comes out of a truncation
+-- that contents are stored once comes out of a truncation
 pub once_from : (db : Database) → ∥ StoresOnce db ∥₁ → StoresOnce db
 once_from db h = ∥∥₁_elim h (once_prop (references_of db) (contents_of db)) (λ once. once)

@@ -35,7 +35,7 @@ pub record IsMade (new : State) (tables : Tables) : Type 0 where
 abbrev pub IsLeft : Tables → Trees → Type 0
 IsLeft tables left = (made : Database) × Becomes made tables × (left ≡ made.trees)
 
--- the same of an office that was just made, whose contents are kept once
+-- the same of an office that was just made, whose contents are stored once
 abbrev pub IsMadeLeft : Tables → Trees → Type 0
 IsMadeLeft tables left = (made : Database) × Becomes made tables × StoresOnce made × (left ≡ made.trees)
 

@@ -19,13 +19,13 @@ pub fn live_holds_in_order()
         → NumbersRise (λ n. n) (live_holds deposit collection class (tables_of db)) }
 {}
 
-/// Where contents are kept once, they are exactly those of the files, each once, under its own SHA-256 and with its length.
+/// Where contents are stored once, they are exactly those of the files, each once, under its own SHA-256 and with its length.
 pub fn contents_are_those_of_files()
     ensures { (db : Database) → IsOffice db → StoresOnce db
         → AreContents (map (λ f. f.content) (tables_of db).files) (contents_of db) }
 {}
 
-/// In an office each file has a content, whose bytes are the file's; where contents are kept once, it is intact.
+/// In an office each file has a content, whose bytes are the file's; where contents are stored once, it is intact.
 pub fn files_have_their_contents()
     ensures there { (db : Database) → IsOffice db → (n : ℤ) (path : List ℕ) (f : FileRow)
         → file_at n path (tables_of db).files ≡ Some f

@@ -8,7 +8,7 @@ ghost use Rattle.office_tables.specs.Moving.{AllRows, BecomesAt, renewed};
 ghost use Rattle.office_contents.specs.Versions.{Newest, tables_at};
 ghost use Rattle.office_contents.specs.declared.version.TableVersion.{TableVersion as Version};
 
-/// What is told of contents goes through an upgrade: contents that were kept once still are, and contents that
+/// What is told of contents goes through an upgrade: contents that were stored once still are, and contents that
 /// were exactly those of the files still are.
 pub fn contents_stay()
     ensures once { (version : Version) (rows : AllRows) (old new : Database)
