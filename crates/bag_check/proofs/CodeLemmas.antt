@@ -1,5 +1,5 @@
 -- Reading and judging, item after item.
-use Rattle.bag_check.proofs.FirstLemmas.{inl, inr, cases_Bool, ◌≡◌, ℕ, zero, suc, ◌+◌, ◌*◌, ◌<◌, ◌≤◌, Bool, true, false, cond, not, ◌&&◌, ◌||◌, List, [], ◌∷◌, ◌++◌, length, slice_index_or as get_or, drop, map, filter, refl, sym, ap, ◌∙◌, arith, append_assoc, Option, Some, None, Result, Ok, Err, sum_by, is_some, option_and_then, codes, decimal, cow_str_bytes, list_any, count_by, AllByRecursion, append-nil, drop_more, length-map, and_parts, nat_tests, File, Fits, max_content, Version, entry_in, is_path_listed, manifest_of, Pair, CodePair, pair_in, pairs_of, Rule, is_payload, payload_of, manifest_name, algorithm_named, is_oxum, oxums_of, payload_files, payload_bytes, manifest_count, Report, Fault, UnsupportedAlgorithm, ManifestText, Breaks, rule_number, number_or, manifest_in, path_in, after_space, cause_or, text_or, ◌>>=◌, FailsAs, Named, Listed, named_of, with_manifest, manifests_in, listed_or_fault, listings_of, asks_for, first_unlisted, first_in, first_breach, obeyed_by, version_declared, no_fetch, some_payload, listings_in, obeys, listing_rules, obeys_contents, judge, bind_ok, fronted, again_onto, nothing_onto, nat_lt, digits, nat_cmp, sum-map, sum_by-cons, percent_encode, Manifest, is_escaped, printed_text, printed_byte, all_read}
+use Rattle.bag_check.proofs.FirstLemmas.{inl, inr, cases_Bool, ◌≡◌, ℕ, zero, suc, ◌+◌, ◌*◌, ◌<◌, ◌≤◌, Bool, true, false, cond, not, ◌&&◌, ◌||◌, List, [], ◌∷◌, ◌++◌, length, slice_index_or as get_or, drop, map, filter, refl, sym, ap, ◌∙◌, arith, append_assoc, Option, Some, None, Result, Ok, Err, sum_by, is_some, option_and_then, codes, decimal, cow_str_bytes, list_any, count_by, AllByRecursion, append-nil, drop_more, length-map, and_parts, nat_tests, File, Fits, max_content, Version, entry_in, is_path_listed, manifest_of, Pair, CodePair, pair_in, pairs_of, Rule, Kind, Algorithm, is_payload, payload_of, manifest_name, algorithm_named, is_oxum, oxums_of, payload_files, payload_bytes, manifest_count, Report, Fault, UnsupportedAlgorithm, ManifestText, Breaks, rule_number, number_or, manifest_in, path_in, after_space, cause_or, text_or, ◌>>=◌, FailsAs, Named, Listed, named_of, with_manifest, manifests_in, listed_or_fault, listings_of, asks_for, first_unlisted, first_in, first_breach, obeyed_by, named_by, named_or_fault, version_declared, no_fetch, some_payload, listings_in, obeys, listing_rules, obeys_contents, judge, bind_ok, fronted, again_onto, nothing_onto, nat_lt, digits, nat_cmp, sum-map, sum_by-cons, percent_encode, Manifest, is_escaped, printed_text, printed_byte, all_read}
 use Rattle.std.specs.Cmp.Lexicographic.{slice_cmp}
 use Rattle.std.specs.BTreeMap.{is_at}
 use Rattle.std.specs.Map.{lookup}
@@ -267,16 +267,26 @@ small_payload fs each = rw (bytes_by fs) (small_all fs each)
 pub manifests_counted : (bag : List File) (ms : List Named) → manifests_in bag ≡ Ok ms → length ms ≡ manifest_count bag
 unfolding manifests_in
 manifests_counted [] ms e = let is : ms ≡ [] = cc in ap length is
-manifests_counted (f ∷ fs) ms e =
-    let one = bind_ok (named_of f) (λ found. manifests_in fs >>= λ ns. Ok (with_manifest found ns)) ms e in
-    let two = bind_ok (manifests_in fs) (λ ns. Ok (with_manifest one.0 ns)) ms one.2 in
-    let is : ms ≡ with_manifest one.0 two.0 = (let k = two.2 in cc) in
-    let rest = manifests_counted fs two.0 two.1 in
-    by_Option (manifest_name f.path)
-    (λ name. let none : one.0 ≡ None = (let k = rw name at one.1 in cc) in rw (is, none, name) rest)
-    (λ name found. by_Option (algorithm_named name.1)
-    (λ a. let wrong = rw (found, a) at one.1 in absurd cc)
-    (λ a algorithm. let some : one.0 ≡ Some (record { name = f.path; kind = name.0; algorithm = a; text = f.content }) = (let k = rw (found, algorithm) at one.1 in cc) in rw (is, some, found) (ap suc rest)))
+manifests_counted (f ∷ fs) ms e = by_name (manifest_name f.path) refl (λ rest h. manifests_counted fs rest h) e
+  where
+    by_rest : (o : Option Named) (r : Result (List Named) Fault) → (r >>= λ ns. Ok (with_manifest o ns)) ≡ Ok ms → ((rest : List Named) → r ≡ Ok rest → length rest ≡ manifest_count fs) → (rest : List Named) × (ms ≡ with_manifest o rest) × (length rest ≡ manifest_count fs)
+    by_rest o (Ok rest) e again = (rest, (let is : with_manifest o rest ≡ ms = cc in sym is), again rest refl)
+    by_rest o (Err x) e again = absurd cc
+
+    by_algorithm : (kind : Kind) (a : Option Algorithm) → manifest_count (f ∷ fs) ≡ suc (manifest_count fs) → ((rest : List Named) → manifests_in fs ≡ Ok rest → length rest ≡ manifest_count fs) → (named_by f kind a >>= λ found. manifests_in fs >>= λ ns. Ok (with_manifest found ns)) ≡ Ok ms → length ms ≡ manifest_count (f ∷ fs)
+    by_algorithm kind None counts again e = absurd cc
+    by_algorithm kind (Some a) counts again e =
+        let p = by_rest (Some (record { name = f.path; kind = kind; algorithm = a; text = f.content })) (manifests_in fs) e again in
+        ap length p.1 ∙ ap suc p.2 ∙ sym counts
+
+    by_name : (o : Option (Kind × List ℕ)) → manifest_name f.path ≡ o → ((rest : List Named) → manifests_in fs ≡ Ok rest → length rest ≡ manifest_count fs) → (named_or_fault f o >>= λ found. manifests_in fs >>= λ ns. Ok (with_manifest found ns)) ≡ Ok ms → length ms ≡ manifest_count (f ∷ fs)
+    by_name None is again e =
+        let p = by_rest None (manifests_in fs) e again in
+        let counts : manifest_count (f ∷ fs) ≡ manifest_count fs = rw is refl in
+        ap length p.1 ∙ p.2 ∙ sym counts
+    by_name (Some found) is again e =
+        let counts : manifest_count (f ∷ fs) ≡ suc (manifest_count fs) = rw is refl in
+        by_algorithm found.0 (algorithm_named found.1) counts again e
 
 -- and as many are read
 listings_counted : (bag : List File) (v : Version) (ls : List Listed) → listings_in v bag ≡ Ok ls → length ls ≡ manifest_count bag

@@ -1,5 +1,5 @@
 -- The step of judging that reads `bag-info.txt`: it names the first fault of that file, or none stands.
-use Rattle.bag_check.proofs.FirstLemmas.{inl, inr, not, eqb, true, or_cases, eqb-false, eqb-true, not-true, ne_eqb, or_right, true_from_ne_false, ◌≡◌, ℕ, ◌<◌, ◌≤◌, ◌⊎◌, Bool, false, cond, List, length, refl, sym, ap, subst, ◌∙◌, arith, Option, Some, Result, Ok, Err, is_some, nat_lt, Contains, ◌≢◌, list_any, false≢true, ltb-true, ltb-false, File, IsBag, content_at, Pair, SaysInfo, info_of, InfoFault, Version, info_said, info_fault, Holds, HasFile, info_path, DeclaresVersion, NamesCounts, oxums_of, payload_bytes, payload_files, InfoIsRight, Fault, InfoText, OxumForm, OxumTwice, OxumWrong, HasOxum, Applies, FirstFault, counts_of, are_others, oxums_obeyed, obeys_info, same_err, never_both, Has, contains_has, has_contains, any_has, none_has, one_content, content_found, no_content, at_13, at_14, at_15, at_16, Earlier, none_earlier, NoneBelow, none_more, named_first, one_info}
+use Rattle.bag_check.proofs.FirstLemmas.{false_from_ne_true, inl, inr, not, eqb, true, or_cases, eqb-false, eqb-true, not-true, ne_eqb, or_right, true_from_ne_false, ◌≡◌, ℕ, ◌<◌, ◌≤◌, ◌⊎◌, Bool, false, cond, List, length, refl, sym, ap, subst, ◌∙◌, arith, Option, Some, Result, Ok, Err, is_some, nat_lt, Contains, ◌≢◌, list_any, false≢true, ltb-true, ltb-false, File, IsBag, content_at, Pair, SaysInfo, info_of, InfoFault, Version, info_said, info_fault, Holds, HasFile, info_path, DeclaresVersion, NamesCounts, oxums_of, payload_bytes, payload_files, InfoIsRight, Fault, InfoText, OxumForm, OxumTwice, OxumWrong, HasOxum, Applies, FirstFault, counts_of, are_others, oxums_obeyed, obeys_info, same_err, never_both, Has, contains_has, has_contains, any_has, none_has, one_content, content_found, no_content, at_13, at_14, at_15, at_16, Earlier, none_earlier, NoneBelow, none_more, named_first, one_info}
 use Rattle.bag_check.proofs.CountsLemmas.{counts_is, counts_again}
 use Rattle.bag_text.proofs.CaseLemmas.{by_Option, by_Result}
 

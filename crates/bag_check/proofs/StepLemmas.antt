@@ -1,5 +1,5 @@
 -- Each step of judging a bag: it names the first fault of its number, or none of that number stands.
-use Rattle.bag_check.proofs.FirstLemmas.{ok_unless, err_if, ◌≡◌, ℕ, ◌+◌, inl, inr, List, [], ◌∷◌, refl, sym, ap, subst, ◌∙◌, Option, Some, None, Ok, Err, File, IsBag, content_at, Version, Algorithm, LineFault, declaration_of, Entries, manifest_of, Kind, Payload, Rule, Holds, HasFile, declaration_path, fetch_path, DeclaresVersion, IsManifestName, word_of, HasManifest, Fault, NoDeclaration, Declaration, FetchNotSupported, UnsupportedAlgorithm, NoPayloadManifest, ManifestText, Breaks, IsBroken, Applies, rule_number, BreachBefore, FirstFault, has_path, or_declaration, declared_by, version_declared, no_fetch, Named, manifests_in, some_payload, Listed, listings_of, first_breach, obeyed_by, obeys, bind_ok, bind_err, same_err, never_both, is_declared, declared_again, refused_again, refused_is_fault, fault_is_refused, Has, contains_has, has_contains, DeclFault, apart, Ascending, ascending_rest, at, bag_ascends, ascends_up, path_of_file, one_content, content_found, no_content, has_path_is, no_path_is, one_algorithm, at_1, at_2, at_3, at_4, at_5, at_6, at_rule, Earlier, none_earlier, NoneBelow, NoneAt, IsLeast, none_below_1, none_more, named_first, one_version, as_named, as_listed, read_of, names, Found, IsFirstUnsupported, first_unsupported, no_payload_manifest, AreRead, IsFirstRefused, first_refused}
+use Rattle.bag_check.proofs.FirstLemmas.{Result, ok_unless, err_if, ◌≡◌, ℕ, ◌+◌, inl, inr, List, [], ◌∷◌, refl, sym, ap, subst, ◌∙◌, Option, Some, None, Ok, Err, File, IsBag, content_at, Version, Algorithm, LineFault, declaration_of, Entries, manifest_of, Kind, Payload, Rule, Holds, HasFile, declaration_path, fetch_path, DeclaresVersion, IsManifestName, word_of, HasManifest, Fault, NoDeclaration, Declaration, FetchNotSupported, UnsupportedAlgorithm, NoPayloadManifest, ManifestText, Breaks, IsBroken, Applies, rule_number, BreachBefore, FirstFault, has_path, or_declaration, declared_by, version_declared, no_fetch, Named, manifests_in, some_payload, Listed, listings_of, first_breach, obeyed_by, obeys, bind_ok, bind_err, same_err, never_both, is_declared, declared_again, refused_again, refused_is_fault, fault_is_refused, Has, contains_has, has_contains, DeclFault, apart, Ascending, ascending_rest, at, bag_ascends, ascends_up, path_of_file, one_content, content_found, no_content, has_path_is, no_path_is, one_algorithm, at_1, at_2, at_3, at_4, at_5, at_6, at_rule, Earlier, none_earlier, NoneBelow, NoneAt, IsLeast, none_below_1, none_more, named_first, one_version, as_named, as_listed, read_of, names, Found, IsFirstUnsupported, first_unsupported, no_payload_manifest, AreRead, IsFirstRefused, first_refused}
 use Rattle.bag_text.proofs.DeclarationLemmas as declaration
 use Rattle.bag_check.proofs.BreachLemmas.{Place, IsLeastBreach}
 use Rattle.bag_check.proofs.RuleLemmas.{AreListed, listed, broken_first}
@@ -9,9 +9,15 @@ use Rattle.bag_text.proofs.CaseLemmas.{by_Option, by_Result}
 
 -- the version that is found is declared
 pub version_ok : (bag : List File) (v : Version) → version_declared bag ≡ Ok v → DeclaresVersion bag v
-version_ok bag v e = by_Option (content_at bag declaration_path) (λ is. let wrong = rw is at e in absurd cc) (λ text is. by_Result (declaration_of text)
-    (λ w read. (text, content_found bag declaration_path text is, is_declared text v (read ∙ rw (is, read) at e)))
-    (λ f read. let wrong = rw (is, read) at e in absurd cc))
+version_ok bag v e = by_content (content_at bag declaration_path) refl e
+  where
+    by_reading : (text : List ℕ) → content_at bag declaration_path ≡ Some text → (r : Result Version DeclFault) → declaration_of text ≡ r → or_declaration r ≡ Ok v → DeclaresVersion bag v
+    by_reading text is (Ok w) read e = (text, content_found bag declaration_path text is, is_declared text v (read ∙ cc))
+    by_reading text is (Err f) read e = absurd cc
+
+    by_content : (o : Option (List ℕ)) → content_at bag declaration_path ≡ o → declared_by o ≡ Ok v → DeclaresVersion bag v
+    by_content None is e = absurd cc
+    by_content (Some text) is e = by_reading text is (declaration_of text) refl e
 
 -- where there is a bagit.txt it is not said to be missing
 none_at_1 : (bag : List File) → HasFile bag declaration_path → NoneAt bag 1
