@@ -83,11 +83,11 @@ def disposal(folder):
 
 
 def bag(folder):
-    """Downloads of a bag of 10 KiB, the SHA-256 of each content taken on both sides: beside two statements for each
-    file, as the office made them when the target was set, and beside one."""
+    """Downloads of a bag of 10 KiB, the SHA-256 of each content taken on both sides: beside one statement for each
+    file, as the office makes them, and beside two, as it made them when the target was set."""
+    at_many(folder, "bag", ("ask-bags", "bag"), 10_000, 0.75)
     if not BESIDE:
-        at_many(folder, "bag by two statements a file", ("ask-bags", "bag_by_paths"), 10_000, 0.75)
-    at_many(folder, "bag", ("ask-bags", "bag"), 10_000)
+        at_many(folder, "bag by two statements a file", ("ask-bags", "bag_by_paths"), 10_000)
 
 
 def whole_list(folder):

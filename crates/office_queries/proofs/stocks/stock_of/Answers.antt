@@ -1,9 +1,14 @@
 use Rattle.office_queries.proofs.Lemmas.{◌≡◌, None, Some, map, sym, ap, subst, ◌∙◌, IfErr-weaker, IfOk-weaker, state, HasCleanDisk, contents_of, int_at, IsOffice, Row, stock_in, sizes_told}
-use Rattle.office_access.proofs.RowsTold.{refuses}
+use Rattle.std.specs.Prelude.{Result, Ok, Err, IfOk, IfErr, IsErrAnd}
 use Rattle.office_by_rows.specs.Stock.{stock_by}
 use Rattle.office_contents.specs.Calls.{IsOfStore}
 use Rattle.office_queries.proofs.stocks.stock_of.Given.{Over}
 use Rattle.office_queries.proofs.stocks.stock_of.Goals as goal
+
+-- a call whose answer can't be fails so
+refuses : {T E : Type 0} (P : T → Type 0) (Q : E → Type 0) (result : Result T E) → ((value : T) → P value → ⊥) → IfOk result P → IfErr result Q → IsErrAnd result Q
+refuses P Q (Ok value) never told fails = absurd (never value told)
+refuses P Q (Err fault) never told fails = fails
 
 -- the rows tell the stock of the contents, and nothing has changed
 shown : (g : Over) (c : goal.After-drop-rows g) → HasCleanDisk (state g.S.Store c.rows_of_contents.new.tx.conn.now) → IsOffice (state g.S.Store c.args.tx.now.conn.now).now
