@@ -93,5 +93,5 @@ look "a program that doesn't compile" 3 1 "cut:" \
 rm "$room/fails"
 path=$room/bare
 look "no kit" 3 0 "" \
-    "first-look: the kit's command rt is looked for on the PATH, and isn't there: README.md says where it is from" cut
+    "first-look: the kit's command rt is looked for on the PATH, and isn't there: README.md says what it is" cut
 echo "looks: $cases cases: first-look does what its arguments ask for"
