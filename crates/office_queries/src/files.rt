@@ -1,10 +1,10 @@
 //! Downloads of files.
 
-ghost use Rattle.std.specs.Prelude.{◌≡◌, None, Some, if◌then◌else◌, option_copied, option_map};
+ghost use Rattle.std.specs.Prelude.{◌≡◌, None, Some, if◌then◌else◌, option_copied, option_map, pos, true};
 ghost use Rattle.bag_text.specs.Paths.{is_good};
 ghost use Rattle.office_core.specs.declared.request.Request.TheVariants as requests;
 ghost use Rattle.office_contents.specs.Calls.{GoesOnInTurn, GoesOnInside};
-ghost use Rattle.office_contents.specs.Contents.{Does};
+ghost use Rattle.office_contents.specs.Contents.{Does, IsAltered, RefusesIf};
 ghost use Rattle.office_history.specs.Answers.{file_answer};
 ghost use Rattle.office_access.specs.Asking.{visit_on};
 ghost use Rattle.office_queries.specs.Reading.{IsReadFor, ServesReading};
@@ -42,7 +42,7 @@ fn file_answer(content: Option<Vec<u8>>) -> Answer
 /// The answer with the file at that path of the bag of that deposit, where its content is intact, or that there
 /// is none.
 ///
-/// Fails with `Memory` or `Store`.
+/// Fails with `Store` where its content is not, and with `Memory` or `Store`.
 #[tactic(auto, using(crate::proofs::Calls::calls_in_turn))]
 fn stored_file<S: Alter>(
     tx: &mut Transaction<'_, S>,
@@ -52,6 +52,9 @@ fn stored_file<S: Alter>(
     ensures inside { GoesOnInTurn S.Store tx.old.conn tx.new.conn result }
     ensures reads { Does S.Store tx.old.conn.now tx.new.conn.now result
         (IsReadFor (requests.DownloadFile number path.entry)) }
+    ensures altered { is_good path.now ≡ true
+        → RefusesIf S.Store tx.old.conn.now tx.new.conn.now result
+        (IsAltered (pos number) path.now) }
 {
     match bag_path(path) {
         Some(text) => {
