@@ -79,10 +79,10 @@ def reads(office):
         yield request("GET", f"/deposits/{n}/audit"), office.ask(n, lambda _: report)
         yield request("GET", f"/deposits/{n}/files/data/a"), office.ask(n, lambda _: "abc")
     yield request("GET", "/deposits"), office.listed(lambda _: True)
-    place, some = operator.itemgetter("collection", "class"), ("c3", "y5")
-    yield request("GET", "/deposits?collection={}&class={}".format(*some)), office.listed(lambda it: place(it) == some)
+    filing, some = operator.itemgetter("collection", "class"), ("c3", "y5")
+    yield request("GET", "/deposits?collection={}&class={}".format(*some)), office.listed(lambda it: filing(it) == some)
     allowed = {tuple(patterns) for _, effect, role, _, *patterns in rules_of(RULES) if role == "clerk" and effect}
-    yield request("GET", "/deposits", caller="carl"), office.listed(lambda it: place(it) in allowed)
+    yield request("GET", "/deposits", caller="carl"), office.listed(lambda it: filing(it) in allowed)
     yield request("GET", "/due", caller="carl"), answer("200 OK", {"day": DAY, "deposits": []})
     yield request("GET", "/due"), office.due(TODAY)
 

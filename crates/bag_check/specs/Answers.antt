@@ -97,4 +97,4 @@ counts_seen counts = (counts.bytes, counts.files)
 
 -- a breach as the definitions speak of it: the manifest's name, and the path
 abbrev pub breach_seen : Bor (List ℕ) × CowStr Global → List ℕ × List ℕ
-breach_seen place = (place.0.now, cow_str_bytes place.1)
+breach_seen breach = (breach.0.now, cow_str_bytes breach.1)

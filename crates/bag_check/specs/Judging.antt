@@ -171,7 +171,7 @@ first_breach bag rule (l ∷ ls) = or_breach l.name (first_in bag rule l) (first
 
 abbrev pub obeyed_by : Rule → Option (List ℕ × List ℕ) → Result (Unit {0}) Fault
 obeyed_by rule None = Ok tt
-obeyed_by rule (Some place) = Err (Breaks rule place.0 place.1)
+obeyed_by rule (Some breach) = Err (Breaks rule breach.0 breach.1)
 
 -- rule after rule
 unfoldable pub obeys : List File → List Listed → List Rule → Result (Unit {0}) Fault

@@ -142,7 +142,7 @@ pub fn first_breach<'a>(
     rule: Rule,
     listed: &[Listed<'a>],
 ) -> Result<Option<(&'a str, CowStr<'a, Global>)>, AllocError>
-    ensures { IfOk result (λ place. option_map breach_seen place
+    ensures { IfOk result (λ breach. option_map breach_seen breach
         ≡ first_breach bag.now rule (map listed_seen listed.now)) }
 {
     for one in listed {

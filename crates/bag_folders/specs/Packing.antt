@@ -36,9 +36,9 @@ pub record AreInPathOrder (found listed : List Listed) : Type 0 where
 
 -- its position, where the fault is one file's
 abbrev pub fault_offset : SetFault → Option ℕ
-fault_offset (sets.BadEntry place) = Some place
-fault_offset (sets.OutOfOrder place) = Some place
-fault_offset (sets.BadPath place) = Some place
+fault_offset (sets.BadEntry position) = Some position
+fault_offset (sets.OutOfOrder position) = Some position
+fault_offset (sets.BadPath position) = Some position
 fault_offset fault = None
 
 -- its path

@@ -48,9 +48,9 @@ pub fn fault_offset(fault: SetFault) -> Option<usize>
     ensures { result ≡ fault_offset fault }
 {
     match fault {
-        SetFault::BadEntry(place) | SetFault::OutOfOrder(place) | SetFault::BadPath(place) => {
-            Some(place)
-        }
+        SetFault::BadEntry(position)
+        | SetFault::OutOfOrder(position)
+        | SetFault::BadPath(position) => { Some(position) }
         _ => None,
     }
 }

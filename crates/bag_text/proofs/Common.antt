@@ -17,7 +17,7 @@ pub use Rattle.bag_text.specs.Paths.{comes_before, GoodPath, is_dots_of, is_good
 pub use Rattle.bag_text.specs.Text.{AreBlanks, begins_with, drop_last_blanks, has_mark, is_blank, skip_blanks, trim_blanks}
 pub use Rattle.bag_text.specs.TransferFaults.{BeginsWith, EntryFault, FaultIs, GoOn, HasSizes, IsEndOrHeader, IsHeaded, IsOpening, IsProperBeginning, last_path, PositionFault}
 pub use Rattle.bag_text.specs.TransferForm.{Ascends, Clashes, clashes, content_at, ending, entry, File, Fits, Head, header, IsBag, max_content, max_files, opening, set_text}
-pub use Rattle.bag_text.specs.TransferReading.{after_opening, End, Entry, file_of, files_of, IsPlaceOf, named_set_fault, EndOrHead, result_at}
+pub use Rattle.bag_text.specs.TransferReading.{after_opening, End, Entry, file_of, files_of, IsPositionOf, named_set_fault, EndOrHead, result_at}
 unfoldable pub use Rattle.bag_text.specs.TransferReading.{digits_at, entry_at, file_at, files_at, header_at, literal_at, number_at, end_or_head_at, set_of}
 pub use Rattle.bag_text.specs.declared.bag_info.InfoFault.{InfoFault}
 pub use Rattle.bag_text.specs.declared.bag_info.InfoFault.TheVariants.{EmptyLabel, NoColon, StrayContinuation}

@@ -1,5 +1,5 @@
 -- The order of paths, and what a search finds in a list of files that ascends.
-use Rattle.bag_text.proofs.Common.{same_Some, ltb-true, ltb-false, eqb-true, eqb-false, inl, inr, cases_Bool, false_from_ne_true, false≢true, ◌≡◌, ℕ, zero, suc, ◌<◌, ◌≤◌, ◌≢◌, Bool, true, false, cond, eqb, ltb, not, ◌&&◌, List, [], ◌∷◌, ◌++◌, length, get_or, take, drop, map, refl, sym, ap, subst, ◌∙◌, arith, Option, Some, None, option_map, find, bytes_eq, eqb as nat_eq, slice_get, Contains, is_some, IsNone, MatchOption, list_any, AllWithin, HoldsAt, starts_with, nat_cmp, is_lt, is_eq, ordering_then, ordering_reverse, Ordering, Less, Equal, Greater, slice_cmp, and_right, nat_tests, take-append-drop, bytes_eq-Decides, comes_before, File, Ascends, content_at, file_of, files_of, IsPlaceOf, ◌↔◌, nat_list_cmp_total, is_eq-slice_cmp, Bor}
+use Rattle.bag_text.proofs.Common.{same_Some, ltb-true, ltb-false, eqb-true, eqb-false, inl, inr, cases_Bool, false_from_ne_true, false≢true, ◌≡◌, ℕ, zero, suc, ◌<◌, ◌≤◌, ◌≢◌, Bool, true, false, cond, eqb, ltb, not, ◌&&◌, List, [], ◌∷◌, ◌++◌, length, get_or, take, drop, map, refl, sym, ap, subst, ◌∙◌, arith, Option, Some, None, option_map, find, bytes_eq, eqb as nat_eq, slice_get, Contains, is_some, IsNone, MatchOption, list_any, AllWithin, HoldsAt, starts_with, nat_cmp, is_lt, is_eq, ordering_then, ordering_reverse, Ordering, Less, Equal, Greater, slice_cmp, and_right, nat_tests, take-append-drop, bytes_eq-Decides, comes_before, File, Ascends, content_at, file_of, files_of, IsPositionOf, ◌↔◌, nat_list_cmp_total, is_eq-slice_cmp, Bor}
 use Rattle.std.specs.List.Sorted.{IsPartitionedBy}
 use Rattle.bag_text.proofs.CaseLemmas.{by_Bool, by_Option, by_Ordering}
 
@@ -203,7 +203,7 @@ looked_up (x ∷ xs) (suc n) (Some y) at = looked_up xs n (Some y) ((let k = at.
 
 -- What stands where the paths before a path end decides the content there.
 pub content_is : (files : List (Bor (List ℕ) × Bor (List ℕ))) (path : List ℕ) (n : ℕ) (r : Option (Bor (Bor (List ℕ) × Bor (List ℕ)))) → Ascends [] (files_of files)
-    → IsPlaceOf path files n
+    → IsPositionOf path files n
     → MatchOption r (length files ≤ n) (λ x. (n < length files) × HoldsAt (λ y. x.now ≡ y) files n)
     → content_at (files_of files) path ≡ option_map (λ f. f.content) (tried file_of (λ p. bytes_eq p path) (option_map (λ x. x.now) r))
 content_is files path n r up point at =
@@ -216,7 +216,7 @@ any_is_found test (x ∷ xs) = elim (cases_Bool (test x)) [ inl is ↦ rw is ref
 
 -- What stands where the paths before a text end decides whether a path begins with it.
 pub begins_is : (files : List (Bor (List ℕ) × Bor (List ℕ))) (q : List ℕ) (n : ℕ) (r : Option (Bor (Bor (List ℕ) × Bor (List ℕ)))) → Ascends [] (files_of files)
-    → IsPlaceOf q files n
+    → IsPositionOf q files n
     → MatchOption r (length files ≤ n) (λ x. (n < length files) × HoldsAt (λ y. x.now ≡ y) files n)
     → list_any (λ f. starts_with nat_eq f.path q) (files_of files) ≡ is_some (tried file_of (λ p. starts_with nat_eq p q) (option_map (λ x. x.now) r))
 begins_is files q n r up point at =

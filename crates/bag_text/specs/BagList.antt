@@ -17,12 +17,12 @@ pub record IsFront (front : List File) : Type 0 where
 
 -- the first fault of the file at this position, after the path before it
 abbrev pub FileFault : ℕ → List ℕ → File → SetFault → Type 0
-FileFault place before f (BadEntry n) = (n ≡ place) × (max_content < length f.content)
-FileFault place before f TooManyFiles = (length f.content ≤ max_content) × (max_files ≤ place)
-FileFault place before f (BadPath n) = (n ≡ place) × (length f.content ≤ max_content) × (place < max_files) × (is_good f.path ≡ false)
-FileFault place before f (OutOfOrder n) =
-    (n ≡ place) × (length f.content ≤ max_content) × (place < max_files) × (is_good f.path ≡ true) × (comes_before before f.path ≡ false)
-FileFault place before f fault = ⊥
+FileFault position before f (BadEntry n) = (n ≡ position) × (max_content < length f.content)
+FileFault position before f TooManyFiles = (length f.content ≤ max_content) × (max_files ≤ position)
+FileFault position before f (BadPath n) = (n ≡ position) × (length f.content ≤ max_content) × (position < max_files) × (is_good f.path ≡ false)
+FileFault position before f (OutOfOrder n) =
+    (n ≡ position) × (length f.content ≤ max_content) × (position < max_files) × (is_good f.path ≡ true) × (comes_before before f.path ≡ false)
+FileFault position before f fault = ⊥
 
 -- The first fault of a list that is no bag.
 abbrev pub ListFault : List File → SetFault → Type 0
@@ -33,16 +33,16 @@ ListFault files fault =
 -- ---- the same by computing
 
 abbrev pub file_fault : ℕ → List ℕ → File → Option SetFault
-file_fault place before f =
-    if nat_lt max_content (length f.content) then Some (BadEntry place)
-    else if nat_le max_files place then Some TooManyFiles
-    else if not (is_good f.path) then Some (BadPath place)
-    else if not (comes_before before f.path) then Some (OutOfOrder place)
+file_fault position before f =
+    if nat_lt max_content (length f.content) then Some (BadEntry position)
+    else if nat_le max_files position then Some TooManyFiles
+    else if not (is_good f.path) then Some (BadPath position)
+    else if not (comes_before before f.path) then Some (OutOfOrder position)
     else None
 
 unfoldable pub fault_from : ℕ → List ℕ → List File → Option SetFault
-fault_from place before [] = None
-fault_from place before (f ∷ fs) = option_or (file_fault place before f) (fault_from (place + 1) f.path fs)
+fault_from position before [] = None
+fault_from position before (f ∷ fs) = option_or (file_fault position before f) (fault_from (position + 1) f.path fs)
 
 abbrev pub clash_fault : List File → Option SetFault
 clash_fault files = if clashes files then Some PathClash else None

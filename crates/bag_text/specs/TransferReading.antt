@@ -124,5 +124,5 @@ end_or_head_of (places.End rest) = End rest.now
 end_or_head_of (places.Entry h) = Entry (head_of h)
 
 -- the files before this position come before the path, and the others don't
-abbrev pub IsPlaceOf : List ℕ → List (Bor (List ℕ) × Bor (List ℕ)) → ℕ → Type 0
-IsPlaceOf path files place = IsPartitionPoint (λ pair. comes_before pair.0.now path ≡ true) (λ pair. comes_before pair.0.now path ≡ false) files place
+abbrev pub IsPositionOf : List ℕ → List (Bor (List ℕ) × Bor (List ℕ)) → ℕ → Type 0
+IsPositionOf path files position = IsPartitionPoint (λ pair. comes_before pair.0.now path ≡ true) (λ pair. comes_before pair.0.now path ≡ false) files position

@@ -20,18 +20,18 @@ fn is_good(path: &str) -> bool
 }
 
 /// The first fault of the file at this position of a list, after the path before it.
-fn fault_at(place: usize, before: &[u8], path: &str, content: &[u8]) -> Option<SetFault>
+fn fault_at(position: usize, before: &[u8], path: &str, content: &[u8]) -> Option<SetFault>
     ensures { result
-        ≡ file_fault place before.now (record { path = path.now; content = content.now }) }
+        ≡ file_fault position before.now (record { path = path.now; content = content.now }) }
 {
     if content.len() > MAX_CONTENT {
-        Some(SetFault::BadEntry(place))
-    } else if place >= MAX_FILES {
+        Some(SetFault::BadEntry(position))
+    } else if position >= MAX_FILES {
         Some(SetFault::TooManyFiles)
     } else if !is_good(path) {
-        Some(SetFault::BadPath(place))
+        Some(SetFault::BadPath(position))
     } else if !is_before(before, path.as_bytes()) {
-        Some(SetFault::OutOfOrder(place))
+        Some(SetFault::OutOfOrder(position))
     } else {
         None
     }
@@ -42,13 +42,13 @@ fn first_fault(files: &[(&str, &[u8])]) -> Option<SetFault>
     ensures { result ≡ fault_from 0 [] (files_of files.now) }
 {
     let mut before: &[u8] = &[];
-    let mut place = 0;
+    let mut position = 0;
     for file in files {
-        if let Some(fault) = fault_at(place, before, file.0, file.1) {
+        if let Some(fault) = fault_at(position, before, file.0, file.1) {
             return Some(fault);
         }
         before = file.0.as_bytes();
-        place += 1;
+        position += 1;
     }
     None
 }

@@ -3,7 +3,7 @@
 ghost use Rattle.std.specs.Prelude.{◌≡◌, [], ◌∷◌, ◌++◌, option_copied};
 ghost use Rattle.bag_text.specs.Paths.{comes_before};
 ghost use Rattle.bag_text.specs.TransferForm.{Ascends, content_at};
-ghost use Rattle.bag_text.specs.TransferReading.{files_of, IsPlaceOf};
+ghost use Rattle.bag_text.specs.TransferReading.{files_of, IsPositionOf};
 
 use std::cmp::Ordering;
 
@@ -44,7 +44,7 @@ fn is_text_before_folder(path: &str, folder: &str) -> bool
 /// How many of the files come before a path.
 fn count_before(files: &[(&str, &[u8])], path: &str) -> usize
     requires { Ascends [] (files_of files.now) }
-    ensures { IsPlaceOf path.now files.now result }
+    ensures { IsPositionOf path.now files.now result }
 {
     files.partition_point(|file| is_text_before(file.0, path))
 }
@@ -52,7 +52,7 @@ fn count_before(files: &[(&str, &[u8])], path: &str) -> usize
 /// How many of the files come before all that lies in a folder.
 pub fn count_before_folder(files: &[(&str, &[u8])], folder: &str) -> usize
     requires { Ascends [] (files_of files.now) }
-    ensures { IsPlaceOf (folder.now ++ 47 ∷ []) files.now result }
+    ensures { IsPositionOf (folder.now ++ 47 ∷ []) files.now result }
 {
     files.partition_point(|file| is_text_before_folder(file.0, folder))
 }

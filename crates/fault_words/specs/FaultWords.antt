@@ -44,9 +44,9 @@ too_long_words = codes "the form is longer than " ++ grouped max_form ++ codes "
 
 -- what is said of them, or of the file at fault after its path
 abbrev pub folder_words : SetFault → List ℕ
-folder_words (forms.BadEntry place) = codes "has more than " ++ grouped max_content ++ codes " bytes, the most that a file of a bag may have (S2)"
-folder_words (forms.OutOfOrder place) = codes "does not come after the path before it, byte for byte (S4)"
-folder_words (forms.BadPath place) = codes "is no good path: it is not UTF-8, has more than " ++ grouped max_path ++ codes " bytes or a NUL, or has a segment that is empty, . or .. (S5)"
+folder_words (forms.BadEntry position) = codes "has more than " ++ grouped max_content ++ codes " bytes, the most that a file of a bag may have (S2)"
+folder_words (forms.OutOfOrder position) = codes "does not come after the path before it, byte for byte (S4)"
+folder_words (forms.BadPath position) = codes "is no good path: it is not UTF-8, has more than " ++ grouped max_path ++ codes " bytes or a NUL, or has a segment that is empty, . or .. (S5)"
 folder_words forms.TooManyFiles = codes "the folder has more files than the " ++ grouped max_files ++ codes " that a bag may have (S6)"
 folder_words forms.PathClash = codes "a path of the folder is data, or names both a file and a folder (S8)"
 folder_words fault = codes "the files of the folder are no bag"

@@ -51,10 +51,10 @@ abbrev pub line_at : ℕ → List ℕ → ℕ
 line_at offset bytes = suc (count_by (λ byte. byte == 10) (take offset bytes))
 
 -- the line of the first byte that is no UTF-8, or a line that breaks the TOML; nothing of a file that is TOML
-pub data IsLineLocation (bytes place : List ℕ) : Type 0 where
-  no_text : is_utf8 bytes ≡ false → place ≡ line_words (line_at (utf8_valid_len bytes) bytes) → IsLineLocation bytes place
-  no_toml : (line : ℕ) → is_utf8 bytes ≡ true → is_toml bytes ≡ false → BreaksToml bytes line → place ≡ line_words line → IsLineLocation bytes place
-  toml : is_toml bytes ≡ true → place ≡ [] → IsLineLocation bytes place
+pub data IsLineLocation (bytes location : List ℕ) : Type 0 where
+  no_text : is_utf8 bytes ≡ false → location ≡ line_words (line_at (utf8_valid_len bytes) bytes) → IsLineLocation bytes location
+  no_toml : (line : ℕ) → is_utf8 bytes ≡ true → is_toml bytes ≡ false → BreaksToml bytes line → location ≡ line_words line → IsLineLocation bytes location
+  toml : is_toml bytes ≡ true → location ≡ [] → IsLineLocation bytes location
 
 -- ---- the key or the caller of a tree
 
@@ -124,9 +124,9 @@ location_in fault tree = []
 
 -- where the fault is, as far as it is known
 abbrev pub IsFaultLocation : List ℕ → PolicyFault → List ℕ → Type 0
-IsFaultLocation bytes NotToml place = IsLineLocation bytes place
-IsFaultLocation bytes fault place = place ≡ option_map_or (location_in fault) (tree_in bytes) []
+IsFaultLocation bytes NotToml location = IsLineLocation bytes location
+IsFaultLocation bytes fault location = location ≡ option_map_or (location_in fault) (tree_in bytes) []
 
--- the fault's sentence and the position, a line with its end
+-- the fault's sentence and its location, a line with its end
 abbrev pub IsPolicyReason : List ℕ → PolicyFault → List ℕ → Type 0
-IsPolicyReason bytes fault text = (place : List ℕ) × IsFaultLocation bytes fault place × (text ≡ policy_words fault ++ place ++ 10 ∷ [])
+IsPolicyReason bytes fault text = (location : List ℕ) × IsFaultLocation bytes fault location × (text ≡ policy_words fault ++ location ++ 10 ∷ [])

@@ -20,7 +20,7 @@ pub enum Location<'a> {
 }
 
 impl<'a> fmt::Display for Location<'a> {
-    ghost output = { λ place. Some (location_words place) };
+    ghost output = { λ location. Some (location_words location) };
 
     fn fmt<W: fmt::Write>(&self, f: &mut fmt::Formatter<W>) -> fmt::Result {
         match self {

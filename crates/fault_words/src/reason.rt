@@ -99,14 +99,18 @@ fn location_in(tree: &Table, fault: PolicyFault) -> Location<'_>
     }
 }
 
-/// The fault's sentence and the position.
-fn sentence_at(alloc: Global, fault: PolicyFault, place: Location<'_>) -> Result<String, AllocError>
+/// The fault's sentence and its location.
+fn sentence_at(
+    alloc: Global,
+    fault: PolicyFault,
+    location: Location<'_>,
+) -> Result<String, AllocError>
     ensures { IfOk result (λ text.
-        string_bytes text ≡ policy_words fault ++ location_words place.entry ++ 10 ∷ []) }
+        string_bytes text ≡ policy_words fault ++ location_words location.entry ++ 10 ∷ []) }
 {
     let words = InWords(&fault);
     let mut text = format!(in alloc; "{words}")?;
-    write!(text, "{place}\n")?;
+    write!(text, "{location}\n")?;
     Ok(text)
 }
 

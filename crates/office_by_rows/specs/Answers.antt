@@ -133,10 +133,10 @@ listed_records t visit wanted = do
 
 -- the number of the deposit that is there, where the rules allow that it is destroyed; what is kept of its due day is one, allowed or not
 abbrev pub disposable_told : Tables → List ℕ → Date → DisposableRow → Option (Option ℕ)
-disposable_told t role day place = do
-  due ← due_of_number place.due
-  allowed ← is_allowed_for t role day acts.Dispose place.collection place.class
-  told_if allowed (count_of place.number)
+disposable_told t role day row = do
+  due ← due_of_number row.due
+  allowed ← is_allowed_for t role day acts.Dispose row.collection row.class
+  told_if allowed (count_of row.number)
 
 -- the numbers of the kept deposits that have fallen due by that day, are under no hold, and that the rules let the caller destroy
 abbrev pub due_list : Tables → Visit → Option (List ℕ)

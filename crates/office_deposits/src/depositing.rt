@@ -34,7 +34,7 @@ fn unless_refused(years: i64, refused: Option<Refusal>) -> Result<i64, Refusal>
     }
 }
 
-/// The number of years in the class's row, or the first refusal of the place that applies: no such
+/// The number of years in the class's row, or the first refusal of the filing that applies: no such
 /// collection, no such class, or the caller may not deposit there.
 fn years_for_filing<S: Alter>(
     tx: &mut Transaction<'_, S>,
@@ -76,7 +76,7 @@ fn closed_ahead(day: Day, closed: Day) -> Option<Refusal>
     None
 }
 
-/// The first refusal that applies after those of the place: a deposit, kept or destroyed, has the
+/// The first refusal that applies after those of the filing: a deposit, kept or destroyed, has the
 /// accession, or the closing day comes after the day of the request.
 fn refusal_after_filing<S: Alter>(
     tx: &mut Transaction<'_, S>,

@@ -103,7 +103,7 @@ has_accession accession found = bytes_eq found.1.description.accession accession
 
 -- the number of the deposit that has this accession, kept or destroyed
 abbrev pub accession_of : History → List ℕ → Option ℕ
-accession_of h accession = option_map (λ place. place + 1) (position (has_accession accession) (deposits h))
+accession_of h accession = option_map (λ at. at + 1) (position (has_accession accession) (deposits h))
 
 abbrev pub destroyed_in : ℕ → Change → Option Date
 destroyed_in n (Destroyed day number) = if number == n then Some day else None

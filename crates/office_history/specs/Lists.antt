@@ -16,7 +16,7 @@ last_said says (x ∷ xs) = option_or (last_said says xs) (says x)
 -- the item of that number, from 1
 abbrev pub item_numbered : {A : Type 0} → List A → ℕ → Option A
 item_numbered xs zero = None
-item_numbered xs (suc place) = slice_get xs place
+item_numbered xs (suc at) = slice_get xs at
 
 -- 1, 2, 3 and so on, up to that number
 abbrev pub numbers : ℕ → List ℕ

@@ -76,8 +76,7 @@ pub fn changes_stand()
         → IsReleasable (as_of h before) k }
 {}
 
-/// A legal history has no disposal of a deposit that a live hold covered at its place, or that was not
-/// due yet.
+/// A legal history has no disposal of a deposit that a live hold covered then, or that was not due yet.
 pub fn disposals_stand()
     ensures { (h : History) → IsLegal h → (before rest : List Change) (day : Date) (n : ℕ)
         → h.changes ≡ before ++ Destroyed day n ∷ rest
@@ -327,14 +326,14 @@ pub fn released_holds_are_not_live()
         → answer h day caller (Release k) ≡ answers.HoldReleased number on
         → IsLater (after h day caller (Release k)) next
         → release_day next k ≡ Some day }
-    ensures listed { (h next : History) (k n place : ℕ) (day : Date) (deposit : Deposit)
+    ensures listed { (h next : History) (k n at : ℕ) (day : Date) (deposit : Deposit)
         → release_day h k ≡ Some day → IsLater h next
-        → slice_get (live_holds next n deposit) place ≢ Some k }
-    ensures told { (h next : History) (k n place : ℕ) (day later : Date) (caller : List ℕ)
+        → slice_get (live_holds next n deposit) at ≢ Some k }
+    ensures told { (h next : History) (k n at : ℕ) (day later : Date) (caller : List ℕ)
         (given : List LiveHold) (hold : LiveHold)
         → release_day h k ≡ Some day → IsLater h next
         → answer next later caller (Holds n) ≡ answers.Holds given
-        → slice_get given place ≡ Some hold → hold.number ≢ k }
+        → slice_get given at ≡ Some hold → hold.number ≢ k }
     ensures refuses { (h next : History) (k n : ℕ) (day later : Date) (caller : List ℕ)
         → release_day h k ≡ Some day → IsLater h next
         → refusal next later caller (Dispose n) ≢ Some (Held k) }

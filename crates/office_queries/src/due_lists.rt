@@ -41,17 +41,17 @@ fn allowed_among<S: Alter>(
     alloc: Global,
     tx: &mut Transaction<'_, S>,
     asker: &Asker,
-    places: &[DisposableRow],
+    rows: &[DisposableRow],
 ) -> Result<Vec<u32>, TableFault>
     ensures inside { GoesOnInTurn S.Store tx.old.conn tx.new.conn result }
     ensures reads { Shows S.Store tx.old.conn.now tx.new.conn.now result (λ tables numbers.
-        things_told (disposable_told tables (role_name asker.now) asker.now.day) places.now
+        things_told (disposable_told tables (role_name asker.now) asker.now.day) rows.now
         ≡ Some numbers.items) }
 {
     let mut allowances = Allowances::read(alloc, tx, asker, Action::Dispose)?;
     let mut numbers = Vec::new(alloc);
-    for place in places {
-        if let Some(number) = allowed_number(tx, &mut allowances, place)? {
+    for row in rows {
+        if let Some(number) = allowed_number(tx, &mut allowances, row)? {
             numbers.push(number)?;
         }
     }
@@ -73,8 +73,8 @@ pub fn due_numbers<S: Alter>(
         due_list tables (visit_on day caller.now) ≡ Some numbers.items) }
 {
     let asker = Asker::read(tx, day, caller)?;
-    let places = due_rows(alloc, tx, day.number() as i64)?;
-    allowed_among(alloc, tx, &asker, &places)
+    let rows = due_rows(alloc, tx, day.number() as i64)?;
+    allowed_among(alloc, tx, &asker, &rows)
 }
 
 /// Answers the numbers of the deposits that the caller may destroy on that day.

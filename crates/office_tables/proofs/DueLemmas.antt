@@ -3,7 +3,7 @@ use Rattle.office_tables.proofs.FirstLemmas.{if◌then◌else◌, IsTrue, ◌≡
 use Rattle.sqlite.specs.Kind.TheVariants as kind
 use Rattle.sql_meaning.proofs.ManyRows.{revises_all}
 use Rattle.office_rows.specs.Told.{disposable_row, closing_of, disposable_rows, class_closings}
-use Rattle.office_tables.specs.Dues.{shown_due, shown_beside, shown_place, shown_closing, FitMore, dues_of}
+use Rattle.office_tables.specs.Dues.{shown_due, shown_beside, shown_disposable, shown_closing, FitMore, dues_of}
 use Rattle.office_tables.proofs.DepositLemmas.{IsDepositRow, deposit_rows, with_last, cast_last, kept_alike}
 use Rattle.office_tables.proofs.DueTexts.{class_rows_text, class_rows_columns, due_of_text, due_of_columns, set_due_text, clear_due_text, set_dues_text, clear_dues_text, by_numbers, set_holds_text, add_holds_text, more_columns, add_holds_class_text, due_rows_text, is_due, due_rows_columns, beside_text, due_meanings}
 
@@ -221,7 +221,7 @@ lists_beside old new rows office h =
     (read.0, beside_is (old.now.trees deposit_tree) ∙ read.1)
 
 pub lists_due : (old new : State) (day : ℤ) (rows : List Row) → IsOffice old.now → Shown due_rows_text (Int day ∷ Int least_number ∷ []) old new rows
-    → (new.now ≡ old.now) × (disposable_rows day (tables_of old.now) ≡ map shown_place rows)
+    → (new.now ≡ old.now) × (disposable_rows day (tables_of old.now) ≡ map shown_disposable rows)
 lists_due old new day rows office h =
     let db = old.now.trees in
     let params : Row = Int day ∷ Int least_number ∷ [] in
@@ -231,11 +231,11 @@ lists_due old new day rows office h =
     let up = ascending_weaker _ _ (λ a b lower. rw lower refl) (db deposit_tree) (of_deposits office.whole.shaped).0 in
     let each = all_from (λ r. passes params is_due r ≡ keep r) (db deposit_tree) (λ r there. passes_due day r (all_has IsDepositRow (db deposit_tree) r typed there)) in
     let is = reads_rising office_schema due_rows_text deposit_tree is_due due_rows_columns rising due_meanings.asks_due_rows params old new office.whole.schema_is rows h keep each up in
-    let shows : map shown_place (map (shown_of params due_rows_columns) (filter keep (db deposit_tree))) ≡ map (λ r. disposable_row (pair r)) (filter keep (db deposit_tree)) = map-map shown_place (shown_of params due_rows_columns) (filter keep (db deposit_tree)) in
-    let places : disposable_rows day (tables_of old.now) ≡ map (λ r. disposable_row (pair r)) (filter keep (db deposit_tree)) =
+    let shows : map shown_disposable (map (shown_of params due_rows_columns) (filter keep (db deposit_tree))) ≡ map (λ r. disposable_row (pair r)) (filter keep (db deposit_tree)) = map-map shown_disposable (shown_of params due_rows_columns) (filter keep (db deposit_tree)) in
+    let disposables : disposable_rows day (tables_of old.now) ≡ map (λ r. disposable_row (pair r)) (filter keep (db deposit_tree)) =
     ap (λ ps. map disposable_row (filter (is_disposable day) ps)) (beside_is (db deposit_tree)) ∙ ap (map disposable_row) (filter-map (is_disposable day) pair (db deposit_tree)) ∙ map-map disposable_row pair (filter keep (db deposit_tree)) in (
       reads_same office_schema due_rows_text deposit_tree is_due due_rows_columns rising due_meanings.asks_due_rows params old new office.whole.schema_is rows h,
-      places ∙ sym shows ∙ ap (map shown_place) (sym is),
+      disposables ∙ sym shows ∙ ap (map shown_disposable) (sym is),
     )
 
 -- ---- the deposits of a class

@@ -14,8 +14,8 @@ shown_due shown = record { number = int_at shown 0; due = maybe_int_at shown 1; 
 abbrev pub shown_beside : Row → DepositRow × DueRow
 shown_beside shown = (shown_deposit shown, record { number = int_at shown 0; due = maybe_int_at shown 9; holds = int_at shown 10 })
 
-abbrev pub shown_place : Row → DisposableRow
-shown_place row = record { number = int_at row 0; collection = bytes_at row 1; class = bytes_at row 2; due = maybe_int_at row 3 }
+abbrev pub shown_disposable : Row → DisposableRow
+shown_disposable row = record { number = int_at row 0; collection = bytes_at row 1; class = bytes_at row 2; due = maybe_int_at row 3 }
 
 abbrev pub shown_closing : Row → ClosingRow
 shown_closing row = record { number = int_at row 0; closed = int_at row 1 }

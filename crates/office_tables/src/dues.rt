@@ -5,7 +5,7 @@ ghost use Rattle.office_rows.specs.Rows.{beside, due_numbered, is_of_class, is_w
 ghost use Rattle.office_rows.specs.Told.{disposable_rows, class_closings};
 ghost use Rattle.office_contents.specs.Calls.{GoesOnInside, Keeps, Shows, Tells, Writes};
 ghost use Rattle.office_contents.specs.Contents.{LeavesContents, LeavesOnce};
-ghost use Rattle.office_tables.specs.Dues.{shown_due, shown_beside, shown_place, shown_closing, FitMore, dues_of};
+ghost use Rattle.office_tables.specs.Dues.{shown_due, shown_beside, shown_disposable, shown_closing, FitMore, dues_of};
 
 use crate::deposits::DepositRow;
 use crate::rows::{Shown, read_all, read_first};
@@ -64,11 +64,11 @@ pub struct DisposableRow {
 impl Model for DisposableRow {
     ghost use Rattle.std.specs.Prelude.{List, ℕ, ℤ, Option, string_bytes, refl, pos};
     ghost use Rattle.std.specs.Coded.{code_by, coded×, coded_list, coded_option, coded_ℕ, coded_ℤ};
-    ghost use Rattle.office_rows.specs.Told.{DisposableRow as Place};
+    ghost use Rattle.office_rows.specs.Told.{DisposableRow as Disposable};
 
-    ghost Value = { Place };
+    ghost Value = { Disposable };
 
-    ghost coded = { code_by (ℤ × (List ℕ × (List ℕ × Option ℤ))) (coded× coded_ℤ (coded× (coded_list coded_ℕ) (coded× (coded_list coded_ℕ) (coded_option coded_ℤ)))) (λ (d : Place). (d.number, (d.collection, (d.class, d.due)))) (λ p. record { number = p.0; collection = p.1.0; class = p.1.1.0; due = p.1.1.1 }) (λ _. refl) };
+    ghost coded = { code_by (ℤ × (List ℕ × (List ℕ × Option ℤ))) (coded× coded_ℤ (coded× (coded_list coded_ℕ) (coded× (coded_list coded_ℕ) (coded_option coded_ℤ)))) (λ (d : Disposable). (d.number, (d.collection, (d.class, d.due)))) (λ p. record { number = p.0; collection = p.1.0; class = p.1.1.0; due = p.1.1.1 }) (λ _. refl) };
 
     ghost view = { λ d. record { number = pos d.number; collection = string_bytes d.collection; class = string_bytes d.class; due = d.due } };
 }
@@ -336,7 +336,7 @@ pub fn add_holds_class<S: Alter>(tx: &mut Transaction<'_, S>, class: &str, by: i
 fn rows_due<S: Alter>(tx: &mut Transaction<'_, S>, day: i64) -> Result<Vec<Row>>
     ensures inside { GoesOnInside S.Store tx.old.conn tx.new.conn result }
     ensures found { Shows S.Store tx.old.conn.now tx.new.conn.now result (λ tables rows.
-        disposable_rows day tables ≡ map shown_place rows.items) }
+        disposable_rows day tables ≡ map shown_disposable rows.items) }
 {
     ask(
         tx,
@@ -346,7 +346,7 @@ fn rows_due<S: Alter>(tx: &mut Transaction<'_, S>, day: i64) -> Result<Vec<Row>>
 }
 
 impl Shown for DisposableRow {
-    ghost shown_in = { shown_place };
+    ghost shown_in = { shown_disposable };
 
     fn read(row: &Row) -> Result<DisposableRow> {
         Ok(DisposableRow {
@@ -368,8 +368,8 @@ pub fn due_rows<S: Alter>(
 ) -> Result<Vec<DisposableRow>>
     ensures inside { GoesOnInside S.Store tx.old.conn tx.new.conn result }
     ensures same { Keeps S.Store tx.old.conn.now tx.new.conn.now result }
-    ensures found { Tells S.Store tx.old.conn.now tx.new.conn.now result (λ tables places.
-        places.items ≡ disposable_rows day tables) }
+    ensures found { Tells S.Store tx.old.conn.now tx.new.conn.now result (λ tables rows.
+        rows.items ≡ disposable_rows day tables) }
 {
     let rows = rows_due(tx, day)?;
     read_all(alloc, &rows)

@@ -41,7 +41,7 @@ pub enum TestRequest {
     DueList,
 }
 
-/// The word at this place, or an empty one.
+/// The word at this position, or an empty one.
 pub fn word<'a>(words: &[&'a str], at: usize) -> &'a str {
     match words.get(at) {
         Some(word) => word,
@@ -49,7 +49,7 @@ pub fn word<'a>(words: &[&'a str], at: usize) -> &'a str {
     }
 }
 
-/// The word at this place as a number, or 0.
+/// The word at this position as a number, or 0.
 pub fn number(words: &[&str], at: usize) -> u32 {
     word(words, at).parse().unwrap_or(0)
 }

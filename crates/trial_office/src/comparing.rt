@@ -213,7 +213,7 @@ pub(crate) fn compare_in_memory(alloc: Global, seed: u64, count: u32) -> Result<
 
 /// Goes on where `compare` left an office after this number of requests, with as many more: its tables may be
 /// those of an older version by now, and are upgraded first. Fails where an answer isn't that of the plain
-/// office that is brought to the same place. The connection again, and what came of the further requests.
+/// office that is brought to the same state. The connection again, and what came of the further requests.
 pub(crate) fn compare_on<S: Alter + Drop>(
     alloc: Global,
     conn: Connection<S>,

@@ -49,7 +49,7 @@ fn pack_sized(rt: &HostRuntime, size: u64, line: &str, reason: &str) -> Result<(
     packs_as(rt, "sizes/large", "sizes/large.bagset", line, reason)
 }
 
-/// Packs a file too long beside others. Its place is that in the order of paths, and it comes before
+/// Packs a file too long beside others. Its position is that in the order of paths, and it comes before
 /// names that clash.
 fn pack_beside_others(rt: &HostRuntime) -> Result<(), Fail> {
     fs::write(rt, "sizes/large/a0", b"")?;
@@ -118,7 +118,7 @@ fn pack_files(rt: &HostRuntime) -> Result<usize, Fail> {
     Ok(pack_here(rt, "many-files/many", "many-files/many.bagset")?.files)
 }
 
-/// Packs the files with one more of this number of bytes, whose place is the 2,001st in the order of paths.
+/// Packs the files with one more of this number of bytes, whose position is the 2,001st in the order of paths.
 fn pack_one_more(rt: &HostRuntime, size: u64, line: &str, reason: &str) -> Result<(), Fail> {
     make_sparse(rt, "many-files/many/a", size)?;
     packs_as(

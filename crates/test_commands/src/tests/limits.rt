@@ -34,7 +34,7 @@ fn first_length(rt: &HostRuntime, form: &[u8]) -> Result<usize, Fail> {
     Ok(form.len())
 }
 
-/// Changes the byte at that place, or changes it back.
+/// Changes the byte at that offset, or changes it back.
 fn change(form: &mut Vec<u8>, at: usize) {
     if let Some(byte) = form.get_mut(at) {
         *byte ^= 1;
@@ -47,7 +47,7 @@ fn is_refused(rt: &HostRuntime, form: &[u8]) -> Result<bool, AllocError> {
     Ok(outcome.ending == Ending::Refused && !outcome.text.starts_with("valid"))
 }
 
-/// Up to which place the form is refused where its byte there is changed: its length at most. Each byte is
+/// Up to which offset the form is refused where its byte there is changed: its length at most. Each byte is
 /// changed back.
 fn first_offset(rt: &HostRuntime, form: &mut Vec<u8>) -> Result<usize, AllocError> {
     for at in 0..form.len() {

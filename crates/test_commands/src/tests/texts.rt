@@ -190,7 +190,7 @@ static PAIRS: [(&str, &str, bool); 3] = [
     ("Payload-Oxum", "3.1", true),
 ];
 
-/// Whether the label and the value at this place are those of the row.
+/// Whether the label and the value at this position are those of the row.
 fn is_row(info: &BagInfo<'_>, at: usize, row: &(&str, &str, bool)) -> bool {
     match info.pairs.get(at) {
         Some((label, value)) => {

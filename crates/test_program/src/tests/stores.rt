@@ -16,10 +16,10 @@ struct Store {
     path: &'static str,
     /// Bytes of its own, if it has some.
     own: &'static [u8],
-    /// At each place that has the first of these comes the second, which is as long.
+    /// Wherever the first of these is, the second comes, which is as long.
     from: &'static [u8],
     to: &'static [u8],
-    /// The place of a byte of which one bit is turned, if there is one.
+    /// The offset of a byte of which one bit is turned, if there is one.
     turned: usize,
     /// Its length, where it is cut or zeros follow.
     length: Option<usize>,
@@ -245,7 +245,7 @@ static ALTERED: [Altered; 5] = [
     },
 ];
 
-/// The bytes with the second text in each place of the first, which is as long.
+/// The bytes with the second text wherever the first is, which is as long.
 fn replace_bytes(
     alloc: Global,
     bytes: &[u8],

@@ -2,9 +2,9 @@ use Rattle.office_history.proofs.Lemmas.{◌≡◌, ◌∙◌, ap, Some, Release
 use Rattle.office_history.proofs.laws.released_holds_are_not_live.Goals as goal
 
 pub returns-clause-listed : goal.returns-clause-listed
-returns-clause-listed c = λ h next k n place day deposit is after_it.
+returns-clause-listed c = λ h next k n at day deposit is after_it.
     let later : release_day next k ≡ Some day = ap (λ x. release_day x k) after_it.1 ∙ released_stays h after_it.0 k day is in
-    not_among_live next k place n day deposit later
+    not_among_live next k at n day deposit later
 
 pub returns-clause-refuses : goal.returns-clause-refuses
 returns-clause-refuses c = λ h next k n day later caller is after_it.
@@ -12,9 +12,9 @@ returns-clause-refuses c = λ h next k n day later caller is after_it.
     refuses_none next later day caller k n still
 
 pub returns-clause-told : goal.returns-clause-told
-returns-clause-told c = λ h next k n place day later caller given hold is after_it.
+returns-clause-told c = λ h next k n at day later caller given hold is after_it.
     let still : release_day next k ≡ Some day = ap (λ x. release_day x k) after_it.1 ∙ released_stays h after_it.0 k day is in
-    not_told next later day caller k n place given hold still
+    not_told next later day caller k n at given hold still
 
 pub returns-clause-answered : goal.returns-clause-answered
 returns-clause-answered c = λ h next k number day on caller e after_it.

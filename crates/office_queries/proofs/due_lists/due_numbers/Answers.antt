@@ -2,11 +2,11 @@ use Rattle.office_queries.proofs.Common.{◌≡◌, ap, ◌∙◌, rules, w32, w
 use Rattle.jiff.specs.Words.{epoch_day}
 use Rattle.office_queries.proofs.due_lists.due_numbers.Goals as goal
 
-pub returns-in_err-places-clause-inside : goal.returns-in_err-places-clause-inside
-returns-in_err-places-clause-inside g c = inside_failed c.in_ok-asker.ensures.inside c.due_rows.ensures.inside _ (search rules) (search rules)
+pub returns-in_err-rows-clause-inside : goal.returns-in_err-rows-clause-inside
+returns-in_err-rows-clause-inside g c = inside_failed c.in_ok-asker.ensures.inside c.due_rows.ensures.inside _ (search rules) (search rules)
 
 pub returns-clause-inside : goal.returns-clause-inside
-returns-clause-inside g c = then_in_turn (inside_then c.in_ok-asker.ensures.inside c.in_ok-places.ensures.inside) c.allowed_among.ensures.inside
+returns-clause-inside g c = then_in_turn (inside_then c.in_ok-asker.ensures.inside c.in_ok-rows.ensures.inside) c.allowed_among.ensures.inside
 
 pub returns-clause-reads : goal.returns-clause-reads
 returns-clause-reads g c clean office =
@@ -18,11 +18,11 @@ returns-clause-reads g c clean office =
     let asker = c.in_ok-asker.asker in
     let asked = c.in_ok-asker.ensures.reads clean1 office in
     let still = office_still asked.0 office in
-    let same = c.in_ok-places.ensures.same clean2 still ∙ asked.0 in
+    let same = c.in_ok-rows.ensures.same clean2 still ∙ asked.0 in
     let small : SFits w32 c.number.result = search rules in
     let fits : SFits w64 c.number.result = search rules in
-    let found : c.in_ok-places.places.items ≡ disposable_rows (epoch_day a.day) (tables_of s1.now) =
-    rw (to_z-of_z w32 c.number.result small, to_z-of_z w64 c.number.result fits, c.number.ensures.value) at (c.in_ok-places.ensures.found clean2 still) in
+    let found : c.in_ok-rows.rows.items ≡ disposable_rows (epoch_day a.day) (tables_of s1.now) =
+    rw (to_z-of_z w32 c.number.result small, to_z-of_z w64 c.number.result fits, c.number.ensures.value) at (c.in_ok-rows.ensures.found clean2 still) in
     let places_are = c.deref.ensures.value ∙ found ∙ ap (λ db. disposable_rows (epoch_day a.day) (tables_of db)) asked.0 in
     IfOk-weaker c.allowed_among.result _ _ (λ numbers says.
     let told = told_before same (λ t. things_told (disposable_told t (role_name asker) asker.day) c.deref.result.now ≡ Some numbers.items) says.1 in
