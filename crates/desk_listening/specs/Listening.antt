@@ -85,6 +85,6 @@ answers_of (served bytes item answer whole ∷ more) = answer ∷ answers_of mor
 answers_of (refused bytes refusal ∷ more) = answers_of more
 answers_of (lost ∷ more) = answers_of more
 
--- whichever legal history was kept, the answers of the office are those of a run from it, and the history that it leads to is kept
+-- whichever legal history the store held, the answers of the office are those of a run from it, and the store holds the history that it leads to
 abbrev pub IsRun : {S : Type 0} → Ghosts S → List Connection → Held S → Held S → Type 0
 IsRun g connections old new = HasCleanDisk (state g new) → Runs (state g old) (state g new) (items_of connections) (answers_of connections)

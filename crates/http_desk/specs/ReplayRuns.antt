@@ -22,8 +22,8 @@ pub data IsRunOf : List DeskRequest → List (List ℕ) → List Item → List A
   refused : (item : DeskRequest) (refusal : DeskRefusal) (items : List DeskRequest) (texts : List (List ℕ)) (run : List Item) (answers : List Answer)
       → Hears item.bytes (Err refusal) → IsRunOf items texts run answers → IsRunOf (item ∷ items) (refusal_text refusal ∷ texts) run answers
 
--- whichever legal history was kept, the texts are those of a run from it that asks what is heard of the records, and the history that it
--- leads to is kept
+-- whichever legal history the store held, the texts are those of a run from it that asks what is heard of the records, and the store holds
+-- the history that it leads to
 abbrev pub RunsEach : {S : Type 0} → Ghosts S → Held S → Held S → List DeskRequest → List (List ℕ) → Type 0
 RunsEach g old new items texts =
     HasCleanDisk (state g new) → (h : History) → IsLegal h → IsStoredBy h (state g old)

@@ -14,7 +14,7 @@ use Rattle.office_contents.specs.Tables.{IsOffice, contents_of, tables_of}
 use Rattle.office_history.specs.Bags.{bag_of}
 use Rattle.office_by_rows.specs.Answers.{files_by_path}
 
--- each content that is kept, and the number of the content of each file, in the order of the files
+-- each content that is stored, and the number of the content of each file, in the order of the files
 pub record Contents : Type 0 where
   pub rows : List ContentRow
   pub references : List ℤ

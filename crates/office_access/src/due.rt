@@ -46,7 +46,7 @@ pub fn least_hold<S: Alter>(
     Ok(Some(least))
 }
 
-/// What is kept of the deposit of that number beside its row.
+/// The due row of the deposit of that number.
 ///
 /// Fails with `Memory` or `Store`.
 pub fn stored_due_row<S: Alter>(
@@ -54,8 +54,8 @@ pub fn stored_due_row<S: Alter>(
     number: u32,
 ) -> Result<DueRow, TableFault>
     ensures inside { GoesOnInside S.Store tx.old.conn tx.new.conn result }
-    ensures reads { Shows S.Store tx.old.conn.now tx.new.conn.now result (λ tables kept.
-        Some kept ≡ due_numbered (pos number) tables.dues) }
+    ensures reads { Shows S.Store tx.old.conn.now tx.new.conn.now result (λ tables due_row.
+        Some due_row ≡ due_numbered (pos number) tables.dues) }
 {
     let found = due_row(tx, number)?;
     there(found)
@@ -115,12 +115,12 @@ pub fn disposal_facts<S: Alter>(
 {
     let days = days_in(row)?;
     let decision = asker.decision(tx, Action::Dispose, Some(&row.collection), Some(&row.class))?;
-    let kept = stored_due_row(tx, row.number)?;
-    let due = due_numbered(kept.due)?;
+    let due_row = stored_due_row(tx, row.number)?;
+    let due = due_numbered(due_row.due)?;
     let hold = counted_hold(
         alloc,
         tx,
-        kept.holds,
+        due_row.holds,
         row.number,
         &row.collection,
         &row.class,

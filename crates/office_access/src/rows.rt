@@ -72,7 +72,7 @@ pub fn optional_day_numbered(number: Option<i64>) -> Result<Option<Day>, TableFa
     }
 }
 
-/// The day from which a deposit may be destroyed, by the number that is kept of it; never where there is none.
+/// The day from which a deposit may be destroyed, by the number in its due row; never where there is none.
 pub fn due_numbered(number: Option<i64>) -> Result<Due, TableFault>
     ensures reads { result ≡ ok_or (due_of_number number) TableFault.Store }
     ensures store { IfErr result (λ fault. fault ≡ TableFault.Store) }

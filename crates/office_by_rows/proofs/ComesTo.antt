@@ -69,9 +69,9 @@ module _ (n : ℕ) (collection class : List ℕ) where
 -- ---- a disposal
 
 -- what is read one after another is what the facts come to
-pub facts_told : (t : Tables) (role : List ℕ) (day : Date) (n : ℕ) (row : DepositRow) (days : Days) (decision : Option Decision) (kept : DueRow) (due : Due) (hold : Option ℕ)
-    → days_of row ≡ Some days → decision_for t role day acts.Dispose (Some row.collection) (Some row.class) ≡ Some decision → due_numbered (pos n) t.dues ≡ Some kept → due_of_number kept.due ≡ Some due → counted_hold_in t kept.holds n row.collection row.class ≡ Some hold
+pub facts_told : (t : Tables) (role : List ℕ) (day : Date) (n : ℕ) (row : DepositRow) (days : Days) (decision : Option Decision) (due_row : DueRow) (due : Due) (hold : Option ℕ)
+    → days_of row ≡ Some days → decision_for t role day acts.Dispose (Some row.collection) (Some row.class) ≡ Some decision → due_numbered (pos n) t.dues ≡ Some due_row → due_of_number due_row.due ≡ Some due → counted_hold_in t due_row.holds n row.collection row.class ≡ Some hold
     → disposal_facts t role day n row ≡ Some (record { action = acts.Dispose; decision = decision; gone = days.gone; hold = hold; due = due })
-facts_told t role day n row days decision kept due hold days_are decided there due_is held =
-    (λ i. days_are i >>= λ days. decided i >>= λ decision. there i >>= λ (kept : DueRow). due_of_number kept.due >>= λ due. counted_hold_in t kept.holds n row.collection row.class >>= λ hold. Some (record { action = acts.Dispose; decision = decision; gone = days.gone; hold = hold; due = due }))
+facts_told t role day n row days decision due_row due hold days_are decided there due_is held =
+    (λ i. days_are i >>= λ days. decided i >>= λ decision. there i >>= λ (due_row : DueRow). due_of_number due_row.due >>= λ due. counted_hold_in t due_row.holds n row.collection row.class >>= λ hold. Some (record { action = acts.Dispose; decision = decision; gone = days.gone; hold = hold; due = due }))
     ∙ (λ i. due_is i >>= λ due. held i >>= λ hold. Some (record { action = acts.Dispose; decision = decision; gone = days.gone; hold = hold; due = due }))

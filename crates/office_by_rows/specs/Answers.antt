@@ -37,20 +37,20 @@ use Rattle.office_by_rows.specs.Refusals.{highest_deposit, highest_hold, number_
 abbrev pub has_names : DepositRow → Bool
 has_names row = is_accession row.accession && (is_name row.collection && is_name row.class)
 
--- what the row of a deposit says, with the due day that is kept beside it
+-- what the row of a deposit says, with its due row
 abbrev pub record_by : DepositRow → DueRow → Option DepositRecord
-record_by row kept = do
+record_by row due_row = do
   number ← count_of row.number
   days ← days_of row
   files ← count_up_to max_files row.files
   bytes ← count_up_to (max_files * max_content) row.bytes
-  due ← due_of_number kept.due
+  due ← due_of_number due_row.due
   if has_names row then Some (record { number = number; description = description_of row days.closed; deposited = days.deposited; files = files; bytes = bytes; due = due }) else None
 
 abbrev pub record_in : Tables → DepositRow → Option Answer
 record_in t row = do
-  kept ← due_numbered row.number t.dues
-  told ← record_by row kept
+  due_row ← due_numbered row.number t.dues
+  told ← record_by row due_row
   Some (answers.Record told)
 
 abbrev pub holds_in : Tables → ℕ → DepositRow → Option Answer
@@ -131,7 +131,7 @@ listed_records t visit wanted = do
   role ← role_in t visit.caller
   things_told (listed_record t role visit.day wanted) (beside t.deposits t.dues)
 
--- the number of the deposit that is there, where the rules allow that it is destroyed; what is kept of its due day is one, allowed or not
+-- the number of the deposit that is there, where the rules allow that it is destroyed; what its row has for a due day is one, allowed or not
 abbrev pub disposable_told : Tables → List ℕ → Date → DisposableRow → Option (Option ℕ)
 disposable_told t role day row = do
   due ← due_of_number row.due

@@ -78,8 +78,8 @@ if_bag (Err fault) next = None
 abbrev pub counted_on : ℕ → ℤ → Tables → Option Tables
 counted_on n by t = do
   limits ← limits_of t
-  kept ← due_numbered (pos n) t.dues
-  if is_between (pos 0) limits.max_holds kept.holds && is_between (pos 0) limits.max_holds (kept.holds +ℤ by) then Some (with_holds (pos n) (kept.holds +ℤ by) t) else None
+  due_row ← due_numbered (pos n) t.dues
+  if is_between (pos 0) limits.max_holds due_row.holds && is_between (pos 0) limits.max_holds (due_row.holds +ℤ by) then Some (with_holds (pos n) (due_row.holds +ℤ by) t) else None
 
 -- as many more live holds over each deposit that a hold on this reaches
 abbrev pub counted_over : Target → ℤ → Tables → Option Tables

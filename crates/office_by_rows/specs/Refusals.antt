@@ -103,9 +103,9 @@ abbrev pub disposal_facts : Tables → List ℕ → Date → ℕ → DepositRow 
 disposal_facts t role day n row = do
   days ← days_of row
   decision ← decision_for t role day acts.Dispose (Some row.collection) (Some row.class)
-  kept ← due_numbered (pos n) t.dues
-  due ← due_of_number kept.due
-  hold ← counted_hold_in t kept.holds n row.collection row.class
+  due_row ← due_numbered (pos n) t.dues
+  due ← due_of_number due_row.due
+  hold ← counted_hold_in t due_row.holds n row.collection row.class
   Some (record { action = acts.Dispose; decision = decision; gone = days.gone; hold = hold; due = due })
 
 -- E2, E3, E7 and E8, by these facts

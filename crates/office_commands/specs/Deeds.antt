@@ -27,7 +27,7 @@ pub data Deed : Type 0 where
 
 -- ---- over a store
 
--- On an honest disk whichever legal history was kept is kept with the policy. Where the install fails, the tables are as they were. What a crash
+-- On an honest disk the store holds whichever legal history it held, with the policy. Where the install fails, the tables are as they were. What a crash
 -- may leave is the office before or after it.
 abbrev pub IsDone : {S : Type 0} → Ghosts S → Deed → Held S → Held S → Type 0
 IsDone g (installs policy) old new =

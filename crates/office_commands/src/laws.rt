@@ -24,8 +24,8 @@ ghost use Rattle.office_stores.specs.Stores.{made_office};
 use sqlite::Alter;
 use sqlite_disk::Disk;
 
-/// What is done with an office over any store leads the history that is kept on to one that is kept: on an
-/// honest disk, whichever legal history it was.
+/// What is done with an office over any store leads the history that the store holds on to one that it holds
+/// then: on an honest disk, whichever legal history it was.
 pub fn deeds_lead_on<S: Alter>()
     ensures { (deeds : List Deed) (old new : Held S) → AreDone S.Store deeds old new
         → HasCleanDisk (state S.Store new) → (h : History) → IsLegal h

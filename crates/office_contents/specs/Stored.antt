@@ -77,6 +77,6 @@ hold_at gap row = record {
 abbrev pub hold_in : Row → HoldRow
 hold_in row = hold_at 1 row
 
--- the contents that are kept, ascending by number
+-- the contents that are stored, ascending by number
 abbrev pub contents_of : Database → List ContentRow
 contents_of db = map content_in (db.trees content_tree)

@@ -226,7 +226,7 @@ fn last_content<S: Alter>(tx: &mut Transaction<'_, S>) -> Result<i64>
 /// Adds a content at the end, and tells its number.
 fn new_content<S: Alter>(tx: &mut Transaction<'_, S>, mark: &[u8], bytes: &[u8]) -> Result<i64>
     ensures inside { GoesOnInside S.Store tx.old.conn tx.new.conn result }
-    ensures kept { Does S.Store tx.old.conn.now tx.new.conn.now result (λ old new id.
+    ensures stored { Does S.Store tx.old.conn.now tx.new.conn.now result (λ old new id.
         IsNewContent mark.now bytes.now id old new) }
 {
     add_content(tx, mark, bytes)?;
@@ -241,7 +241,7 @@ pub(crate) fn store_content<S: Alter>(
     bytes: &[u8],
 ) -> Result<i64>
     ensures inside { GoesOnInside S.Store tx.old.conn tx.new.conn result }
-    ensures kept { Does S.Store tx.old.conn.now tx.new.conn.now result
+    ensures stored { Does S.Store tx.old.conn.now tx.new.conn.now result
         (IsContentStored mark.now bytes.now) }
 {
     match content_alike(tx, mark, bytes)? {

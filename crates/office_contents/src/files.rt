@@ -59,7 +59,7 @@ fn add_file<S: Alter>(
     )
 }
 
-/// Keeps the content under that mark, and adds a file that has it.
+/// Stores the content under that mark, and adds a file that has it.
 fn put_stored<S: Alter>(
     tx: &mut Transaction<'_, S>,
     number: u32,
@@ -76,8 +76,8 @@ fn put_stored<S: Alter>(
     add_file(tx, number, path, id)
 }
 
-/// Adds a file to the deposit of that number. Its content is the first that is kept under that mark with
-/// these bytes; where there is none, it is kept at the end.
+/// Adds a file to the deposit of that number. Its content is the first that is stored under that mark with
+/// these bytes; where there is none, it is stored at the end.
 ///
 /// Fails with `Store` where the deposit has a file of that path, and with `Memory` or `Store`.
 pub fn put_marked<S: Alter>(
@@ -180,7 +180,7 @@ fn content_in<S: Alter>(
 }
 
 /// The content of the file of that deposit and path; `None` where there is no such file. Where it is
-/// checked, its SHA-256 is the mark under which it is kept.
+/// checked, its SHA-256 is the mark under which it is stored.
 fn content_of_file<S: Alter>(
     tx: &mut Transaction<'_, S>,
     number: u32,
@@ -225,7 +225,7 @@ pub fn file_of<S: Alter>(
     content_of_file(tx, number, path, false)
 }
 
-/// The content of the file of that deposit and path, where its SHA-256 is the mark under which it is kept;
+/// The content of the file of that deposit and path, where its SHA-256 is the mark under which it is stored;
 /// `None` where there is no such file.
 ///
 /// Fails with `Store` where the SHA-256 is another, and with `Memory` or `Store`.
@@ -398,7 +398,7 @@ pub fn files_of<S: Alter>(
 }
 
 /// The files of the deposit of that number, ascending by path, byte by byte, where the SHA-256 of each
-/// content is the mark under which it is kept.
+/// content is the mark under which it is stored.
 ///
 /// Fails with `Store` where the SHA-256 of one is another, and with `Memory` or `Store`.
 pub fn intact_files_of<S: Alter>(

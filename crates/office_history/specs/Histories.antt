@@ -1,5 +1,5 @@
 -- The history of an office: its limits, and the changes that it accepted, the oldest first. Whatever the office knows
--- is read off this list as a whole: no count, no due day and no cover is kept beside it.
+-- is read off this list as a whole: no count, no due day and no cover is stored beside it.
 use Rattle.std.specs.Prelude.{ℕ, ◌+◌, ◌==◌, ◌&&◌, Bool, false, List, [], ◌++◌, length, filter, Option, Some, None, is_some, is_none, option_map, unwrap_or, position, slice_get, bytes_eq, if◌then◌else◌}
 use Rattle.std.specs.List.{list_any, filter_map}
 use Rattle.std.specs.Option.{option_map_or}

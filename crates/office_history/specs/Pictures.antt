@@ -92,7 +92,7 @@ description_of row closed = record { collection = row.collection; class = row.cl
 abbrev pub deposit_row : History → ℕ → Date × Deposit → DepositRow
 deposit_row h n found = row_by_gone n (destruction_day h n) found
 
--- what is kept of a deposit: its due day, by the present years of its class, and how many live holds cover it
+-- the due row of a deposit: its due day, by the present years of its class, and how many live holds cover it
 abbrev pub due_row : History → ℕ → Date × Deposit → DueRow
 due_row h n found = record { number = pos n; due = due_number (due h found.1); holds = pos (length (live_holds h n found.1)) }
 
@@ -156,7 +156,7 @@ deposit_rows h = filter_map (row_of_deposit h) (numbers (length (deposits h)))
 abbrev pub row_of_due : History → ℕ → Option DueRow
 row_of_due h n = option_map (due_row h n) (deposit_numbered h n)
 
--- what is kept of each deposit, of destroyed ones too; a call `due_rows` on the tables shows those alone that may be destroyed
+-- the due row of each deposit, of destroyed ones too; a call `due_rows` on the tables shows those alone that may be destroyed
 abbrev pub due_rows : History → List DueRow
 due_rows h = filter_map (row_of_due h) (numbers (length (deposits h)))
 

@@ -65,7 +65,7 @@ pub record IsDepositRow (tables : Tables) (row : DepositRow) : Type 0 where
   pub bytes : IsBetween (pos 0) (pos (max_files * max_content)) row.bytes
   pub gone : IfSome row.gone IsDayNumber
 
--- what is kept of a deposit: a day from which it may be destroyed, or none, and no more live holds than the office takes
+-- a due row: a day from which the deposit may be destroyed, or none, and no more live holds than the office takes
 pub record IsDueRow (office : OfficeRow) (row : DueRow) : Type 0 where
   pub due : IfSome row.due IsDueNumber
   pub holds : IsBetween (pos 0) office.max_holds row.holds

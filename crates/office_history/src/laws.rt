@@ -227,7 +227,7 @@ pub fn audits_are_valid()
     bag_check::laws::judged_bags();
 }
 
-/// The contents that are kept are exactly those of the files of kept deposits, each once.
+/// The contents that are stored are exactly those of the files of kept deposits, each once.
 pub fn contents_are_stored_once()
     ensures exactly { (h : History) (content : List ℕ)
         → Contains (contents h) content ↔ IsKept h content }
@@ -351,7 +351,7 @@ pub fn revised_classes_move_due_days()
 {}
 
 /// A class that is given other years, and then the years that it had, leaves the due day of each
-/// deposit as it was, and so the row that is kept of it.
+/// deposit as it was, and so its due row.
 pub fn a_class_that_gets_its_old_years_back_has_its_old_due_days()
     ensures days { (h : History) (day later : Date) (name : List ℕ) (other years : Option ℕ)
         → years_of h name ≡ Some years → (deposit : Deposit)
@@ -365,7 +365,7 @@ pub fn a_class_that_gets_its_old_years_back_has_its_old_due_days()
 {}
 
 /// A hold that is placed, whatever it names, and then released leaves the live holds of each deposit
-/// as they were, and so the row that is kept of it, with their count.
+/// as they were, and so its due row, with their count.
 pub fn a_hold_and_its_release_leave_the_counts()
     ensures holds { (h : History) (day later : Date) (hold : Hold) (n : ℕ) (deposit : Deposit)
         → live_holds (with_changes h

@@ -1,4 +1,4 @@
--- What the row of a deposit, with what is kept beside it, comes to.
+-- What the row of a deposit, with its due row, comes to.
 use Rattle.office_queries.proofs.Common.{◌≡◌, ◌∙◌, ap, sym, refl, is_none, ℕ, Bool, true, false, Ok, Err, ok_or, answer_if, Option, Some, None, if◌then◌else◌, ◌>>=◌, DepositRecord, Due, DepositRow, description_of, TableFault, Memory, Store, has_names, Days}
 
 -- where something is told, memory ran out
@@ -21,10 +21,10 @@ not_held true answer fault e = absurd cc
 
 -- by its parts, in the order in which they are read
 abbrev pub record_of_parts : DepositRow → Option ℕ → Option Days → Option ℕ → Option ℕ → Option Due → Option DepositRecord
-record_of_parts row numbered dated filed sized kept = do
+record_of_parts row numbered dated filed sized falling = do
   number ← numbered
   days ← dated
   files ← filed
   bytes ← sized
-  due ← kept
+  due ← falling
   if has_names row then Some (record { number = number; description = description_of row days.closed; deposited = days.deposited; files = files; bytes = bytes; due = due }) else None

@@ -37,17 +37,17 @@ struct DepositFigures {
     due: Due,
 }
 
-/// What the row of a deposit tells beside its names, with what is kept beside it.
+/// What the row of a deposit tells beside its names, with its due row.
 ///
 /// Fails with `Store` where that is no record, whatever the names are.
-fn figures_in(row: &DepositRow, kept: &DueRow) -> Result<DepositFigures, TableFault>
-    ensures reads { record_by row.now kept.now ≡ record_if_told (result_ok result) row.now }
+fn figures_in(row: &DepositRow, due_row: &DueRow) -> Result<DepositFigures, TableFault>
+    ensures reads { record_by row.now due_row.now ≡ record_if_told (result_ok result) row.now }
     ensures store { IfErr result (λ fault. fault ≡ TableFault.Store) }
 {
     let days = days_in(row)?;
     let files = count_in(row.files, MAX_FILES)?;
     let bytes = count_in(row.bytes, MAX_BYTES)?;
-    let due = due_numbered(kept.due)?;
+    let due = due_numbered(due_row.due)?;
     Ok(DepositFigures {
         number: row.number,
         closed: days.closed,
@@ -97,21 +97,21 @@ fn owned_record(
     })
 }
 
-/// What the row of a deposit tells, with what is kept beside it. A row that tells no record is a fault of
+/// What the row of a deposit tells, with its due row. A row that tells no record is a fault of
 /// the store, and memory is wanted for a record alone.
 ///
 /// Fails with `Memory` or `Store`.
 pub fn record_in(
     alloc: Global,
     row: &DepositRow,
-    kept: &DueRow,
+    due_row: &DueRow,
 ) -> Result<DepositRecord, TableFault>
-    ensures reads { IfOk result (λ told. record_by row.now kept.now ≡ Some told) }
+    ensures reads { IfOk result (λ told. record_by row.now due_row.now ≡ Some told) }
     ensures failure { IfErr result (λ fault.
         fault
-        ≡ (if is_none (record_by row.now kept.now) then TableFault.Store else TableFault.Memory)) }
+        ≡ (if is_none (record_by row.now due_row.now) then TableFault.Store else TableFault.Memory)) }
 {
-    let figures = figures_in(row, kept)?;
+    let figures = figures_in(row, due_row)?;
     let description = description_in(row, figures.closed)?;
     owned_record(alloc, figures, description)
 }
@@ -130,8 +130,8 @@ fn stored_record<S: Alter>(
         deposit_numbered (pos number) (tables_of old).deposits ≡ Some row.now
         → IsReadFor (requests.Record number) old new given) }
 {
-    let kept = stored_due_row(tx, row.number)?;
-    Ok(Answer::Record(record_in(alloc, row, &kept)?))
+    let due_row = stored_due_row(tx, row.number)?;
+    Ok(Answer::Record(record_in(alloc, row, &due_row)?))
 }
 
 /// Answers the record of a deposit.

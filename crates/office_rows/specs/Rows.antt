@@ -58,7 +58,7 @@ pub record FileRow : Type 0 where
   pub path : List ℕ
   pub content : List ℕ
 
--- A content that is kept, under a number of its own.
+-- A content that is stored, under a number of its own.
 pub record ContentRow : Type 0 where
   pub id : ℤ
   -- what tells it apart at a glance
@@ -253,7 +253,7 @@ has_accession accession d = bytes_eq d.accession accession
 abbrev pub deposit_by : List ℕ → List DepositRow → Option DepositRow
 deposit_by accession = find (has_accession accession)
 
--- what is kept of the deposit of that number
+-- the due row of the deposit of that number
 abbrev pub new_due_row : ℤ → Option ℤ → ℤ → DueRow
 new_due_row n due holds = record { number = n; due = due; holds = holds }
 
@@ -269,7 +269,7 @@ with_deposit d = with_deposit_and_due d None (pos 0)
 abbrev pub with_gone : ℤ → ℤ → Tables → Tables
 with_gone n day t = record t { deposits = map (λ d. if is_deposit n d then record d { gone = Some day } else d) t.deposits }
 
--- ---- what is kept of deposits
+-- ---- the due rows of deposits
 
 abbrev pub is_due_of : ℤ → DueRow → Bool
 is_due_of n d = int_eq d.number n
@@ -292,7 +292,7 @@ with_dues first last due t = record t { dues = map (λ d. if is_due_between firs
 abbrev pub with_holds : ℤ → ℤ → Tables → Tables
 with_holds n holds t = record t { dues = map (λ d. if is_due_of n d then record d { holds = holds } else d) t.dues }
 
--- the rows of deposits, each beside what is kept of it
+-- the rows of deposits, each beside its due row
 abbrev pub beside : List DepositRow → List DueRow → List (DepositRow × DueRow)
 beside [] dues = []
 beside (d ∷ ds) [] = []

@@ -10,7 +10,7 @@ pub record DisposableRow : Type 0 where
   -- the number of the day from which it may be destroyed
   pub due : Option ℤ
 
--- of a deposit's row beside what is kept of it
+-- of a deposit's row beside its due row
 abbrev pub disposable_row : DepositRow × DueRow → DisposableRow
 disposable_row p = record { number = p.0.number; collection = p.0.collection; class = p.0.class; due = p.1.due }
 

@@ -27,11 +27,11 @@ use Rattle.office_stores.specs.declared.fault.CommandFault.{CommandFault}
 abbrev pub made_office : History
 made_office = new_history max_limit max_limit
 
--- whichever history was left so, by tables of any known version, is kept
+-- the store holds whichever history was left so, by tables of any known version
 abbrev pub GoesOnFrom : (TableVersion → History → Type 0) → State → Type 0
 GoesOnFrom Left s = (version : TableVersion) (h : History) → Left version h → IsStoredBy h s
 
--- An office is had over a connection: it is made there, where `is_new`, and then the database was empty; or it was there. On an honest disk it keeps then
+-- An office is had over a connection: it is made there, where `is_new`, and then the database was empty; or it was there. On an honest disk it holds then
 -- the new history, or whichever was left there.
 pub record IsOfficeOver {S : Type 0} (g : Ghosts S) (conn : Held S) (is_new : Bool) (office : Held S) : Type 0 where
   pub clean : HasCleanDisk (state g office) → HasCleanDisk (state g conn)

@@ -9,7 +9,7 @@ class_rows_text = codes "SELECT number, closed FROM deposit WHERE class = ?1 ORD
 abbrev pub class_rows_columns : List Term
 class_rows_columns = col 1 0 ∷ col 1 5 ∷ []
 
--- ---- what is kept of one deposit
+-- ---- the due row of one deposit
 
 abbrev pub due_of_text : List ℕ
 due_of_text = codes "SELECT number, due, holds FROM deposit WHERE number = ?1"
@@ -38,7 +38,7 @@ clear_dues_text = codes "UPDATE deposit SET due = NULL WHERE number BETWEEN ?1 A
 abbrev pub by_numbers : List Term
 by_numbers = op2 (Compare Ge Binary) (col 1 0) (col 0 0) ∷ op2 (Compare Le Binary) (col 1 0) (col 0 1) ∷ []
 
--- ---- every deposit with what is kept beside it
+-- ---- every deposit with its due row
 
 abbrev pub beside_text : List ℕ
 beside_text = codes "SELECT number, accession, collection, class, closed, deposited, files, bytes, gone, due, holds FROM deposit ORDER BY number"

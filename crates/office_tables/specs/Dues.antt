@@ -20,7 +20,7 @@ shown_disposable row = record { number = int_at row 0; collection = bytes_at row
 abbrev pub shown_closing : Row → ClosingRow
 shown_closing row = record { number = int_at row 0; closed = int_at row 1 }
 
--- what is kept of the deposits that pass
+-- the due rows of the deposits that pass
 abbrev pub dues_of : (DepositRow → Bool) → Tables → List DueRow
 dues_of those t = map (λ p. p.1) (filter (λ p. those p.0) (beside t.deposits t.dues))
 

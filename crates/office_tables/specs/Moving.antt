@@ -19,7 +19,7 @@ use Rattle.office_contents.specs.Versions.{IsOfficeAt, tables_at, first_day, las
 use Rattle.office_contents.specs.declared.version.TableVersion.{TableVersion}
 use Rattle.office_contents.specs.declared.version.TableVersion.TheVariants.{Third, Fourth, Fifth}
 
--- the rows of the tables, the contents that are kept, and the number of the content of each file
+-- the rows of the tables, the contents that are stored, and the number of the content of each file
 pub record AllRows : Type 0 where
   pub tables : Tables
   pub contents : List ContentRow

@@ -14,7 +14,7 @@ use sqlite::{Alter, Row, Transaction, params};
 use std::alloc::Global;
 use std::marker::Model;
 
-/// What is kept of a deposit beside its row.
+/// The due row of a deposit: when it falls due, and how many live holds cover it.
 #[derive(Debug, Drop)]
 pub struct DueRow {
     pub number: u32,
@@ -36,7 +36,7 @@ impl Model for DueRow {
     ghost view = { λ d. record { number = pos d.number; due = d.due; holds = d.holds } };
 }
 
-/// The row of a deposit, and what is kept beside it.
+/// The row of a deposit, and its due row.
 #[derive(Debug, Drop)]
 pub struct DepositAndDue {
     pub deposit: DepositRow,
@@ -92,7 +92,7 @@ impl Model for ClosingRow {
     ghost view = { λ d. record { number = pos d.number; closed = d.closed } };
 }
 
-/// The row that shows what is kept of the deposit of that number, if there is one.
+/// The row that shows the due row of the deposit of that number, if there is one.
 fn rows_of_due<S: Alter>(tx: &mut Transaction<'_, S>, number: u32) -> Result<Vec<Row>>
     ensures inside { GoesOnInside S.Store tx.old.conn tx.new.conn result }
     ensures found { Shows S.Store tx.old.conn.now tx.new.conn.now result (λ tables rows.
@@ -117,7 +117,7 @@ impl Shown for DueRow {
     }
 }
 
-/// What is kept of the deposit of that number; `None` where there is no such deposit.
+/// The due row of the deposit of that number; `None` where there is no such deposit.
 ///
 /// Fails with `Memory` or `Store`.
 pub fn due_row<S: Alter>(tx: &mut Transaction<'_, S>, number: u32) -> Result<Option<DueRow>>
@@ -130,7 +130,7 @@ pub fn due_row<S: Alter>(tx: &mut Transaction<'_, S>, number: u32) -> Result<Opt
     read_first(&rows)
 }
 
-/// The rows that show every deposit with what is kept beside it, by number.
+/// The rows that show every deposit with its due row, by number.
 fn rows_beside<S: Alter>(tx: &mut Transaction<'_, S>) -> Result<Vec<Row>>
     ensures inside { GoesOnInside S.Store tx.old.conn tx.new.conn result }
     ensures found { Shows S.Store tx.old.conn.now tx.new.conn.now result (λ tables rows.
@@ -158,7 +158,7 @@ impl Shown for DepositAndDue {
     }
 }
 
-/// The rows of all deposits, each with what is kept beside it, by number.
+/// The rows of all deposits, each with its due row, by number.
 ///
 /// Fails with `Memory` or `Store`.
 pub fn deposits_and_dues<S: Alter>(

@@ -54,13 +54,13 @@ IsRenewed old new = (version : TableVersion) (rows : AllRows) → IsOfficeOf ver
 abbrev pub HasUnknownVersion : Database → Type 0
 HasUnknownVersion db = (other : ℤ) × ((version : TableVersion) → other ≢ version_number version) × HasVersion db other
 
--- ---- what is kept, and what is found again
+-- ---- what is stored, and what is found again
 
 -- while the store is open it has an office of that version with these rows, and all of it is committed
 abbrev pub IsStoredAt : TableVersion → AllRows → State → Type 0
 IsStoredAt version rows s = IsTrue s.is_open → BecomesAt version s.now rows × (s.committed ≡ s.now)
 
--- whichever office of a known version was kept, it is kept with the newest tables
+-- whichever office of a known version was stored, it is stored with the newest tables
 abbrev pub Upgrades : State → State → Type 0
 Upgrades old new = (version : TableVersion) (rows : AllRows) → TellsNoOther version rows → IsStoredAt version rows old
     → IsStoredAt Newest (renewed version rows) new
@@ -70,7 +70,7 @@ abbrev pub TakesUp : State → State → Type 0
 TakesUp old new = (version : TableVersion) (rows : AllRows) → TellsNoOther version rows → IsLeftAt version rows old.now.trees
     → IsStoredAt Newest (renewed version rows) new
 
--- whichever was there, kept or left by a crash, a crash leaves it with the newest tables, and leaves nothing else
+-- whichever was there, stored or left by a crash, a crash leaves it with the newest tables, and leaves nothing else
 abbrev pub UpgradeLasts : State → State → Type 0
 UpgradeLasts old new = (version : TableVersion) (rows : AllRows) → TellsNoOther version rows → IsTrue old.is_open → IsLeftAt version rows old.now.trees
     → (left : Trees) → new.may_leave left → IsLeftAt Newest (renewed version rows) left
@@ -80,7 +80,7 @@ abbrev pub LeavesOffice : State → State → Type 0
 LeavesOffice old new = (version : TableVersion) (rows : AllRows) → TellsNoOther version rows → IsTrue old.is_open → IsLeftAt version rows old.now.trees
     → (left : Trees) → new.may_leave left → IsLeftAt version rows left ⊎ IsLeftAt Newest (renewed version rows) left
 
--- whichever office of an older version was there, kept or left by a crash, the store is open
+-- whichever office of an older version was there, stored or left by a crash, the store is open
 abbrev pub OpensOlder : State → State → Type 0
 OpensOlder old new = (version : TableVersion) (rows : AllRows) → version_number version ≢ version_number Newest → TellsVersion version rows → IsTrue old.is_open
     → IsLeftAt version rows old.now.trees → IsTrue new.is_open
@@ -89,10 +89,10 @@ OpensOlder old new = (version : TableVersion) (rows : AllRows) → version_numbe
 abbrev pub NewestSurvives : State → State → Type 0
 NewestSurvives old new = IsOffice old.now → version_of (tables_of old.now) ≡ Some this_version → Survives old new (λ _. ⊥)
 
--- whatever office was kept, it still is
+-- whatever office was stored, it still is
 abbrev pub HasSameOffice : State → State → Type 0
 HasSameOffice old new = (version : TableVersion) (rows : AllRows) → IsStoredAt version rows old → IsStoredAt version rows new
 
--- whatever office a crash may have left, it is kept by its own version
+-- whatever office a crash may have left, it is stored by its own version
 abbrev pub GoesBack : State → State → Type 0
 GoesBack old new = (version : TableVersion) (rows : AllRows) → IsLeftAt version rows old.now.trees → IsStoredAt version rows new

@@ -221,7 +221,7 @@ pub(crate) static FILES: [Part; 14] = [
 ];
 
 /// The years of the class of deposits 1 and 4 are none. A new deposit has its due day by them; a record,
-/// a disposal and the due list rest on the due day that is kept.
+/// a disposal and the due list rest on the due day that is stored.
 pub(crate) static CLASSES: [Part; 4] = [
     (
         "",
@@ -1076,7 +1076,7 @@ pub(crate) static BESIDE: [&[Part]; 6] = [
     ],
 ];
 
-/// What a look at the tables after a request finds: each of what is kept beside the rows, where it is
+/// What a look at the tables after a request finds: each of what is stored beside the rows, where it is
 /// another.
 pub(crate) static FOUND: [Part; 21] = [
     ("office", "1000000"),

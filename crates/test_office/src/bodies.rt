@@ -111,7 +111,7 @@ pub(crate) static BODIES: [&[Part]; 8] = [
         ),
         ("stock", "3 contents, 140 bytes"),
     ],
-    // Due lists follow holds, disposals and years, and rest on the due day that is kept: 20512 is 2026-02-28.
+    // Due lists follow holds, disposals and years, and rest on the due day that is stored: 20512 is 2026-02-28.
     &[
         ("office", "1000000"),
         (

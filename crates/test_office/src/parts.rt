@@ -18,12 +18,12 @@ use std::test::Fail;
 /// | `made` | SQL that makes an office of an older version in an empty database |
 /// | `upgraded` | none, where the tables are made those of this version, and looked at; else the code of the fault |
 /// | `policy` | the name of a policy, which is installed in the place of the one before (`policies.rt`) |
-/// | `asks` | rows, which are put to the office; after each what is kept beside the rows of the tables is compared with what the rows give |
+/// | `asks` | rows, which are put to the office; after each what is stored beside the rows of the tables is compared with what the rows give |
 /// | `asks altered` | the same without that: rows of the tables are altered |
 /// | `bodies` | rows that are put to the office one after the other; their answers are compared as bodies |
 /// | `bodies altered` | the same of an office over its tables: rows of these are altered |
 /// | `stock` | how much the office keeps |
-/// | `found` | what is kept beside the rows otherwise than they give, where rows of the tables are altered |
+/// | `found` | what is stored beside the rows otherwise than they give, where rows of the tables are altered |
 /// | `steps` | steps with the tables |
 /// | `alters` | SQL that alters rows of the office |
 /// | `refused` | the code of the fault where the database is not taken for an office |

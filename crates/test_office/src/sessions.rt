@@ -131,7 +131,7 @@ pub(crate) static DECIDING: [&[Part]; 12] = [
              class y1 1 > class y1 1\n\
              due > due on 2025-02-28: 2",
         ),
-        // It rests on the due day that is kept: 20512 is 2026-02-28.
+        // It rests on the due day that is stored: 20512 is 2026-02-28.
         ("alters", "UPDATE deposit SET due = 20512 WHERE number = 2"),
         (
             "asks altered",
@@ -425,7 +425,7 @@ pub(crate) static KEEPING: [&[Part]; 6] = [
     ],
 ];
 
-/// A content counts once, and while it is kept.
+/// A content counts once, and while it is stored.
 pub(crate) static CONTENTS: [&[Part]; 3] = [
     // Two bags have two of their files alike.
     &[

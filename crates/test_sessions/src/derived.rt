@@ -173,14 +173,14 @@ fn other_content(alloc: Global, contents: &[Row], files: &[Row]) -> Option<Strin
     Some(String::new(alloc))
 }
 
-/// What is kept of the deposits otherwise than their rows and those of the holds give, or no text.
+/// What is stored of the deposits otherwise than their rows and those of the holds give, or no text.
 fn deposits_derived_otherwise<S: Alter>(alloc: Global, conn: &mut Connection<S>) -> Option<String> {
     let deposits = conn.query_all(DEPOSITS, &[]).ok()?;
     let holds = conn.query_all(LIVE_HOLDS, &[]).ok()?;
     other_deposit(alloc, &deposits, &holds)
 }
 
-/// What is kept of the contents otherwise than the files of the kept deposits give, or no text.
+/// What is stored of the contents otherwise than the files of the kept deposits give, or no text.
 fn contents_derived_otherwise<S: Alter>(alloc: Global, conn: &mut Connection<S>) -> Option<String> {
     let contents = conn.query_all(CONTENTS, &[]).ok()?;
     let files = conn.query_all(FILES, &[]).ok()?;

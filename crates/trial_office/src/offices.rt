@@ -86,7 +86,7 @@ pub(crate) static END: [(&str, &str, Part); 5] = [
     ("an accession refused", "2030-01-02", Part::Taken),
 ];
 
-/// What is kept before the disposals: three contents, of 54, 3 and 73 bytes, which both deposits have.
+/// What is stored before the disposals: three contents, of 54, 3 and 73 bytes, which both deposits have.
 pub(crate) const KEPT: Stock = Stock {
     contents: 3,
     bytes: 130,

@@ -203,7 +203,7 @@ fn reads_contents<S: Alter>(
     Ok(contents(alloc, tx)?.len() == 3 && rule.is_some_and(|rule| rule.place == 1))
 }
 
-/// Whether what is kept beside the deposit does: its due day and the count of its holds.
+/// Whether what is stored beside the deposit does: its due day and the count of its holds.
 fn reads_kept<S: Alter>(alloc: Global, tx: &mut Transaction<'_, S>) -> Result<bool, TableFault> {
     Ok(
         due_row(tx, 1)?.is_some_and(|kept| kept.due == Some(740) && kept.holds == 3)

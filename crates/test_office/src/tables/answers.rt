@@ -80,7 +80,7 @@ fn answer_of_files_and_holds<S: Alter>(
     }
 }
 
-/// What a read answers of contents, or of what is kept beside a deposit.
+/// What a read answers of contents, or of what is stored beside a deposit.
 fn answer_of_kept<S: Alter>(
     alloc: Global,
     tx: &mut Transaction<'_, S>,

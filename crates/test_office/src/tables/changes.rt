@@ -63,7 +63,7 @@ fn mark_of(word: &str) -> [u8; 32] {
     }
 }
 
-/// Changes what is kept beside a deposit, or puts a file with a mark, or changes a hold.
+/// Changes what is stored beside a deposit, or puts a file with a mark, or changes a hold.
 fn change_kept<S: Alter>(tx: &mut Transaction<'_, S>, words: &[&str]) -> Result<(), TableFault> {
     let deposit = number(words, 1);
     match word(words, 0) {

@@ -12,20 +12,20 @@ pub returns-in_err-bytes-clause-reads : goal.returns-in_err-bytes-clause-reads
 returns-in_err-bytes-clause-reads c =
     let it = read (goal.at.returns-in_err-bytes-clause-reads c).In_ok-files in
     let none : count_up_to (max_files * max_content) c.args.row.now.bytes ≡ None = search rules in
-    let nothing : record_by c.args.row.now c.args.kept.now ≡ None = λ i. record_of_parts c.args.row.now (it.0 i) (it.1 i) (it.2 i) (none i) (due_of_number c.args.kept.now.due) in
+    let nothing : record_by c.args.row.now c.args.due_row.now ≡ None = λ i. record_of_parts c.args.row.now (it.0 i) (it.1 i) (it.2 i) (none i) (due_of_number c.args.due_row.now.due) in
     search (rules, nothing)
 
 pub returns-in_err-due-clause-reads : goal.returns-in_err-due-clause-reads
 returns-in_err-due-clause-reads c =
     let it = read (goal.at.returns-in_err-due-clause-reads c).In_ok-files in
     let bytes : count_up_to (max_files * max_content) c.args.row.now.bytes ≡ Some c.in_ok-bytes.bytes = search rules in
-    let none : due_of_number c.args.kept.now.due ≡ None = search rules in
-    let nothing : record_by c.args.row.now c.args.kept.now ≡ None = λ i. record_of_parts c.args.row.now (it.0 i) (it.1 i) (it.2 i) (bytes i) (none i) in
+    let none : due_of_number c.args.due_row.now.due ≡ None = search rules in
+    let nothing : record_by c.args.row.now c.args.due_row.now ≡ None = λ i. record_of_parts c.args.row.now (it.0 i) (it.1 i) (it.2 i) (bytes i) (none i) in
     search (rules, nothing)
 
 pub returns-clause-reads : goal.returns-clause-reads
 returns-clause-reads c =
     let it = read (goal.at.returns-clause-reads c).In_ok-files in
     let bytes : count_up_to (max_files * max_content) c.args.row.now.bytes ≡ Some c.in_ok-bytes.bytes = search rules in
-    let due : due_of_number c.args.kept.now.due ≡ Some c.in_ok-due.due = search rules in
+    let due : due_of_number c.args.due_row.now.due ≡ Some c.in_ok-due.due = search rules in
     λ i. record_of_parts c.args.row.now (it.0 i) (it.1 i) (it.2 i) (bytes i) (due i)

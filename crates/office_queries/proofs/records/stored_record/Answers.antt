@@ -8,10 +8,10 @@ returns-clause-reads g c clean office there =
     let row = c.args.row.now in
     let number : pos c.row.inside.number ≡ row.number = search rules in
     record {
-      same = (c.in_ok-kept.ensures.reads clean office).0;
+      same = (c.in_ok-due_row.ensures.reads clean office).0;
       answered = λ visit. ap (λ o. o >>= record_in t) there
-          ∙ ap (λ n. due_numbered n t.dues >>= λ kept. record_by row kept >>= λ told. Some (answers.Record told)) (sym number)
-          ∙ ap (λ o. o >>= λ kept. record_by row kept >>= λ told. Some (answers.Record told)) (sym (c.in_ok-kept.ensures.reads clean office).1)
+          ∙ ap (λ n. due_numbered n t.dues >>= λ due_row. record_by row due_row >>= λ told. Some (answers.Record told)) (sym number)
+          ∙ ap (λ o. o >>= λ due_row. record_by row due_row >>= λ told. Some (answers.Record told)) (sym (c.in_ok-due_row.ensures.reads clean office).1)
           ∙ ap (λ o. o >>= λ told. Some (answers.Record told)) c.in_ok-record_in.ensures.reads;
       intact = refl;
       leaves = λ k. refl;
