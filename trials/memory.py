@@ -495,9 +495,9 @@ def cases(group):
             ended, was_refused = run(library, number, words, given)
             if not was_refused:
                 break
-            lines = [it for it in ended.stdout.split(b"\n") if it and it != b"a database: want of memory"]
-            wants = sum(it.endswith(b": want of memory") for it in lines)
-            fits = all(it.endswith((b": as worked out", b": want of memory")) for it in lines)
+            lines = [it for it in ended.stdout.split(b"\n") if it and it != b"a database: lack of memory"]
+            wants = sum(it.endswith(b": lack of memory") for it in lines)
+            fits = all(it.endswith((b": as worked out", b": lack of memory")) for it in lines)
             if ended.returncode != 0 or not fits or len(lines) != count:
                 fail(
                     f"{group}, allocation {number}: it ended with {ended.returncode}, {ended.stdout!r} {ended.stderr!r}"

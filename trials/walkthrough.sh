@@ -84,7 +84,7 @@ except ProcessLookupError:
 
 
 
-def compare(command, wanted, found):
+def printed_as_wanted(command, wanted, found):
     """Ends the script where a command printed other lines; empty ones don't count."""
     said = [line.strip() for line in found.splitlines()]
     if [line for line in said if line] != [line for line in wanted if line]:
@@ -95,10 +95,10 @@ def compare(command, wanted, found):
 if len(printed) != len(commands):
     sys.exit(f"{len(commands)} commands are wanted, and the shell ended after {len(printed)}: {left}")
 for (command, wanted), found in zip(commands, printed):
-    compare(command, wanted, found)
+    printed_as_wanted(command, wanted, found)
 if left:
     sys.exit(f"a minute after the last command this went on: {left}")
 for said, command, wanted in served:
-    compare(command, wanted, Path(said).read_text(encoding="utf-8"))
+    printed_as_wanted(command, wanted, Path(said).read_text(encoding="utf-8"))
 print(f"walkthrough: {len(commands)} commands of README.md print what the page says")
 SCRIPT

@@ -123,7 +123,7 @@ plain_line (lines.Serve port count store day) plain =
       };
     }
 
--- words that ask for a line are refused for want of memory alone
+-- words that ask for a line are refused for lack of memory alone
 memory_alone : (words : List Text) (read : Result Line UseFault) (line : Line) → Asks words line → IfErr read (λ fault. (fault ≡ Memory) ⊎ AskNothing words)
     → IfErr read (λ fault. fault ≡ Memory)
 memory_alone words (Ok l) line asks refused = tt

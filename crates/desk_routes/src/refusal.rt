@@ -9,7 +9,7 @@ pub enum DeskRefusal {
     TooLarge,
     /// The input ends before the head or the body does.
     Truncated,
-    /// The head is none of HTTP, or has too many fields.
+    /// The head isn't an HTTP head, or has too many fields.
     BadHead,
     /// The head has a `Transfer-Encoding`.
     Chunked,

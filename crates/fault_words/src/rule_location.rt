@@ -70,7 +70,7 @@ fn unknown_rule_key(with_days: bool, rule: &Table) -> Option<&str>
     None
 }
 
-/// The key of a day that is none, or of a first day after the last.
+/// The key of a value that isn't a day, or of a first day after the last.
 fn bad_day_key(rule: &Table) -> Option<&'static str>
     ensures { option_copied result ≡ bad_day_key (table_view rule.now) }
 {

@@ -100,7 +100,7 @@ pub fn put_marked<S: Alter>(
     ensures used { Does S.Store tx.old.conn.now tx.new.conn.now result (λ old new _.
         AreUsed (references_of old) (contents_of old)
         → AreUsed (references_of new) (contents_of new)) }
-    ensures stands { Does S.Store tx.old.conn.now tx.new.conn.now result (λ old new _.
+    ensures differ { Does S.Store tx.old.conn.now tx.new.conn.now result (λ old new _.
         AllByRecursion (λ c. c.bytes ≡ content.now → c.mark ≡ mark.now) (contents_of old)
         → StandOnce (contents_of old) → StandOnce (contents_of new)) }
 {

@@ -20,7 +20,7 @@ pub enum PolicyFault {
     /// Y4: `callers` is no table, or a caller or a role is no name.
     BadCaller,
     /// Y5: that rule, counted from 1, is malformed: a key is missing, or one that it may not have, or a
-    /// value is none that the key takes, or its first day comes after its last; 0 where `rule` is no array.
+    /// key has a wrong value, or its first day comes after its last; 0 where `rule` is no array.
     BadRule(usize),
     /// Y6: more than 200 rules, or more than 1,000 callers.
     TooMany,

@@ -31,7 +31,7 @@ impl Model for Years {
 }
 
 impl Years {
-    /// For good.
+    /// Permanently.
     pub fn permanent() -> Years
         ensures { result ≡ None }
     {

@@ -5,7 +5,7 @@ use Rattle.bag_text.proofs.ListLemmas.{list_bag_law, list_fault_law}
 use Rattle.office_core.specs.declared.answer.Answer.TheVariants as answers
 
 module _ (files : List File) where
-  -- want of memory is not answered for files that are no bag: they are refused with a fault of theirs
+  -- lack of memory is not answered for files that are no bag: they are refused with a fault of theirs
   pub wants_memory : {T : Type 0} (result : Result T SetFault) → ((why : SetFault) → ListFault files why → result ≡ Err why) → result ≡ Err faults.Memory → (IsBag files → ⊥) → ⊥
   wants_memory result refused is never = by (list_fault files) refl
     where

@@ -13,7 +13,7 @@ struct Case {
     input: &'static [u8],
     /// The number of the records that are answered.
     records: u64,
-    /// Whether one that is none follows them.
+    /// Whether bytes that aren't a record follow them.
     is_torn: bool,
     answers: &'static [u8],
 }

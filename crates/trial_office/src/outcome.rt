@@ -52,7 +52,7 @@ impl Outcome {
     pub(crate) fn words(self) -> &'static str {
         match self {
             Outcome::Expected => "as worked out",
-            Outcome::Memory => "want of memory",
+            Outcome::Memory => "lack of memory",
             Outcome::Wrong => "WRONG",
         }
     }
