@@ -23,17 +23,17 @@ use std::alloc::Global;
 fn allowed_number<'a, S: Alter>(
     tx: &mut Transaction<'_, S>,
     allowances: &mut Allowances<'a>,
-    place: &'a DisposableRow,
+    row: &'a DisposableRow,
 ) -> Result<Option<u32>, TableFault>
     ensures inside { GoesOnInTurn S.Store tx.old.conn tx.new.conn result }
     ensures reads { Shows S.Store tx.old.conn.now tx.new.conn.now result (λ tables number.
         (role : List ℕ) (day : Date) → AreFor tables role day acts.Dispose allowances.old
         → AreFor tables role day acts.Dispose allowances.new
-        × (disposable_told tables role day place.now ≡ Some number)) }
+        × (disposable_told tables role day row.now ≡ Some number)) }
 {
-    due_numbered(place.due)?;
-    let allowed = allowances.allows(tx, &place.collection, &place.class)?;
-    Ok(allowed.then_some(place.number))
+    due_numbered(row.due)?;
+    let allowed = allowances.allows(tx, &row.collection, &row.class)?;
+    Ok(allowed.then_some(row.number))
 }
 
 /// The numbers of those that the rules let the asker destroy.

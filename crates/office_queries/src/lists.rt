@@ -80,7 +80,7 @@ fn shown_record<'a, S: Alter>(
         ≡ Some told)) }
 {
     if is_shown(tx, allowances, collection, class, &row.deposit)? {
-        Ok(Some(record_in(alloc, &row.deposit, &row.kept)?))
+        Ok(Some(record_in(alloc, &row.deposit, &row.due_row)?))
     } else {
         Ok(None)
     }

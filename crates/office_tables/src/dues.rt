@@ -40,7 +40,7 @@ impl Model for DueRow {
 #[derive(Debug, Drop)]
 pub struct DepositAndDue {
     pub deposit: DepositRow,
-    pub kept: DueRow,
+    pub due_row: DueRow,
 }
 
 impl Model for DepositAndDue {
@@ -48,7 +48,7 @@ impl Model for DepositAndDue {
 
     ghost Value = { Deposit × Due };
 
-    ghost view = { λ d. (d.deposit, d.kept) };
+    ghost view = { λ d. (d.deposit, d.due_row) };
 }
 
 /// The collection and the class of a deposit, and when it falls due.
@@ -149,7 +149,7 @@ impl Shown for DepositAndDue {
     fn read(row: &Row) -> Result<DepositAndDue> {
         Ok(DepositAndDue {
             deposit: DepositRow::read(row)?,
-            kept: DueRow {
+            due_row: DueRow {
                 number: row.get(0)?,
                 due: row.get(9)?,
                 holds: row.get(10)?,
