@@ -17,7 +17,7 @@ them. `cc` compiles a small library whose `malloc`, `calloc` and `realloc` come 
   or the upgraded ones, and the next command with all memory upgrades it.
 - `serve`: `depot serve` over a file, with four connections, of which at most one gets no answer. Standard error has the
   lines of those that were answered 503, of the first of their kind that succeeds again, and of the end. Or the program
-  ends with `memory`, whose line follows them.
+  ends with `memory`, whose line follows them; then no connection after the first without an answer gets one.
 - `hear`: `trial_office hear`, with a deposit that `read_request` reads: all of its bag, or nothing.
 - `bags`, `office`, `tables`, `stored`: the cases of `crates/trial_office`, each with the result that was worked out, or
   with lack of memory.
@@ -345,7 +345,10 @@ def is_served_so(status, said, kinds, answered):
     lines, told = lines_of(kinds, answered), said.splitlines()
     end = f"depot: serving ended after the connections that were asked for: {len(kinds)}"
     rest = told[len(lines):]
-    if told[:len(lines)] != lines or answered.count(b"") > 1:
+    lost = [at for at, answer in enumerate(answered) if not answer]
+    # Once the serving has failed, the system still takes connections until the process has ended.
+    are_last = status == 3 and lost == list(range(len(answered)))[-len(lost):]
+    if told[:len(lines)] != lines or len(lost) > 1 and not are_last:
         return False
     if status == 0:
         return len(answered) == len(kinds) and rest == [end]
