@@ -17,7 +17,8 @@ them. `cc` compiles a small library whose `malloc`, `calloc` and `realloc` come 
   or the upgraded ones, and the next command with all memory upgrades it.
 - `serve`: `depot serve` over a file, with four connections, of which at most one gets no answer. Standard error has the
   lines of those that were answered 503, of the first of their kind that succeeds again, and of the end. Or the program
-  ends with `memory`, whose line follows them; then no connection after the first without an answer gets one.
+  ends with `memory`, whose line follows them. Connections that the system still takes then get no answer either. What
+  was answered is stored, and no change is that came after the first connection without an answer, or was refused.
 - `hear`: `trial_office hear`, with a deposit that `read_request` reads: all of its bag, or nothing.
 - `bags`, `office`, `tables`, `stored`: the cases of `crates/trial_office`, each with the result that was worked out, or
   with lack of memory.
@@ -25,9 +26,11 @@ them. `cc` compiles a small library whose `malloc`, `calloc` and `realloc` come 
 Arguments: groups, by default all; `GROUP FIRST LAST` refuses the allocations from the first to the last alone. DEPOT
 and TRIAL_OFFICE name other programs than the built ones in `crates/depot/out` and `crates/trial_office/out`.
 """
+import contextlib
 import os
 import pathlib
 import shutil
+import sqlite3
 import subprocess
 import sys
 import tempfile
@@ -355,6 +358,19 @@ def is_served_so(status, said, kinds, answered):
     return status == 3 and [it for it in rest if it != end][:1] in (["memory"], ["device"], ["store Q4"])
 
 
+def is_stored_so(store, names, answered):
+    """Whether these collections, or none where the request defines none, are stored as they were answered. The first
+    connection without an answer may have been served."""
+    with contextlib.closing(sqlite3.connect(store)) as connection:
+        stored = {name for name, in connection.execute("SELECT name FROM collection")}
+    first_lost = answered.index(b"") if b"" in answered else len(answered)
+    return all(
+        (name in stored) == answer.startswith(b"HTTP/1.1 200 ")
+        for at, (name, answer) in enumerate(zip(names, answered))
+        if name and at != first_lost
+    )
+
+
 def serve(library, first, last):
     """Connections that change something and that read, in turn."""
     kinds = ["change", "reading"] * 2
@@ -368,10 +384,11 @@ def serve(library, first, last):
         for number in [0, *range(first, last + 1)]:
             shutil.copytree(kept, used)
             (status, said), answered, was_refused = served(library, number, used / "office.db", texts)
+            is_stored = is_stored_so(used / "office.db", ["a", None, "b", None], answered)
             shutil.rmtree(used)
             if number and not was_refused:
                 break
-            if not is_served_so(status, said, kinds, answered) or not (number or status == 0):
+            if not is_stored or not is_served_so(status, said, kinds, answered) or not (number or status == 0):
                 fail(f"serve, allocation {number}: it ended with {status}, {answered!r}, {said!r}")
             refused += was_refused
             told += any(map(is_wanting, answered))
